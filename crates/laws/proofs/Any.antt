@@ -1,0 +1,106 @@
+-- Tests that hold somewhere: in a list of conditions (`any-..`), of two (`or-..`), of one of an index (`below-..`).
+-- Assumes nothing.
+use Prim.Native.Nat.{ℕ, zero, suc, _<_}
+use mathlib.Core.Path.{_≡_, refl, sym, ap, _∙_}
+use mathlib.Core.Bool.{Bool, true, false, cond, _||_}
+use mathlib.Core.List.{List, [], _∷_}
+use mathlib.Core.Logic.{_⊎_, inl, inr}
+use native.Mathlib.Omega.{arith}
+use native.Mathlib.Nat.{eq-or-lt-of-le, le-of-suc-le-suc}
+use Rattle.laws.specs.Refusal.{anyOf}
+use Rattle.laws.specs.Lists.{anyBelow}
+
+pub any-head : (b : Bool) (rest : List Bool) → anyOf (b ∷ rest) ≡ false → b ≡ false
+unfolding anyOf
+any-head true rest e = e
+any-head false rest e = refl
+
+pub any-rest : (b : Bool) (rest : List Bool) → anyOf (b ∷ rest) ≡ false → anyOf rest ≡ false
+unfolding anyOf
+any-rest true rest e = absurd (let z : _≡_ {A = ℕ} 0 1 = cc in omega arith)
+any-rest false rest e = e
+
+pub any-none : anyOf [] ≡ false
+unfolding anyOf
+any-none = refl
+
+pub any-not : (b : Bool) (rest : List Bool) → b ≡ false → anyOf rest ≡ false → anyOf (b ∷ rest) ≡ false
+unfolding anyOf
+any-not b rest e r = rw e r
+
+pub any-here : (b : Bool) (rest : List Bool) → b ≡ true → anyOf (b ∷ rest) ≡ true
+unfolding anyOf
+any-here b rest e = rw e
+
+pub any-skip : (b : Bool) (rest : List Bool) → b ≡ false → anyOf (b ∷ rest) ≡ anyOf rest
+unfolding anyOf
+any-skip b rest e = rw e
+
+pub any-last : (b : Bool) → anyOf (b ∷ []) ≡ b
+unfolding anyOf
+any-last true = refl
+any-last false = refl
+
+pub or-here : (a b : Bool) → a ≡ true → (a || b) ≡ true
+or-here a b e = rw e
+
+pub or-there : (a b : Bool) → b ≡ true → (a || b) ≡ true
+or-there true b e = refl
+or-there false b e = e
+
+pub or-none : (a b : Bool) → a ≡ false → b ≡ false → (a || b) ≡ false
+or-none a b e f = rw e f
+
+pub or-left : (a b : Bool) → (a || b) ≡ false → a ≡ false
+or-left true b e = e
+or-left false b e = refl
+
+-- a test that holds somewhere
+module _ (p : ℕ → Bool) where
+  pub below-none : (n : ℕ) → ((j : ℕ) → j < n → p j ≡ false) → anyBelow n p ≡ false
+  unfolding anyBelow
+  below-none zero h = refl
+  below-none (suc n) h = rw (h n (omega arith)) (below-none n (λ j l. h j (omega arith)))
+
+  pub below-at : (n j : ℕ) → j < n → p j ≡ true → anyBelow n p ≡ true
+  unfolding anyBelow
+  below-at zero j l e = absurd (omega arith)
+  below-at (suc n) j l e = go (p n) refl (eq-or-lt-of-le (le-of-suc-le-suc l)) (λ k. below-at n j k e)
+    where
+      go : (t : Bool) → p n ≡ t → (j ≡ n) ⊎ (j < n) → (j < n → anyBelow n p ≡ true) → cond t true (anyBelow n p) ≡ true
+      go true q d later = refl
+      go false q (inl s) later = let no : true ≡ false = sym e ∙ ap p s ∙ q in cc
+      go false q (inr k) later = later k
+
+  pub below-only : (n j : ℕ) → j < n → ((i : ℕ) → i < n → (i ≡ j → ⊥) → p i ≡ false) → anyBelow n p ≡ p j
+  unfolding anyBelow
+  below-only zero j l h = absurd (omega arith)
+  below-only (suc n) j l h = go (eq-or-lt-of-le (le-of-suc-le-suc l)) (λ k. below-only n j k (λ i m. h i (omega arith)))
+    where
+      same : (t : Bool) → cond t true false ≡ t
+      same true = refl
+      same false = refl
+
+      go : (j ≡ n) ⊎ (j < n) → (j < n → anyBelow n p ≡ p j) → cond (p n) true (anyBelow n p) ≡ p j
+      go (inl e) later = rw (below-none n (λ i m. h i (omega arith) (λ s. omega arith)), ← e) (same (p j))
+      go (inr k) later = rw (h n (omega arith) (λ s. omega arith)) (later k)
+
+  -- where it holds nowhere, and where it holds
+  pub below-false : (n : ℕ) → anyBelow n p ≡ false → (k : ℕ) → k < n → p k ≡ false
+  unfolding anyBelow
+  below-false zero e k h = absurd (omega arith)
+  below-false (suc n) e k h = go (p n) refl (below-false n) (eq-or-lt-of-le (le-of-suc-le-suc h)) e
+    where
+      go : (t : Bool) → p n ≡ t → (anyBelow n p ≡ false → (l : ℕ) → l < n → p l ≡ false) → (k ≡ n) ⊎ (k < n) → cond t true (anyBelow n p) ≡ false → p k ≡ false
+      go true q ih d e = cc
+      go false q ih (inl d) e = ap p d ∙ q
+      go false q ih (inr d) e = ih e k d
+
+  pub below-true : (n : ℕ) → anyBelow n p ≡ true → (k : ℕ) × (k < n) × (p k ≡ true)
+  unfolding anyBelow
+  below-true zero e = let no : _≡_ {A = ℕ} 0 1 = cc in absurd (omega arith)
+  below-true (suc n) e = go (p n) refl e (below-true n)
+    where
+      go : (t : Bool) → p n ≡ t → cond t true (anyBelow n p) ≡ true → (anyBelow n p ≡ true → (k : ℕ) × (k < n) × (p k ≡ true)) → (k : ℕ) × (k < suc n) × (p k ≡ true)
+      go true q e ih = (n, omega arith, q)
+      go false q e ih = let (k, h, r) = ih e in (k, omega arith, r)

@@ -1,0 +1,5 @@
+pub mod Turns
+pub mod Rows
+pub mod Lists
+pub mod Sum
+pub mod Refusal

@@ -1,0 +1,1 @@
+// Definitions (specs/) and lemmas (proofs/) that more than one crate cites. No code.

@@ -1,0 +1,277 @@
+-- What the checks show: the mirror search, and that nothing is refused exactly where the table is as it should be.
+use Prim.Native.Nat.{ℕ, zero, suc, _+_, _-_, _*_, _^_, _<_, _≤_, min}
+use mathlib.Core.Path.{_≡_, refl, sym, ap, _∙_}
+use mathlib.Core.Bool.{Bool, true, false, cond, not, _||_, _&&_}
+use mathlib.Core.Logic.{_⊎_, inl, inr}
+use native.Mathlib.Omega.{arith}
+use native.Mathlib.Numerals.{add-one}
+use native.Mathlib.Nat.{eq-or-lt-of-le, le-of-suc-le-suc}
+use native.Mathlib.Decide.{ℕ-discrete, decLt}
+use borrow.Author.Tests.{eq-eqb, ne-eqb, eqb-true, eqb-false, ltb-true, ltb-false, leb-false, lt-ltb, le-ltb, lt-leb, not-false}
+use lib.Dec.{eqb, ltb}
+use lib.IntN.{ℤ, pos, negsuc, natAbs}
+use lib.Signed.{mag}
+use mir.Syntax.{w64}
+use mir.Val.{ofZ}
+use Rattle.laws.specs.Sum.{total}
+use Rattle.laws.specs.Lists.{anyBelow}
+use Rattle.laws.specs.Refusal.{_if_, orElse, firstOf}
+use Rattle.laws.proofs.Refusal.{both, neither, clear, unrefused, each, none-of}
+use Rattle.laws.proofs.Any.{below-none, below-only, below-true, below-at}
+use Rattle.tables.specs.Table.{Table, InRange, Before, Rising, Mirrored, magnitudeOf}
+use Rattle.tables.specs.Check.{sizeRefusal, before, entryRefusal, orderRefusal, placeOf, Placed, eqZ, isMirror, mirrorRefusal, magnitudeRefusal, costsMagnitude, hallRefusal, tableRefusal, Hall, Accepted}
+use Rattle.tables.proofs.Mirrors.{rises}
+
+unequal : false ≡ true → ⊥
+unequal e = let z : _≡_ {A = ℕ} 0 1 = cc in omega arith
+
+-- ---- values
+
+pub eqZ-true : (a b : ℤ) → eqZ a b ≡ true → a ≡ b
+eqZ-true (pos a) (pos b) e = ap pos (eqb-true a b e)
+eqZ-true (pos a) (negsuc b) e = cc
+eqZ-true (negsuc a) (pos b) e = cc
+eqZ-true (negsuc a) (negsuc b) e = ap negsuc (eqb-true a b e)
+
+pub eqZ-refl : (a : ℤ) → eqZ a a ≡ true
+eqZ-refl (pos a) = eq-eqb a a refl
+eqZ-refl (negsuc a) = eq-eqb a a refl
+
+-- equal bits are equal numbers
+pub eq-bits : (a b : ℤ) → mag a < 2 ^ 63 → mag b < 2 ^ 63 → eqb (ofZ w64 a) (ofZ w64 b) ≡ eqZ a b
+eq-bits (pos a) (pos b) f g = refl
+eq-bits (pos a) (negsuc b) f g =
+    let h : a < 2 ^ 63 = f in let k : b < 2 ^ 63 = g in ne-eqb a (2 ^ 64 - suc b) (λ e. omega arith)
+eq-bits (negsuc a) (pos b) f g =
+    let h : a < 2 ^ 63 = f in let k : b < 2 ^ 63 = g in ne-eqb (2 ^ 64 - suc a) b (λ e. omega arith)
+eq-bits (negsuc a) (negsuc b) f g = go (eqb a b) refl
+  where
+    go : (t : Bool) → eqb a b ≡ t → eqb (2 ^ 64 - suc a) (2 ^ 64 - suc b) ≡ t
+    go true e = let same : a ≡ b = eqb-true a b e in eq-eqb (2 ^ 64 - suc a) (2 ^ 64 - suc b) (omega arith)
+    go false e =
+        let h : a < 2 ^ 63 = f in let k : b < 2 ^ 63 = g in
+        ne-eqb (2 ^ 64 - suc a) (2 ^ 64 - suc b) (λ same. eqb-false a b e (omega arith))
+
+-- ---- places that rise, and what halving finds
+
+module _ (p : ℕ → ℕ) (count key : ℕ) (rising : (i j : ℕ) → i < j → j < count → p i < p j) where
+  at-most : (i j : ℕ) → i ≤ j → j < count → p i ≤ p j
+  at-most i j h l = go (eq-or-lt-of-le h)
+    where
+      go : (i ≡ j) ⊎ (i < j) → p i ≤ p j
+      go (inl e) = rw e (omega arith)
+      go (inr k) = omega (arith, rising i j k l)
+
+  pub lower : (mid : ℕ) → mid < count → p mid < key → (j : ℕ) → j < mid + 1 → p j < key
+  lower mid l h j k = omega (arith, at-most j mid (omega arith) l)
+
+  pub upper : (mid : ℕ) → key ≤ p mid → (j : ℕ) → mid ≤ j → j < count → key ≤ p j
+  upper mid h j k l = omega (arith, at-most mid j k l)
+
+module _ (t : Table) (k j : ℕ) where
+  pub mirror-off : (placeOf (t .row) (t .column) j ≡ placeOf (t .column) (t .row) k → ⊥) → isMirror t k j ≡ false
+  mirror-off h = go (eqb (t .row j) (t .column k)) (eqb (t .column j) (t .row k)) refl refl
+    where
+      go : (a b : Bool) → eqb (t .row j) (t .column k) ≡ a → eqb (t .column j) (t .row k) ≡ b → ((a && b) && eqZ (t .value j) (t .value k)) ≡ false
+      go true true x y = let row : t .row j ≡ t .column k = eqb-true _ _ x in let column : t .column j ≡ t .row k = eqb-true _ _ y in absurd (h (omega arith))
+      go true false x y = refl
+      go false b x y = refl
+
+  pub mirror-on : placeOf (t .row) (t .column) j ≡ placeOf (t .column) (t .row) k → t .column j < 65536 → t .row k < 65536 → isMirror t k j ≡ eqZ (t .value j) (t .value k)
+  mirror-on e low high = simp (eq-eqb (t .row j) (t .column k) (omega arith), eq-eqb (t .column j) (t .row k) (omega arith))
+
+-- what halving says of entry k's mirror: j is where its place is, or would be
+module _ (t : Table) (k j key : ℕ) (placed : Placed (t .row) (t .column) (t .count)) (this : key ≡ placeOf (t .column) (t .row) k)
+    (below : (i : ℕ) → i < j → placeOf (t .row) (t .column) i < key) (above : (i : ℕ) → j ≤ i → i < t .count → key ≤ placeOf (t .row) (t .column) i) where
+  off : (i : ℕ) → i < t .count → (placeOf (t .row) (t .column) i ≡ key → ⊥) → isMirror t k i ≡ false
+  off i l h = mirror-off t k i (λ e. h (e ∙ sym this))
+
+  elsewhere : j < t .count → (i : ℕ) → i < t .count → (i ≡ j → ⊥) → placeOf (t .row) (t .column) i ≡ key → ⊥
+  elsewhere m i l other e = go (decLt i j)
+    where
+      go : Dec (i < j) → ⊥
+      go (yes h) = omega (arith, below i h)
+      go (no h) = omega (arith, above j (omega arith) m, placed .climbs j i (omega arith) l)
+
+  pub absent : t .count ≤ j → false ≡ anyBelow (t .count) (isMirror t k)
+  absent h = sym (below-none _ (t .count) (λ i l. off i l (λ e. omega (arith, below i (omega arith)))))
+
+  pub unmatched : j < t .count → (placeOf (t .row) (t .column) j ≡ key → ⊥) → false ≡ anyBelow (t .count) (isMirror t k)
+  unmatched m h = sym (below-none _ (t .count) (λ i l. off i l (λ e. case i l e (ℕ-discrete i j))))
+    where
+      case : (i : ℕ) → i < t .count → placeOf (t .row) (t .column) i ≡ key → Dec (i ≡ j) → ⊥
+      case i l e (yes same) = h (rw (← same) e)
+      case i l e (no other) = elsewhere m i l other e
+
+  pub matched : k < t .count → j < t .count → placeOf (t .row) (t .column) j ≡ key → eqZ (t .value j) (t .value k) ≡ anyBelow (t .count) (isMirror t k)
+  matched n m e =
+      sym (below-only _ (t .count) j m (λ i l other. off i l (elsewhere m i l other))
+      ∙ mirror-on t k j (e ∙ this) (placed .cols-low j m) (placed .rows-low k n))
+
+-- ---- the capped sum
+
+pub capped-more : (f : ℕ → ℕ) (i cap : ℕ) {sum x : ℕ} → sum ≡ min (total i f) cap → x ≡ f i → min (sum + x) cap ≡ min (total (i + 1) f) cap
+unfolding total
+capped-more f i cap {sum} {x} s v = rw add-one (omega arith)
+
+-- ---- 14: in range and in order
+
+before-true : (i j k l : ℕ) → before i j k l ≡ true → Before i j k l
+unfolding before
+before-true i j k l e = go (decLt i k) (ℕ-discrete i k) (decLt j l)
+  where
+    go : Dec (i < k) → Dec (i ≡ k) → Dec (j < l) → Before i j k l
+    go (yes h) d f = inl h
+    go (no h) (yes d) (yes f) = inr (d, f)
+    go (no h) (yes d) (no f) = absurd (unequal (sym (rw (le-ltb i k (omega arith), eq-eqb i k d) (le-ltb j l (omega arith))) ∙ e))
+    go (no h) (no d) f = absurd (unequal (rw (le-ltb i k (omega arith), ne-eqb i k d) at e))
+
+before-is : (i j k l : ℕ) → Before i j k l → before i j k l ≡ true
+unfolding before
+before-is i j k l (inl h) = rw (lt-ltb i k h)
+before-is i j k l (inr (e, h)) = rw (le-ltb i k (omega arith), eq-eqb i k e) (lt-ltb j l h)
+
+-- entry k, in range, beside the entry before
+pub entry-order : (m : ℕ) (row column : ℕ → ℕ) (k : ℕ) {r : ℕ} → row k < m → column k < m → 0 < k → r ≡ 14 if (not (before (row (k - 1)) (column (k - 1)) (row k) (column k)))
+    → r ≡ entryRefusal m row column k
+unfolding orElse
+entry-order m row column k r q h e = rw (lt-leb m (row k) r, lt-leb m (column k) q, lt-ltb 0 k h) e
+
+module _ (m : ℕ) (t : Table) where
+  entry-parts : orderRefusal m (t .row) (t .column) (t .count) ≡ 0 → (k : ℕ) → k < t .count
+      → (t .row k < m) × (t .column k < m) × ((ltb 0 k && not (before (t .row (k - 1)) (t .column (k - 1)) (t .row k) (t .column k))) ≡ false)
+  unfolding orderRefusal
+  entry-parts ok k l =
+      let (low, more) = both _ _ (each (entryRefusal m (t .row) (t .column)) (t .count) ok k l) in
+      let (high, order) = both _ _ more in
+      (leb-false _ _ (clear _ _ low), leb-false _ _ (clear _ _ high), clear _ _ order)
+
+  pub order-range : orderRefusal m (t .row) (t .column) (t .count) ≡ 0 → InRange m t
+  order-range ok = record { rows-in = λ k l. entry-parts ok k l .0; cols-in = λ k l. entry-parts ok k l .1 }
+
+  pub order-rising : orderRefusal m (t .row) (t .column) (t .count) ≡ 0 → Rising t
+  order-rising ok = record { rise = λ k l. before-true _ _ _ _ (rest k (entry-parts ok (suc k) l .2)) }
+    where
+      rest : (k : ℕ) → (ltb 0 (suc k) && not (before (t .row (suc k - 1)) (t .column (suc k - 1)) (t .row (suc k)) (t .column (suc k)))) ≡ false
+          → before (t .row k) (t .column k) (t .row (suc k)) (t .column (suc k)) ≡ true
+      rest k e = let back : suc k - 1 ≡ k = omega arith in not-false _ (rw (lt-ltb 0 (suc k) (omega arith), back) at e)
+
+  pub order-passes : InRange m t → Rising t → orderRefusal m (t .row) (t .column) (t .count) ≡ 0
+  unfolding orderRefusal
+  order-passes r ri = none-of _ (t .count) (λ k l.
+      neither _ _ (unrefused _ _ (lt-leb _ _ (r .rows-in k l)))
+      (neither _ _ (unrefused _ _ (lt-leb _ _ (r .cols-in k l))) (unrefused _ _ (after k l))))
+    where
+      after : (k : ℕ) → k < t .count → (ltb 0 k && not (before (t .row (k - 1)) (t .column (k - 1)) (t .row k) (t .column k))) ≡ false
+      after zero l = refl
+      after (suc k) l = let back : suc k - 1 ≡ k = omega arith in rw (lt-ltb 0 (suc k) (omega arith), back, before-is _ _ _ _ (ri .rise k l))
+
+-- and places then rise
+place-lt : (i j k l : ℕ) → j < 65536 → Before i j k l → i * 65536 + j < k * 65536 + l
+place-lt i j k l h (inl p) = omega arith
+place-lt i j k l h (inr p) = omega arith
+
+pub placed : {m : ℕ} {t : Table} → m ≤ 65536 → InRange m t → Rising t → Placed (t .row) (t .column) (t .count)
+placed {t = t} small r ri =
+    record {
+      rows-low = λ k l. omega (arith, r .rows-in k l);
+      cols-low = λ k l. omega (arith, r .cols-in k l);
+      climbs = λ k l h h′. place-lt _ _ _ _ (omega (arith, r .cols-in k (omega arith))) (rises ri k l h h′);
+    }
+
+-- ---- 15: mirrored
+
+and-true : (a b : Bool) → (a && b) ≡ true → (a ≡ true) × (b ≡ true)
+and-true true b e = (refl, e)
+and-true false b e = absurd (unequal e)
+
+pub mirror-mirrored : (t : Table) → mirrorRefusal t ≡ 0 → Mirrored t
+unfolding mirrorRefusal
+mirror-mirrored t ok = record {
+  image = λ k h.
+      let (l, below, is) = below-true (isMirror t k) (t .count) (not-false _ (clear _ _ (each _ (t .count) ok k h))) in
+      let (place, value) = and-true _ _ is in
+      let (row, column) = and-true _ _ place in
+      (l, below, eqb-true _ _ row, eqb-true _ _ column, eqZ-true _ _ value);
+}
+
+pub mirror-passes : (t : Table) → Mirrored t → mirrorRefusal t ≡ 0
+unfolding mirrorRefusal
+mirror-passes t mi = none-of _ (t .count) (λ k h.
+    let (l, below, row, column, value) = mi .image k h in
+    let there : isMirror t k l ≡ true = simp (eq-eqb _ _ row, eq-eqb _ _ column, value, eqZ-refl (t .value k)) in
+    unrefused _ _ (ap not (below-at (isMirror t k) (t .count) l below there)))
+
+-- ---- 13 and 16, and the whole
+
+or-false : (a b : Bool) → (a || b) ≡ false → (a ≡ false) × (b ≡ false)
+or-false true b e = absurd (unequal (sym e))
+or-false false b e = (refl, e)
+
+size-parts : (least most mostEntries size count : ℕ) → sizeRefusal least most mostEntries size count ≡ 0 → (least ≤ size) × (size ≤ most) × (count ≤ mostEntries)
+unfolding sizeRefusal
+size-parts least most mostEntries size count e =
+    let (a, more) = or-false _ _ (clear _ _ e) in
+    let (b, d) = or-false _ _ more in
+    (ltb-false _ _ a, ltb-false _ _ b, ltb-false _ _ d)
+
+size-passes : (least most mostEntries size count : ℕ) → least ≤ size → size ≤ most → count ≤ mostEntries → sizeRefusal least most mostEntries size count ≡ 0
+unfolding sizeRefusal
+size-passes least most mostEntries size count a b d =
+    rw (le-ltb size least a, le-ltb most size b, le-ltb mostEntries count d)
+
+-- what the first passes show to the later ones
+pub size-low : {least most mostEntries size count r : ℕ} → r ≡ sizeRefusal least most mostEntries size count → r ≡ 0 → (least ≤ size) × (size ≤ most) × (count ≤ mostEntries)
+size-low e z = size-parts _ _ _ _ _ (sym e ∙ z)
+
+pub order-placed : (m : ℕ) (t : Table) {r : ℕ} → m ≤ 65536 → r ≡ orderRefusal m (t .row) (t .column) (t .count) → r ≡ 0 → Placed (t .row) (t .column) (t .count)
+order-placed m t small e z = placed small (order-range m t (sym e ∙ z)) (order-rising m t (sym e ∙ z))
+
+-- nothing is refused exactly where (H, c) is a hall
+pub hall-accepted : {mostWagons mostEntries limit n : ℕ} {h : Table} {c : ℕ → ℤ} → hallRefusal mostWagons mostEntries limit n h c ≡ 0 → Hall mostWagons mostEntries limit n h c
+unfolding hallRefusal
+hall-accepted {n = n} {h = h} ok =
+    let (size, rest) = both _ _ ok in
+    let (order, more) = both _ _ rest in
+    let (mirror, magnitude) = both _ _ more in
+    let s = size-parts _ _ _ _ _ size in
+    record {
+      wagons = s .1;
+      entries = s .2;
+      in-range = order-range n h order;
+      rising = order-rising n h order;
+      mirrored = mirror-mirrored h mirror;
+      magnitude = ltb-false _ _ (clear _ _ magnitude);
+    }
+
+pub hall-passes : {mostWagons mostEntries limit n : ℕ} {h : Table} {c : ℕ → ℤ} → Hall mostWagons mostEntries limit n h c → hallRefusal mostWagons mostEntries limit n h c ≡ 0
+unfolding hallRefusal
+hall-passes {n = n} {h = h} ok =
+    neither _ _ (size-passes _ _ _ _ _ (omega arith) (ok .wagons) (ok .entries))
+    (neither _ _ (order-passes n h (ok .in-range) (ok .rising))
+    (neither _ _ (mirror-passes h (ok .mirrored)) (unrefused _ _ (le-ltb _ _ (ok .magnitude)))))
+
+-- and a sign table
+pub table-accepted : {mostSigns mostEntries limit m : ℕ} {t : Table} → tableRefusal mostSigns mostEntries limit m t ≡ 0 → Accepted mostSigns mostEntries limit m t
+unfolding tableRefusal
+table-accepted {m = m} {t = t} ok =
+    let (size, rest) = both _ _ ok in
+    let (order, more) = both _ _ rest in
+    let (mirror, magnitude) = both _ _ more in
+    let s = size-parts _ _ _ _ _ size in
+    record {
+      some = s .0;
+      signs = s .1;
+      entries = s .2;
+      in-range = order-range m t order;
+      rising = order-rising m t order;
+      mirrored = mirror-mirrored t mirror;
+      magnitude = ltb-false _ _ (clear _ _ magnitude);
+    }
+
+pub table-passes : {mostSigns mostEntries limit m : ℕ} {t : Table} → Accepted mostSigns mostEntries limit m t → tableRefusal mostSigns mostEntries limit m t ≡ 0
+unfolding tableRefusal
+table-passes {m = m} {t = t} ok =
+    neither _ _ (size-passes _ _ _ _ _ (ok .some) (ok .signs) (ok .entries))
+    (neither _ _ (order-passes m t (ok .in-range) (ok .rising))
+    (neither _ _ (mirror-passes t (ok .mirrored)) (unrefused _ _ (le-ltb _ _ (ok .magnitude)))))
