@@ -9,6 +9,7 @@ mod bench;
 mod draws;
 mod job;
 mod leaf;
+mod leaf_numbers;
 mod plain;
 mod problem;
 mod refusals;

@@ -52,7 +52,7 @@ impl Table {
 pub fn eighths(value: f64) -> i64 {
     let scaled = value * 8.0;
     assert!(
-        scaled.trunc() == scaled && scaled.abs() <= 2f64.powi(56),
+        scaled.trunc() == scaled && scaled.abs() <= 2f64.powi(53),
         "{value} is no whole number of eighths"
     );
     scaled as i64
