@@ -1,14 +1,21 @@
 // Runs the stored answers of standard input through the proved functions and writes, for each group
-// of cases, how many there were and how many differed. The list and how it was made: docs/REPLAY.md.
+// of cases, how many there were and how many differed. docs/REPLAY.md says how the list was made.
+mod cases;
+mod leaves;
 mod text;
 
-// Room for the list, and for the words of one case.
-const TEXT: usize = 0x10_0000;
+ghost use mathlib.Core.Path.{_≡_};
+ghost use lib.ListN.{length};
 
-const WORDS: usize = 0x4000;
+// Room for the numbers of one case.
+fn case_room() -> [u64; 16384]
+    ensures { λ r. ⌜ 16384 ≡ length r ⌝ }
+{
+    [0; 16384]
+}
 
 fn main() {
-    let mut text = [0u8; TEXT];
-    let n = io::read_full(0, &mut text);
-    let mut words = [0u64; WORDS];
+    let mut buffer = io::large_buffer();
+    let mut numbers = case_room();
+    cases::run_list(&mut buffer, &mut numbers);
 }

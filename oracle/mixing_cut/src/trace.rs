@@ -20,7 +20,7 @@ struct Lines {
 
 impl Lines {
     fn line(&mut self, name: &str, value: impl std::fmt::Display) {
-        let _ = writeln!(self.text, "{name} {value}");
+        let _ = writeln!(self.text, "{}", format!("{name} {value}").trim_end());
     }
 
     fn double(&mut self, name: &str, value: f64) {
