@@ -20,19 +20,24 @@ pub struct Progress {
     pub at: usize,
 }
 
+// The weight of the next byte.
+fn lowered(shift: u64) -> u64
+    ensures { λ r. ⌜ 0 < r ⌝ }
+{
+    if shift < 256 { 1 } else { shift / 256 }
+}
+
 // Writes the letters of a name.
 fn print_name(name: u64) {
     let mut shift: u64 = 0x100_0000_0000_0000;
-    let mut k = 0;
+    let mut k: usize = 0;
     while k < 8 {
         let b = (name / shift % 256) as u8;
         if b != 0 {
             let letter = [b];
             io::write_all(1, &letter);
         }
-        if shift > 255 {
-            shift = shift / 256;
-        }
+        shift = lowered(shift);
         k += 1;
     }
 }
@@ -76,17 +81,18 @@ fn run_line(line: &[u8], numbers: &mut [u64], t: Tally) -> Tally {
     counted(t, name, same_leaf(c, numbers))
 }
 
-// Runs the whole lines among the first n bytes.
-fn run_lines(text: &[u8], numbers: &mut [u64], t: Tally) -> Progress
-    ensures { λ r. ⌜ r .at ≤ length (now (text .entry)) ⌝ }
+// Runs the whole lines among the first `end` bytes.
+fn run_lines(text: &[u8], end: usize, numbers: &mut [u64], t: Tally) -> Progress
+    requires { ⌜ end ≤ length (now text) ⌝ }
+    ensures { λ r. ⌜ r .at ≤ end ⌝ }
 {
     let mut p = Progress { tally: t, at: 0 };
-    let mut end = find(text, 0, 10);
-    while end < text.len() {
+    let mut next = find(text, 0, end, 10);
+    while next < end {
         let at = p.at;
-        let tally = run_line(&text[at..end], numbers, p.tally);
-        p = Progress { tally, at: end + 1 };
-        end = find(text, end + 1, 10);
+        let tally = run_line(&text[at..next], numbers, p.tally);
+        p = Progress { tally, at: next + 1 };
+        next = find(text, next + 1, end, 10);
     }
     p
 }
@@ -113,20 +119,30 @@ fn read_on(buffer: &mut [u8], kept: usize) -> usize
     kept + io::read_full(0, &mut buffer[kept..])
 }
 
+// Runs the whole lines among the first `end` bytes and moves what is left to the front.
+fn run_piece(buffer: &mut [u8], end: usize, numbers: &mut [u64], t: Tally) -> Progress
+    requires { ⌜ end ≤ length (now buffer) ⌝ }
+    ensures { λ r. ⌜ (r .at ≤ length (now (buffer .exit))) × (length (now (buffer .exit)) ≡ length (now (buffer .entry))) ⌝ }
+{
+    let p = run_lines(buffer, end, numbers, t);
+    let from = p.at;
+    let tally = p.tally;
+    let kept = move_down(buffer, from, end);
+    Progress { tally, at: kept }
+}
+
 // Runs the list of standard input, read in pieces of the buffer's length, 1,000 at most.
 pub fn run_list(buffer: &mut [u8], numbers: &mut [u64]) {
-    let mut t = Tally { name: 0, cases: 0, differ: 0 };
-    let mut kept = 0;
-    let mut piece = 0;
+    let mut p = Progress { tally: Tally { name: 0, cases: 0, differ: 0 }, at: 0 };
+    let mut piece: usize = 0;
     while piece < 1000 {
+        let kept = p.at;
         let end = read_on(buffer, kept);
         if end == kept {
-            report(t);
+            report(p.tally);
             return;
         }
-        let p = run_lines(&buffer[..end], numbers, t);
-        t = p.tally;
-        kept = move_down(buffer, p.at, end);
+        p = run_piece(buffer, end, numbers, p.tally);
         piece += 1;
     }
 }

@@ -53,13 +53,13 @@ fn appended(value: u64, b: u8, name: bool) -> u64 {
     value % 0x1000_0000_0000_0000 * 16 + digit(b) % 16
 }
 
-// The first byte from `at` on that is `b`; the end where there is none.
-pub fn find(text: &[u8], at: usize, b: u8) -> usize
-    requires { ⌜ at ≤ length (now text) ⌝ }
-    ensures { λ r. ⌜ (at ≤ r) × (r ≤ length (now (text .entry))) ⌝ }
+// The first byte from `at` on that is `b`; `end` where there is none.
+pub fn find(text: &[u8], at: usize, end: usize, b: u8) -> usize
+    requires { ⌜ (at ≤ end) × (end ≤ length (now text)) ⌝ }
+    ensures { λ r. ⌜ (at ≤ r) × (r ≤ end) ⌝ }
 {
     let mut i = at;
-    while i < text.len() {
+    while i < end {
         if text[i] == b {
             return i;
         }

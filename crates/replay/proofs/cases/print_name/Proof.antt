@@ -1,10 +1,10 @@
-use Prim.Native.Nat.{_≤_, _-_}
+use Prim.Native.Nat.{_≤_, _<_, _-_}
 use borrow.Author.Needs.{needs}
 use Rattle.replay.proofs.cases.print_name.Statement.{statement}
 use Rattle.replay.proofs.cases.print_name.Tie as tie
 
 abbrev Inv-loop : tie.InvT-loop
-Inv-loop name shift₀ k₀ shift k = (k ≤ 8) × (1 ≤ shift)
+Inv-loop name shift₀ k₀ shift k = (k ≤ 8) × (0 < shift)
 
 abbrev μ-loop : tie.MeasureT-loop
 μ-loop name shift₀ k₀ shift k = 8 - k
@@ -23,6 +23,9 @@ slice-aggregate-write-all c = search needs
 
 write-all-requires : tie.Need-write-all-requires Inv-loop μ-loop
 write-all-requires c κs = search needs
+
+lowered-requires : tie.Need-lowered-requires Inv-loop μ-loop
+lowered-requires c κs = search needs
 
 add-k : tie.Need-add-k Inv-loop μ-loop
 add-k c = search needs
@@ -47,6 +50,7 @@ print-name-spec =
     cast-b
     slice-aggregate-write-all
     write-all-requires
+    lowered-requires
     add-k
     loop-less
     loop-again

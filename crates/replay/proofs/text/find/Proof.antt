@@ -1,14 +1,15 @@
-use Prim.Native.Nat.{_≤_, _-_}
+use Prim.Native.Nat.{_≤_, _<_, _-_}
+use mathlib.Core.Path.{_≡_}
 use lib.ListN.{length}
 use borrow.Author.Needs.{needs}
 use Rattle.replay.proofs.text.find.Statement.{statement}
 use Rattle.replay.proofs.text.find.Tie as tie
 
 abbrev Inv-loop : tie.InvT-loop
-Inv-loop text at b i₀ i = (at ≤ i) × (i ≤ length text)
+Inv-loop text at end b i₀ i = (at ≤ i) × (i ≤ end)
 
 abbrev μ-loop : tie.MeasureT-loop
-μ-loop text at b i₀ i = length text - i
+μ-loop text at end b i₀ i = end - i
 
 loop-holds : tie.Need-loop-holds Inv-loop μ-loop
 loop-holds c = search needs

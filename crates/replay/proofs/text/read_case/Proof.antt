@@ -1,12 +1,15 @@
+use Prim.Native.Nat.{_≤_, _-_}
+use mathlib.Core.Path.{_≡_}
+use lib.ListN.{length}
 use borrow.Author.Needs.{needs}
 use Rattle.replay.proofs.text.read_case.Statement.{statement}
 use Rattle.replay.proofs.text.read_case.Tie as tie
 
 abbrev Inv-loop : tie.InvT-loop
-Inv-loop line numbers₀ c₀ numbers c = ?
+Inv-loop line numbers₀ c₀ numbers c = (c .at ≤ length line) × (length numbers ≡ length numbers₀)
 
 abbrev μ-loop : tie.MeasureT-loop
-μ-loop line numbers₀ c₀ numbers c = ?
+μ-loop line numbers₀ c₀ numbers c = length line - c .at
 
 loop-holds : tie.Need-loop-holds Inv-loop μ-loop
 loop-holds c = search needs
@@ -18,13 +21,13 @@ loop-less : tie.Need-loop-less Inv-loop μ-loop
 loop-less c = search needs
 
 loop-again : tie.Need-loop-again Inv-loop μ-loop
-loop-again c = ?
+loop-again c = search needs
 
 same-length : tie.Need-same-length Inv-loop μ-loop
 same-length c = search needs
 
 returns : tie.Need-returns Inv-loop μ-loop
-returns c = ?
+returns c = search needs
 
 pub read-case-spec : {M : Type 1} → statement M
 read-case-spec =
