@@ -27,7 +27,7 @@ best-append b (x ∷ l) r = best-append (cond (below x b) x b) l r
 
 pub start-safe : (change : List ℕ → ℕ → ℤ) (exists : Choice → ℕ → Bool) (fuel : ℕ) (start : Choice) → Searches change exists fuel start → Safe change exists start
 start-safe change exists fuel start p i q e =
-    child-fits (length (start .signs)) (p .objective) change (p .floor) (p .height) (p .lawful) start (refl, p .start-is) i q
+    child-fits (length (start .signs)) (p .objective) change (p .floor) (p .height) (p .lawful) (p .bounded) start (refl, p .start-is) i q
 
 -- with width 0 the start stands
 pub search-none : (change : List ℕ → ℕ → ℤ) (exists : Choice → ℕ → Bool) (width fuel : ℕ) (start : Choice) → width ≡ 0 → (start ≡ searchedFrom change exists width fuel start .answer) × (0 ≡ searchedFrom change exists width fuel start .rounds)
@@ -114,7 +114,7 @@ module _ (change : List ℕ → ℕ → ℤ) (exists : Choice → ℕ → Bool) 
         left = ls;
         levels-left = lv;
         safe = all-levels (Safe change exists) ls
-            (all-map G (Safe change exists) (λ c h i q e. child-fits m (p .objective) change (p .floor) (p .height) (p .lawful) c h i (omega (arith, h .0))) (concat ls) goods);
+            (all-map G (Safe change exists) (λ c h i q e. child-fits m (p .objective) change (p .floor) (p .height) (p .lawful) (p .bounded) c h i (omega (arith, h .0))) (concat ls) goods);
         answer-is = sym (ap (λ (f : Found Choice). f .answer) found);
         rounds-are = omega (arith, ap (λ (f : Found Choice). f .rounds) found);
         few = omega (arith, searched-improves below children G up ord fal width fuel start w (p .enough) g .falls-by-rounds, p .low);

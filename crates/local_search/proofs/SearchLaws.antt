@@ -77,6 +77,21 @@ module _ {X : Type 0} (children : X → List X) (P : X → Type 0) where
   all-by-parent (x ∷ xs) a =
       (all-left P (children x) (childrenOf children xs) a, all-by-parent xs (all-right P (children x) (childrenOf children xs) a))
 
+-- ---- the levels are determined: whatever fuel has lasted, they are these
+
+module _ {X : Type 0} (less : X → X → Bool) (children : X → List X) (width : ℕ) where
+  pub levels-are : (fuel : ℕ) (l : List X) (ls : List (List X)) → length ls ≤ fuel → Levels less children width l ls → levels less children width fuel l ≡ ls
+  unfolding levels
+  levels-are zero l ls q none = refl
+  levels-are (suc fuel) l ls q none = refl
+  levels-are zero l ls q (more r) = absurd (omega arith)
+  levels-are (suc fuel) l ls q (more {x} {xs} {ls = rest} r) =
+      ap (λ (t : List (List X)). (x ∷ xs) ∷ t) (levels-are fuel (nextLevel less children width (x ∷ xs)) rest (omega arith) r)
+
+  -- the levels of a level are one list
+  pub levels-unique : {l : List X} {ls ks : List (List X)} → Levels less children width l ls → Levels less children width l ks → ls ≡ ks
+  levels-unique {l} {ls} {ks} p q = sym (levels-are (length ls + length ks) l ls (omega arith) p) ∙ levels-are (length ls + length ks) l ks (omega arith) q
+
 -- ---- the search, for an objective whose height is a number, and children that are lower by 4 at least
 
 module _ {X : Type 0} (less : X → X → Bool) (children : X → List X) (Good : X → Type 0) (height : X → ℕ)
@@ -249,18 +264,13 @@ module _ {X : Type 0} (less : X → X → Bool) (children : X → List X) (Good 
   pub levels-end : (width fuel : ℕ) (start : X) → height start ≤ fuel → Good start → Levels less children width (children start) (levels less children width fuel (children start))
   levels-end width fuel start q g = enough width fuel 4 (height start) (children start) (omega arith) (start-children start g)
 
+  -- the search with no fuel: whatever levels lead from the start's children to an empty one, it finds the first of least among them
+  pub searched-levels : (width fuel : ℕ) (start : X) (ls : List (List X)) → height start ≤ fuel → Good start → Levels less children (suc width) (children start) ls
+      → searched less children (suc width) fuel start ≡ foundIn less start ls
+  unfolding searched
+  searched-levels width fuel start ls q g r = ap (foundIn less start) (levels-unique less children (suc width) (levels-end (suc width) fuel start q g) r)
+
   pub searched-improves : (width fuel : ℕ) (start : X) → 1 ≤ width → height start ≤ fuel → Good start → Improves start (searched less children width fuel start)
   unfolding searched
   searched-improves zero fuel start w q g = absurd (omega arith)
   searched-improves (suc n) fuel start w q g = levels-improve (suc n) start (levels less children (suc n) fuel (children start)) w g (levels-end (suc n) fuel start q g)
-
--- ---- the levels are determined: whatever fuel has lasted, they are these
-
-module _ {X : Type 0} (less : X → X → Bool) (children : X → List X) (width : ℕ) where
-  pub levels-are : (fuel : ℕ) (l : List X) (ls : List (List X)) → length ls ≤ fuel → Levels less children width l ls → levels less children width fuel l ≡ ls
-  unfolding levels
-  levels-are zero l ls q none = refl
-  levels-are (suc fuel) l ls q none = refl
-  levels-are zero l ls q (more r) = absurd (omega arith)
-  levels-are (suc fuel) l ls q (more {x} {xs} {ls = rest} r) =
-      ap (λ (t : List (List X)). (x ∷ xs) ∷ t) (levels-are fuel (nextLevel less children width (x ∷ xs)) rest (omega arith) r)

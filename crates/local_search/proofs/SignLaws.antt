@@ -13,7 +13,7 @@ use mir.Val.{SFits}
 use lib.ListN.{length}
 use Rattle.local_search.specs.LocalSearch.{All, Found, searched}
 use Rattle.local_search.specs.Level.{Choice, below, flipSign, childOf}
-use Rattle.local_search.specs.SignSearch.{improving, lower, improves, signSearch, improvesC, flipC, childrenC, Lawful}
+use Rattle.local_search.specs.SignSearch.{improving, lower, improves, keeping, signSearch, improvesC, flipC, childrenC, Lawful}
 use Rattle.local_search.proofs.All.{all-append}
 use Rattle.local_search.proofs.Same.{All2, same-append, same-cond, same-searched}
 use Rattle.local_search.proofs.SearchLaws.{Improves, searched-improves}
@@ -122,11 +122,8 @@ module _ (m : ℕ) (objective : List ℕ → ℤ) (change : List ℕ → ℕ →
   no-flip x i p q e = ap (λ (z : ℤ). ltZ z (objective x)) (lawful .changes x i p q) ∙ ltZ-change (objective x) (change x i) ∙ e
 
   -- children that are kept besides: what is found holds what they hold, and none of them lowers it
-  abbrev pub keeping : (List ℕ → ℕ → Bool) → List ℕ → ℕ → Bool
-  keeping keep x i = cond (improves change x i) (keep x i) false
-
   pub keeping-filter : (keep : List ℕ → ℕ → Bool) (Keeps : List ℕ → Type 0)
-      → ((x : List ℕ) (i : ℕ) → length x ≡ m → i < m → Keeps x → keep x i ≡ true → Keeps (flipSign i x)) → Filter (keeping keep) Keeps
+      → ((x : List ℕ) (i : ℕ) → length x ≡ m → i < m → Keeps x → keep x i ≡ true → Keeps (flipSign i x)) → Filter (keeping change keep) Keeps
   keeping-filter keep Keeps holds = record {
     improving = λ x i e. both (improves change x i) (keep x i) e .0;
     keeps = λ x i p q k e. holds x i p q k (both (improves change x i) (keep x i) e .1);
@@ -136,7 +133,7 @@ module _ (m : ℕ) (objective : List ℕ → ℤ) (change : List ℕ → ℕ →
       both true b e = (refl, e)
       both false b e = (e, cc)
 
-  pub no-kept-flip : (keep : List ℕ → ℕ → Bool) (x : List ℕ) (i : ℕ) → length x ≡ m → i < m → keeping keep x i ≡ false → keep x i ≡ true
+  pub no-kept-flip : (keep : List ℕ → ℕ → Bool) (x : List ℕ) (i : ℕ) → length x ≡ m → i < m → keeping change keep x i ≡ false → keep x i ≡ true
       → ltZ (objective (flipSign i x)) (objective x) ≡ false
   no-kept-flip keep x i p q e k = no-flip x i p q (first (improves change x i) (keep x i) e k)
     where
@@ -186,7 +183,7 @@ module _ (m : ℕ) (objective : List ℕ → ℤ) (change : List ℕ → ℕ →
       all-improving exists (flipC change) c (λ d. Good d × (height (d .signs) + 4 ≤ height (c .signs))) m
       (λ i q e. ((flipped-length i (c .signs) ∙ p .0, ap (λ (o : ℤ). o +ℤ change (c .signs) i) (p .1) ∙ sym (lawful .changes (c .signs) i (p .0) q)), fall (c .signs) (p .0) i q (within c i e)))
 
-  pub child-fits : (c : Choice) → Good c → (i : ℕ) → i < m → SFits w64 (c .objective +ℤ change (c .signs) i)
-  child-fits c p i q =
+  pub child-fits : ((x : List ℕ) → length x ≡ m → SFits w64 (objective x)) → (c : Choice) → Good c → (i : ℕ) → i < m → SFits w64 (c .objective +ℤ change (c .signs) i)
+  child-fits bounded c p i q =
       subst (SFits w64) (lawful .changes (c .signs) i (p .0) q ∙ ap (λ (o : ℤ). o +ℤ change (c .signs) i) (sym (p .1)))
-      (lawful .bounded (flipSign i (c .signs)) (flipped-length i (c .signs) ∙ p .0))
+      (bounded (flipSign i (c .signs)) (flipped-length i (c .signs) ∙ p .0))

@@ -1,7 +1,7 @@
 -- 01's search on signs. `objective x` and `change x i` stand for those of the sign table, in eighths:
 -- change x i is 4·Q_ii − 4·x_i·(Qx)_i, by which flipping sign i of x changes the objective.
 use Prim.Native.Nat.{ℕ, zero, suc, _*_, _^_, _≤_, _<_}
-use mathlib.Core.Bool.{Bool, true, cond}
+use mathlib.Core.Bool.{Bool, true, false, cond}
 use mathlib.Core.List.{List, [], _∷_, _++_}
 use mathlib.Core.Path.{_≡_}
 use lib.IntN.{ℤ, pos, _+ℤ_, _*ℤ_}
@@ -27,6 +27,10 @@ lower objective x y = ltZ (objective x) (objective y)
 -- child i of x flips sign i; in 01's search it exists when its change is below 0
 abbrev pub improves : (List ℕ → ℕ → ℤ) → List ℕ → ℕ → Bool
 improves change x i = ltZ (change x i) (pos 0)
+
+-- of these the ones that `keep` lets through
+abbrev pub keeping : (List ℕ → ℕ → ℤ) → (List ℕ → ℕ → Bool) → List ℕ → ℕ → Bool
+keeping change keep x i = cond (improves change x i) (keep x i) false
 
 -- the search from `start` of m signs, over the children that exist
 unfoldable pub signSearch : (List ℕ → ℤ) → (List ℕ → ℕ → Bool) → ℕ → ℕ → ℕ → List ℕ → Found (List ℕ)
@@ -56,7 +60,6 @@ pub record Lawful (m : ℕ) (objective : List ℕ → ℤ) (change : List ℕ �
   pub above-floor : (x : List ℕ) → length x ≡ m → objective x ≡ floor +ℤ pos (height x)
   pub changes : (x : List ℕ) (i : ℕ) → length x ≡ m → i < m → objective (flipSign i x) ≡ objective x +ℤ change x i
   pub fours : (x : List ℕ) (i : ℕ) → length x ≡ m → i < m → (z : ℤ) × (change x i ≡ pos 4 *ℤ z)
-  pub bounded : (x : List ℕ) → length x ≡ m → SFits w64 (objective x)
 
 -- the changes are those of an objective with a floor, which the start has; what exists is an improving child; and the fuel is at least the
 -- start's height, so that it lasts
@@ -67,5 +70,6 @@ pub record Searches (change : List ℕ → ℕ → ℤ) (exists : Choice → ℕ
   pub lawful : Lawful (length (start .signs)) objective change floor height
   pub improving : (c : Choice) (i : ℕ) → exists c i ≡ true → improvesC change c i ≡ true
   pub start-is : start .objective ≡ objective (start .signs)
+  pub bounded : (x : List ℕ) → length x ≡ length (start .signs) → SFits w64 (objective x)
   pub enough : height (start .signs) ≤ fuel
   pub low : height (start .signs) < 2 ^ 64
