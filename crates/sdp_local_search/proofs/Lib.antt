@@ -1,0 +1,3 @@
+pub mod Lawful
+pub mod Theorems
+pub mod HallTheorems
