@@ -1,3 +1,4 @@
 pub mod Lawful
 pub mod Theorems
 pub mod HallTheorems
+pub mod Examples
