@@ -1,0 +1,93 @@
+-- `beam_search` meets its contract: the search with objectives carried along is the search on signs.
+-- Assumes nothing.
+use native.Mathlib.Omega.{arith}
+use mathlib.Core.Path.{_≡_, refl, sym, ap, _∙_, subst}
+use borrow.Author.Needs.{needs}
+use denote.Ref.{now}
+use Rattle.tables.specs.Table.{tableOf}
+use lib.ListN.{length}
+use mir.Syntax.{w64}
+use mir.Val.{toZ, ofZ}
+use mir.Facts.{toZ-ofZ}
+use Rattle.laws.proofs.Integer.{held}
+use Rattle.local_search.specs.Children.{parentOf}
+use Rattle.sdp_local_search.specs.Search.{objectiveIn}
+use Rattle.sdp_local_search.proofs.Searches.{found-by, found-none}
+use Rattle.sdp_local_search.proofs.search.search_signs.Statement.{statement}
+use Rattle.sdp_local_search.proofs.search.search_signs.Tie as tie
+
+started : (c : tie.After-obj-rounded) → let a = c .before .before .before .before .before .before .before .args in toZ w64 (ofZ w64 (c .obj-rounded .result)) ≡ objectiveIn (tableOf (a .entries) (now (a .rows)) (now (a .cols)) (now (a .values))) (now (a .kept))
+unfolding objectiveIn
+started c = held _ (c .obj-rounded .ok) ∙ c .obj-rounded .ensures
+
+obj-rounded-requires : tie.Need-obj-rounded-requires
+obj-rounded-requires c κs = let s = c .before .before .before .before .before .before in (s .pre .2, s .pre .1 .mirrors .in-range, s .pre .1 .small)
+
+same-length : tie.Need-same-length
+same-length c = search needs
+
+returns : tie.Need-returns
+returns c =
+    let a = c .before .before .before .before .before .before .before .before .args in
+    found-none (tableOf (a .entries) (now (a .rows)) (now (a .cols)) (now (a .values))) (a .width) (now (a .kept)) _ (c .if1 .taken) (started (c .before))
+
+slice-aggregate-search-levels : tie.Need-slice-aggregate-search-levels
+slice-aggregate-search-levels c = search needs
+
+slice-aggregate-search-levels-2 : tie.Need-slice-aggregate-search-levels-2
+slice-aggregate-search-levels-2 c = search needs
+
+slice-aggregate-search-levels-3 : tie.Need-slice-aggregate-search-levels-3
+slice-aggregate-search-levels-3 c = search needs
+
+search-levels-requires : tie.Need-search-levels-requires
+search-levels-requires c κs =
+    let s = c .before .before .before .before .before .before .before .before .before .before .before .before .before .before in
+    let r = s .pre .0 in (
+      record {
+        some = omega arith;
+        changes-room = omega (arith, r .signs-few);
+        first-objectives = omega (arith, r .signs-few);
+        first-signs = r .first-level;
+        objectives-room = omega (arith, r .width-few);
+        signs-room = r .level-room;
+        next-objectives-room = omega (arith, r .width-few);
+        next-signs-room = r .next-level-room;
+      },
+      s .pre .1,
+      started (c .before .before .before .before .before .before .before),
+      s .pre .2,
+    )
+
+same-length-2 : tie.Need-same-length-2
+same-length-2 c = c .before .before .before .before .before .before .before .before .before .search-levels .kept .1 .1 .1 .1 .1 .1 .0
+
+same-length-3 : tie.Need-same-length-3
+same-length-3 c = c .before .before .before .before .before .before .before .before .before .search-levels .kept .1 .1 .1 .1 .1 .1 .1 .1 .1 .0
+
+same-length-4 : tie.Need-same-length-4
+same-length-4 c = c .before .before .before .before .before .before .before .before .before .search-levels .kept .1 .1 .1 .1 .1 .1 .1 .1 .1 .1 .1 .0
+
+returns-2 : tie.Need-returns-2
+returns-2 c =
+    let v = c .before .before .before .before .before .before .before .before .before .search-levels in
+    let o = c .before .before .before .before .before .before .before .before .before .before .before .before .before .before .before .before .before in
+    let s = c .before .before .before .before .before .before .before .before .before .before .before .before .before .before .before .before .before .before .before .before .before .before .before .before in
+    let a = s .args in
+    found-by (tableOf (a .entries) (now (a .rows)) (now (a .cols)) (now (a .values))) (a .width) (now (a .kept)) _ (parentOf (v .result .least) (v .last .1 .1 .1 .1 .1 .1 .0)) (v .result .rounds) (s .pre .1) (started o) (v .ensures .0) (v .ensures .1)
+
+pub search-signs-spec : {M : Type 1} → statement M
+search-signs-spec =
+    tie.close
+    (tie.spec
+    obj-rounded-requires
+    same-length
+    returns
+    slice-aggregate-search-levels
+    slice-aggregate-search-levels-2
+    slice-aggregate-search-levels-3
+    search-levels-requires
+    same-length-2
+    same-length-3
+    same-length-4
+    returns-2)
