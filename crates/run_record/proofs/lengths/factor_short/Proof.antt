@@ -7,7 +7,8 @@ use mathlib.Core.Bool.{Bool, true, false, not}
 use native.Mathlib.Omega.{arith}
 use native.Mathlib.Nat.{mul-le-mul}
 use borrow.Author.Tests.{eq-eqb, ne-eqb, lt-ltb, le-ltb}
-use Rattle.run_record.specs.Numbers.{short, factorRefused, factorShort}
+use Rattle.run_record.specs.Numbers.{factorRefused, factorShort}
+use Rattle.laws.specs.Refusal.{short}
 use Rattle.laws.proofs.Any.{any-here, any-skip, any-none}
 use Prim.Native.Nat.{_≤_}
 

@@ -1,9 +1,9 @@
 use borrow.Author.Needs.{needs}
 use Rattle.run_record.proofs.lengths.sweep_short.Statement.{statement}
 use Rattle.run_record.proofs.lengths.sweep_short.Tie as tie
-use mathlib.Core.Path.{sym, _∙_}
-use Rattle.run_record.specs.Numbers.{sweepShort}
+use mathlib.Core.Path.{_≡_, sym, _∙_}
 use Rattle.laws.proofs.Any.{any-here, any-skip, any-last}
+use Rattle.run_record.specs.Numbers.{sweepShort}
 
 table-short-requires : tie.Need-table-short-requires
 table-short-requires c κs = search needs
@@ -17,12 +17,8 @@ factor-short-requires c κs = search needs
 
 returns-2 : tie.Need-returns-2
 unfolding sweepShort
-returns-2 c = sym (any-skip _ _ (sym (c .before .before .before .table-short .ensures) ∙ c .before .before .if1 .left) ∙ any-here _ _ (sym (c .before .factor-short .ensures) ∙ c .if2 .taken))
-
-returns-3 : tie.Need-returns-3
-unfolding sweepShort
-returns-3 c = sym (any-skip _ _ (sym (c .before .before .before .table-short .ensures) ∙ c .before .before .if1 .left) ∙ any-skip _ _ (sym (c .before .factor-short .ensures) ∙ c .if2 .left) ∙ any-last _)
+returns-2 c = c .factor-short .ensures ∙ sym (any-skip _ _ (sym (c .before .before .table-short .ensures) ∙ c .before .if1 .left) ∙ any-last _)
 
 pub sweep-short-spec : {M : Type 1} → statement M
 sweep-short-spec =
-    tie.close (tie.spec table-short-requires returns factor-short-requires returns-2 returns-3)
+    tie.close (tie.spec table-short-requires returns factor-short-requires returns-2)
