@@ -1,0 +1,11 @@
+pub mod Costs
+pub mod Listed
+pub mod Cursor
+pub mod Writing
+pub mod Bounds
+pub mod Built
+pub mod Kept
+pub mod Sizes
+pub mod Theorems
+pub mod Slices
+pub mod Examples

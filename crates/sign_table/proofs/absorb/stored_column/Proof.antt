@@ -1,0 +1,51 @@
+use Rattle.sign_table.specs.Walk.{storedColumn}
+use mathlib.Core.Path.{sym, _∙_}
+use borrow.Author.Tests.{lt-ltb, le-ltb, eq-eqb, ne-eqb}
+use borrow.Author.Needs.{needs}
+use borrow.Author.Needs.{needs}
+use Rattle.sign_table.proofs.absorb.stored_column.Statement.{statement}
+use Rattle.sign_table.proofs.absorb.stored_column.Tie as tie
+
+mul-wide : tie.Need-mul-wide
+mul-wide c = search needs
+
+shared-slice-read-wide : tie.Need-shared-slice-read-wide
+shared-slice-read-wide c = search needs
+
+wide-requires : tie.Need-wide-requires
+wide-requires c κs = search needs
+
+mul-wide-2 : tie.Need-mul-wide-2
+mul-wide-2 c = search needs
+
+shared-slice-read-wide-2 : tie.Need-shared-slice-read-wide-2
+shared-slice-read-wide-2 c = search needs
+
+wide-requires-2 : tie.Need-wide-requires-2
+wide-requires-2 c κs = search needs
+
+returns : tie.Need-returns
+unfolding storedColumn
+returns c = simp (lt-ltb _ _ (c .before .before .before .before .before .if1 .taken), eq-eqb _ _ (sym (c .before .before .before .wide .ensures) ∙ c .before .before .if2 .taken), c .wide2 .ensures)
+
+returns-2 : tie.Need-returns-2
+unfolding storedColumn
+returns-2 c = simp (lt-ltb _ _ (c .before .before .before .if1 .taken), ne-eqb _ _ (λ e. c .if2 .left (c .before .wide .ensures ∙ e)))
+
+returns-3 : tie.Need-returns-3
+unfolding storedColumn
+returns-3 c = simp (le-ltb _ _ (c .if1 .left))
+
+pub stored-column-spec : {M : Type 1} → statement M
+stored-column-spec =
+    tie.close
+    (tie.spec
+    mul-wide
+    shared-slice-read-wide
+    wide-requires
+    mul-wide-2
+    shared-slice-read-wide-2
+    wide-requires-2
+    returns
+    returns-2
+    returns-3)

@@ -1,0 +1,51 @@
+use Rattle.sign_table.proofs.Bounds.{negation-fits, negation-is}
+use Rattle.sign_table.proofs.Writing.{wrote-none}
+use Rattle.sign_table.specs.SignTable.{isZero}
+use mir.Facts.{toZ-ofZ}
+use native.Mathlib.Omega.{arith}
+use mathlib.Core.Path.{refl, sym, ap, _∙_}
+use borrow.Author.Needs.{needs}
+use borrow.Author.Needs.{needs}
+use Rattle.sign_table.proofs.sign_matrix.put_negated.Statement.{statement}
+use Rattle.sign_table.proofs.sign_matrix.put_negated.Tie as tie
+
+vanishes-requires : tie.Need-vanishes-requires
+vanishes-requires c κs = search needs
+
+returns : tie.Need-returns
+returns c = rw (sym (c .before .vanishes .ensures ∙ ap isZero (toZ-ofZ (c .before .before .before .before .fits .sum))) ∙ c .if1 .taken) (wrote-none, omega arith)
+
+sub-put : tie.Need-sub-put
+sub-put c = negation-fits (c .before .before .before .before .before .before .before .args .sum) (c .before .before .before .before .before .before .before .fits .sum) (c .before .before .before .before .before .before .before .pre .3)
+
+put-requires : tie.Need-put-requires
+put-requires c κs = ((rw (sym (c .before .before .before .before .vanishes .ensures ∙ ap isZero (toZ-ofZ (c .before .before .before .before .before .before .before .fits .sum))) ∙ c .before .before .before .if1 .left) at (c .before .before .before .before .before .before .before .pre .0)), c .before .before .before .before .before .before .before .pre .1, c .before .before .before .before .before .before .before .pre .2)
+
+add-result : tie.Need-add-result
+add-result c = search needs
+
+same-length : tie.Need-same-length
+same-length c = search needs
+
+same-length-2 : tie.Need-same-length-2
+same-length-2 c = search needs
+
+same-length-3 : tie.Need-same-length-3
+same-length-3 c = search needs
+
+returns-2 : tie.Need-returns-2
+returns-2 c = rw ((sym (c .before .before .before .before .before .before .before .before .before .before .vanishes .ensures ∙ ap isZero (toZ-ofZ (c .before .before .before .before .before .before .before .before .before .before .before .before .before .fits .sum))) ∙ c .before .before .before .before .before .before .before .before .before .if1 .left), ← negation-is (c .before .before .before .before .before .before .before .before .before .before .before .before .before .args .sum) (c .before .before .before .before .before .before .before .before .before .before .before .before .before .fits .sum) (c .before .before .before .before .before .before .before .before .before .before .before .before .before .pre .3)) (c .before .before .before .before .before .put .ensures, refl)
+
+pub put-negated-spec : {M : Type 1} → statement M
+put-negated-spec =
+    tie.close
+    (tie.spec
+    vanishes-requires
+    returns
+    sub-put
+    put-requires
+    add-result
+    same-length
+    same-length-2
+    same-length-3
+    returns-2)

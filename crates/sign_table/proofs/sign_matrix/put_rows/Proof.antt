@@ -1,0 +1,60 @@
+use Rattle.sign_table.proofs.Built.{RowsInv, rows-begin, rows-turn, rows-room, rows-done, room-on}
+use Rattle.tables.specs.Table.{tableOf}
+use Rattle.laws.specs.Lists.{elemZ}
+use lib.ListN.{length}
+use denote.Ref.{now}
+use native.Mathlib.Omega.{arith}
+use mathlib.Core.Path.{_≡_, refl, sym, _∙_}
+use Prim.Native.Nat.{suc, _-_}
+use borrow.Author.Needs.{needs}
+use Rattle.sign_table.proofs.sign_matrix.put_rows.Statement.{statement}
+use Rattle.sign_table.proofs.sign_matrix.put_rows.Tie as tie
+
+abbrev Inv-loop : tie.InvT-loop
+Inv-loop n count rows cols values c to-rows₀ to-cols₀ to-values₀ k₀ at₀ i₀ to-rows to-cols to-values k at i = RowsInv n (tableOf count rows cols values) (elemZ c) k at i to-rows₀ to-cols₀ to-values₀ to-rows to-cols to-values × (length to-rows ≡ length to-rows₀) × (length to-cols ≡ length to-cols₀) × (length to-values ≡ length to-values₀)
+
+abbrev μ-loop : tie.MeasureT-loop
+μ-loop n count rows cols values c to-rows₀ to-cols₀ to-values₀ k₀ at₀ i₀ to-rows to-cols to-values k at i = n - i
+
+loop-holds : tie.Need-loop-holds Inv-loop μ-loop
+loop-holds c = (rows-begin _ _ _, refl, refl, refl)
+
+put-whole-row-requires : tie.Need-put-whole-row-requires Inv-loop μ-loop
+put-whole-row-requires c κs = (c .before .before .before .before .before .before .before .before .before .pre .0, c .before .before .before .before .before .before .before .before .before .pre .1, c .before .before .before .before .before .before .before .before .before .pre .2, c .before .before .before .loop-test .taken, (c .before .before .before .before .loop .inv .0) .cursor, room-on (c .before .before .before .before .before .before .before .before .before .pre .3) (omega (arith, rows-room (c .before .before .before .before .before .before .before .before .before .args .n) (tableOf (c .before .before .before .before .before .before .before .before .before .args .count) (now (c .before .before .before .before .before .before .before .before .before .args .rows)) (now (c .before .before .before .before .before .before .before .before .before .args .cols)) (now (c .before .before .before .before .before .before .before .before .before .args .values))) (elemZ (now (c .before .before .before .before .before .before .before .before .before .args .c))) (c .before .before .before .before .loop .inv .0) (c .before .before .before .loop-test .taken))) (c .before .before .before .before .loop .inv .1) (c .before .before .before .before .loop .inv .2) (c .before .before .before .before .loop .inv .3))
+
+add-i : tie.Need-add-i Inv-loop μ-loop
+add-i c = search needs
+
+loop-less : tie.Need-loop-less Inv-loop μ-loop
+loop-less c = search needs
+
+loop-again : tie.Need-loop-again Inv-loop μ-loop
+loop-again c = (rows-turn (c .before .before .before .before .before .before .before .before .before .before .before .before .before .before .before .args .n) (tableOf (c .before .before .before .before .before .before .before .before .before .before .before .before .before .before .before .args .count) (now (c .before .before .before .before .before .before .before .before .before .before .before .before .before .before .before .args .rows)) (now (c .before .before .before .before .before .before .before .before .before .before .before .before .before .before .before .args .cols)) (now (c .before .before .before .before .before .before .before .before .before .before .before .before .before .before .before .args .values))) (elemZ (now (c .before .before .before .before .before .before .before .before .before .before .before .before .before .before .before .args .c))) (c .before .before .before .before .before .before .before .before .before .before .loop .inv .0) (c .before .before .before .before .before .before .before .before .before .loop-test .taken) (c .before .before .before .before .before .put-whole-row .ensures .0) (c .before .before .before .before .before .put-whole-row .ensures .1) (c .before .before .before .before .before .put-whole-row .ensures .2), omega (arith, c .before .before .before .before .before .before .before .before .before .before .loop .inv .1), omega (arith, c .before .before .before .before .before .before .before .before .before .before .loop .inv .2), omega (arith, c .before .before .before .before .before .before .before .before .before .before .loop .inv .3))
+
+same-length : tie.Need-same-length Inv-loop μ-loop
+same-length c = search needs
+
+same-length-2 : tie.Need-same-length-2 Inv-loop μ-loop
+same-length-2 c = search needs
+
+same-length-3 : tie.Need-same-length-3 Inv-loop μ-loop
+same-length-3 c = search needs
+
+returns : tie.Need-returns Inv-loop μ-loop
+returns c = rows-done (c .before .before .before .before .before .before .args .n) (tableOf (c .before .before .before .before .before .before .args .count) (now (c .before .before .before .before .before .before .args .rows)) (now (c .before .before .before .before .before .before .args .cols)) (now (c .before .before .before .before .before .before .args .values))) (elemZ (now (c .before .before .before .before .before .before .args .c))) (c .before .loop .inv .0) (c .loop-test .left)
+
+pub put-rows-spec : {M : Type 1} → statement M
+put-rows-spec =
+    tie.close
+    (tie.spec
+    Inv-loop
+    μ-loop
+    loop-holds
+    put-whole-row-requires
+    add-i
+    loop-less
+    loop-again
+    same-length
+    same-length-2
+    same-length-3
+    returns)

@@ -1,0 +1,54 @@
+use Rattle.sign_table.proofs.Built.{sum-back}
+use Rattle.sign_table.proofs.Built.{row-asks, room-less, room-on, sum-small, whole-wrote, whole-many, next-row}
+use Rattle.sign_table.proofs.Writing.{row-length-le}
+use Rattle.sign_table.proofs.Cursor.{row-start}
+use Rattle.sign_table.proofs.Bounds.{linear-small}
+use Rattle.tables.specs.Table.{tableOf}
+use Rattle.sign_table.specs.SignTable.{keptOf}
+use Rattle.laws.proofs.Integer.{held}
+use Rattle.laws.specs.Lists.{elemZ}
+use lib.ListN.{length}
+use denote.Ref.{now}
+use native.Mathlib.Omega.{arith}
+use mathlib.Core.Path.{_≡_, refl, sym, _∙_}
+use Prim.Native.Nat.{suc, _-_}
+use borrow.Author.Needs.{needs}
+use borrow.Author.Needs.{needs}
+use Rattle.sign_table.proofs.sign_matrix.put_whole_row.Statement.{statement}
+use Rattle.sign_table.proofs.sign_matrix.put_whole_row.Tie as tie
+
+row-sum-requires : tie.Need-row-sum-requires
+row-sum-requires c κs = (c .before .before .before .before .pre .0 .rows-there, c .before .before .before .before .pre .0 .values-there, omega (arith, c .before .before .before .before .pre .1), omega (arith, c .before .before .before .before .pre .2 .small), linear-small (c .before .before .before .before .pre .2) (c .before .before .before .before .args .i) (c .before .before .before .before .pre .3), row-start (c .before .before .before .before .pre .4), row-asks (c .before .before .before .before .pre .4))
+
+put-row-requires : tie.Need-put-row-requires
+put-row-requires c κs = (c .before .before .before .before .before .before .before .before .before .pre .0, c .before .before .before .before .before .before .before .before .before .pre .1, c .before .before .before .before .before .before .before .before .before .pre .2, c .before .before .before .before .before .before .before .before .before .pre .3, c .before .before .before .before .before .before .before .before .before .pre .4, room-less (c .before .before .before .before .before .before .before .before .before .pre .5) (row-length-le (keptOf (c .before .before .before .before .before .before .before .before .before .args .n) (tableOf (c .before .before .before .before .before .before .before .before .before .args .count) (now (c .before .before .before .before .before .before .before .before .before .args .rows)) (now (c .before .before .before .before .before .before .before .before .before .args .cols)) (now (c .before .before .before .before .before .before .before .before .before .args .values))) (elemZ (now (c .before .before .before .before .before .before .before .before .before .args .c)))) (c .before .before .before .before .before .before .before .before .before .args .i) (c .before .before .before .before .before .before .before .before .before .args .n) (suc (c .before .before .before .before .before .before .before .before .before .args .n)) (omega arith)))
+
+put-negated-requires : tie.Need-put-negated-requires
+put-negated-requires c κs = rw (sum-back (c .before .before .before .before .before .before .before .before .before .before .before .before .before .before .before .before .before .before .pre .2) (c .before .before .before .before .before .before .before .before .before .before .before .before .before .before .before .before .before .before .pre .3) (c .before .before .before .before .before .before .before .before .before .before .before .before .before .row-sum .ensures)) (room-on (c .before .before .before .before .before .before .before .before .before .before .before .before .before .before .before .before .before .before .pre .5) (omega (arith, whole-many (c .before .before .before .before .before .before .before .before .before .before .before .before .before .before .before .before .before .before .pre .2) (c .before .before .before .before .before .before .before .before .before .before .before .before .before .before .before .before .before .before .pre .3) (c .before .before .before .before .before .before .before .before .before .before .before .before .before .row-sum .ensures) (c .before .before .before .before .before .before .before .before .before .before .before .before .before .before .before .before .before .before .args .len) (c .before .before .before .before .before .before .before .before .put-row .ensures .1))) (omega arith) (omega arith) (omega arith), omega (arith, c .before .before .before .before .before .before .before .before .before .before .before .before .before .before .before .before .before .before .pre .2 .low), omega (arith, c .before .before .before .before .before .before .before .before .before .before .before .before .before .before .before .before .before .before .pre .2 .low), sum-small (c .before .before .before .before .before .before .before .before .before .before .before .before .before .before .before .before .before .before .pre .2) (c .before .before .before .before .before .before .before .before .before .before .before .before .before .before .before .before .before .before .pre .3) (c .before .before .before .before .before .before .before .before .before .before .before .before .before .row-sum .ensures))
+
+same-length : tie.Need-same-length
+same-length c = search needs
+
+same-length-2 : tie.Need-same-length-2
+same-length-2 c = search needs
+
+same-length-3 : tie.Need-same-length-3
+same-length-3 c = search needs
+
+returns : tie.Need-returns
+returns c =
+    let back = sum-back (c .before .before .before .before .before .before .before .before .before .before .before .before .before .before .before .before .before .before .before .before .before .before .before .before .pre .2) (c .before .before .before .before .before .before .before .before .before .before .before .before .before .before .before .before .before .before .before .before .before .before .before .before .pre .3) (c .before .before .before .before .before .before .before .before .before .before .before .before .before .before .before .before .before .before .before .row-sum .ensures) in
+    let edge = (rw back at (c .before .before .before .before .before .put-negated .ensures)) in
+    (whole-wrote (c .before .before .before .before .before .before .before .before .before .before .before .before .before .before .before .before .before .before .before .before .before .before .before .before .pre .2) (c .before .before .before .before .before .before .before .before .before .before .before .before .before .before .before .before .before .before .before .before .before .before .before .before .pre .3) (c .before .before .before .before .before .before .before .before .before .before .before .before .before .before .before .before .before .before .before .row-sum .ensures) (c .before .before .before .before .before .before .before .before .before .before .before .before .before .before .before .before .before .before .before .before .before .before .before .before .args .len) (c .before .before .before .before .before .before .before .before .before .before .before .before .before .before .put-row .ensures .1) (c .before .before .before .before .before .before .before .before .before .before .before .before .before .before .put-row .ensures .0) (edge .0), edge .1 ∙ whole-many (c .before .before .before .before .before .before .before .before .before .before .before .before .before .before .before .before .before .before .before .before .before .before .before .before .pre .2) (c .before .before .before .before .before .before .before .before .before .before .before .before .before .before .before .before .before .before .before .before .before .before .before .before .pre .3) (c .before .before .before .before .before .before .before .before .before .before .before .before .before .before .before .before .before .before .before .row-sum .ensures) (c .before .before .before .before .before .before .before .before .before .before .before .before .before .before .before .before .before .before .before .before .before .before .before .before .args .len) (c .before .before .before .before .before .before .before .before .before .before .before .before .before .before .put-row .ensures .1), next-row (c .before .before .before .before .before .before .before .before .before .before .before .before .before .before .before .before .before .before .before .before .before .before .before .before .pre .2) (c .before .before .before .before .before .before .before .before .before .before .before .before .before .before .before .before .before .before .before .before .before .before .before .before .pre .3) (c .before .before .before .before .before .before .before .before .before .before .before .before .before .before .before .before .before .before .before .row-sum .ensures))
+
+pub put-whole-row-spec : {M : Type 1} → statement M
+put-whole-row-spec =
+    tie.close
+    (tie.spec
+    row-sum-requires
+    put-row-requires
+    put-negated-requires
+    same-length
+    same-length-2
+    same-length-3
+    returns)

@@ -1,0 +1,2 @@
+pub mod SignTable
+pub mod Walk
