@@ -74,12 +74,12 @@ lifted = refl
 -- that the lifted slice isn't tested; an index twice in the map; a fixed index not below the size
 lift-numbers : List ℕ
 lift-numbers =
-    liftNumber 4 3 (2 ∷ []) (0 ∷ 0 ∷ []) (one ∷ two ∷ []) (nine ∷ []) (one ∷ one ∷ one ∷ [])
-    ∷ liftNumber 4 3 (2 ∷ []) (0 ∷ 0 ∷ []) (one ∷ two ∷ []) [] (one ∷ one ∷ one ∷ [])
-    ∷ liftNumber 4 3 (2 ∷ []) (0 ∷ 0 ∷ []) (one ∷ two ∷ []) (nine ∷ []) (one ∷ one ∷ [])
-    ∷ liftNumber 4 5 (2 ∷ []) (0 ∷ 0 ∷ []) (one ∷ two ∷ []) (nine ∷ []) []
-    ∷ liftNumber 4 3 (2 ∷ 2 ∷ []) (0 ∷ 0 ∷ []) (one ∷ two ∷ []) (nine ∷ nine ∷ []) (one ∷ one ∷ one ∷ [])
-    ∷ liftNumber 4 3 (2 ∷ []) (0 ∷ 3 ∷ []) (one ∷ two ∷ []) (nine ∷ []) (one ∷ one ∷ one ∷ [])
+    liftNumber 4 3 (2 ∷ []) (0 ∷ 0 ∷ []) 2 1 3
+    ∷ liftNumber 4 3 (2 ∷ []) (0 ∷ 0 ∷ []) 2 0 3
+    ∷ liftNumber 4 3 (2 ∷ []) (0 ∷ 0 ∷ []) 2 1 2
+    ∷ liftNumber 4 5 (2 ∷ []) (0 ∷ 0 ∷ []) 2 1 0
+    ∷ liftNumber 4 3 (2 ∷ 2 ∷ []) (0 ∷ 0 ∷ []) 2 2 3
+    ∷ liftNumber 4 3 (2 ∷ []) (0 ∷ 3 ∷ []) 2 1 3
     ∷ []
 
 lift-numbers-are : lift-numbers ≡ (0 ∷ 31 ∷ 31 ∷ 20 ∷ 20 ∷ 20 ∷ [])

@@ -1,1 +1,4 @@
+pub mod Put
+pub mod Distinct
+pub mod Lifting
 pub mod Examples

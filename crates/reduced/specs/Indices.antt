@@ -1,5 +1,6 @@
 -- The map from new indices to original ones, and the fixed indices (01, "Reduced" and number 20).
-use Prim.Native.Nat.{ℕ}
+use Prim.Native.Nat.{ℕ, _<_}
+use mathlib.Core.Path.{_≡_}
 use mathlib.Core.Bool.{Bool}
 use mathlib.Core.List.{List, [], _∷_}
 use lib.ListN.{length, set}
@@ -23,3 +24,10 @@ indexRefused most size map fixed = anyOf (ltb most size ∷ outside size map ∷
 -- value 0, .., value (n - 1) put at index 0, .., index (n - 1) of the list, in this order: a later one overwrites an earlier one
 abbrev pub putEach : {A : Type 0} → (ℕ → ℕ) → (ℕ → A) → ℕ → List A → List A
 putEach index value n l = upTo (λ j xs. set xs (index j) (value j)) n l
+
+-- what is asked of the indices: each below n, none twice
+pub record Within (n : ℕ) (indices : List ℕ) : Type 0 where
+  pub below : (j : ℕ) → j < length indices → elem indices j < n
+
+pub record Once (indices : List ℕ) : Type 0 where
+  pub same : (i j : ℕ) → i < length indices → j < length indices → elem indices i ≡ elem indices j → i ≡ j
