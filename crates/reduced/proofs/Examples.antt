@@ -14,7 +14,7 @@ use Rattle.tables.specs.Stored.{rowPlaces, places, valuesOf}
 use Rattle.tables.specs.Check.{before, orderRefusal}
 use Rattle.reduced.specs.Indices.{outside, twice, indexRefused}
 use Rattle.reduced.specs.Lift.{liftedOf, liftShort, liftNumber}
-use Rattle.reduced.specs.Submatrix.{Slices, slicesOf, tableIn, reducedPlaces, valueIn, entriesShort, submatrixNumber}
+use Rattle.reduced.specs.Submatrix.{Slices, slicesOf, tableIn, reducedPlaces, valueIn, entriesShort, inputNumber, submatrixNumber}
 
 -- four entries of size 3, not symmetric: (0, 0, 5), (0, 2, −1), (1, 1, 7), (2, 0, 0)
 four : Slices
@@ -49,7 +49,7 @@ numbers =
     ∷ []
 
 numbers-are : numbers ≡ (0 ∷ 31 ∷ 13 ∷ 14 ∷ 20 ∷ 20 ∷ 20 ∷ 20 ∷ [])
-unfolding numbers four submatrixNumber entriesShort indexRefused outside twice orderRefusal firstOf before first orElse anyOf short anyBelow
+unfolding numbers four submatrixNumber inputNumber entriesShort indexRefused outside twice orderRefusal firstOf before first orElse anyOf short anyBelow
 numbers-are = refl
 
 -- 1.0, 2.0, 3.0, 9.0

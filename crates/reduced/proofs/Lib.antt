@@ -3,4 +3,6 @@ pub mod Distinct
 pub mod Lifting
 pub mod Scatter
 pub mod Pigeonhole
+pub mod Entries
+pub mod Numbers
 pub mod Examples
