@@ -5,4 +5,5 @@ pub mod Scatter
 pub mod Pigeonhole
 pub mod Entries
 pub mod Numbers
+pub mod Theorems
 pub mod Examples

@@ -17,7 +17,7 @@ use Rattle.laws.proofs.MapFirst.{length-fill, getD-mapFirst}
 use Rattle.reduced.specs.Limits.{mostSize}
 use Rattle.reduced.specs.Indices.{indexRefused, putEach, Within, Once}
 use Rattle.reduced.specs.Lift.{zero64, elemF, liftedOf, liftShort, liftNumber, Lifts}
-use Rattle.reduced.proofs.Put.{Last, found, none, length-put, put-last}
+use Rattle.reduced.proofs.Put.{Last, found, none, length-put, put-last, put-beyond, beyond-mapFirst}
 use Rattle.reduced.proofs.Distinct.{Mapped, index-mapped, mapped-index}
 
 -- ---- what the lengths are where none is short
@@ -95,6 +95,19 @@ module _ {size : ℕ} {map fixed : List ℕ} {values solution lifted : List Floa
     unfolding liftedOf
     lifts-done a b d = record { numbered = sym z ∙ is-number; refused = λ n. absurd (n refl); accepted = λ _. rw (d, b, a) }
 
+-- ---- the theorem: nothing is refused exactly where the slices are long enough and the indices are as they should be
+
+module _ {most size : ℕ} {map fixed : List ℕ} {values solution lifted : ℕ} where
+  pub lift-accepted : liftNumber most size map fixed values solution lifted ≡ 0 → LiftLent most size map fixed values solution lifted × Mapped most size map fixed
+  unfolding liftNumber
+  lift-accepted e =
+      (lift-lent (clear _ 30 (first-head (31 if liftShort most size map fixed values solution lifted) _ e)),
+      index-mapped (clear _ 19 (first-head (20 if indexRefused most size map fixed) [] (first-rest (31 if liftShort most size map fixed values solution lifted) _ e))))
+
+  pub lift-passes : LiftLent most size map fixed values solution lifted → Mapped most size map fixed → liftNumber most size map fixed values solution lifted ≡ 0
+  unfolding liftNumber
+  lift-passes l m = first-skip 31 _ _ (lent-lift (m .small) l) ∙ first-skip 20 _ _ (mapped-index m) ∙ first-end
+
 -- ---- the theorem: a place of the lifted slice, where nothing is refused
 
 -- what stands at k: the solution of the new index that is mapped to k, else the last value that is fixed at k, else 0.0
@@ -106,14 +119,8 @@ pub data LiftedAt (map fixed : List ℕ) (values solution : List Float) (k : ℕ
 
 module _ {size : ℕ} {map fixed : List ℕ} {values solution lifted : List Float} {number : ℕ} {lifted′ : List Float}
     (call : Lifts size map fixed values solution lifted number lifted′) (ok : number ≡ 0) where
-  accepted-mapped : Mapped mostSize size map fixed
-  unfolding liftNumber
-  accepted-mapped =
-      index-mapped (clear _ 19 (first-head (20 if indexRefused mostSize size map fixed) [] (first-rest (31 if liftShort mostSize size map fixed (length values) (length solution) (length lifted)) _ (sym (call .numbered) ∙ ok))))
-
-  accepted-lent : LiftLent mostSize size map fixed (length values) (length solution) (length lifted)
-  unfolding liftNumber
-  accepted-lent = lift-lent (clear _ 30 (first-head (31 if liftShort mostSize size map fixed (length values) (length solution) (length lifted)) _ (sym (call .numbered) ∙ ok)))
+  accepted : LiftLent mostSize size map fixed (length values) (length solution) (length lifted) × Mapped mostSize size map fixed
+  accepted = lift-accepted (sym (call .numbered) ∙ ok)
 
   fixed′ : List Float
   fixed′ = putEach (elem fixed) (elemF values) (length fixed) (fill (λ _. zero64) size lifted)
@@ -128,10 +135,19 @@ module _ {size : ℕ} {map fixed : List ℕ} {values solution lifted : List Floa
       (getD-mapFirst (λ _ _. zero64) size lifted k nan h room))
     where
       room : k < length lifted
-      room = omega (arith, accepted-lent .lifted-there (accepted-mapped .small))
+      room = omega (arith, accepted .0 .lifted-there (accepted .1 .small))
 
       go : {x y d : Float} → Last (elem map) (elemF solution) (length map) k y x → Last (elem fixed) (elemF values) (length fixed) k d y → d ≡ zero64
           → LiftedAt map fixed values solution k x
       go (found j b e rest) l z = by-map j b e
       go (none out) (found j b e rest) z = by-fixed j out b e rest
       go (none out) (none free) z = rw z (by-none out free)
+
+  -- a place from the size on is as it was
+  pub lifted-tail : (k : ℕ) → size ≤ k → elemF lifted′ k ≡ elemF lifted k
+  unfolding liftedOf fixed′
+  lifted-tail k h =
+      rw (call .accepted ok)
+      (put-beyond (elem map) (elemF solution) (length map) fixed′ k nan (λ i b. omega (arith, accepted .1 .map-within .below i b))
+      ∙ put-beyond (elem fixed) (elemF values) (length fixed) (fill (λ _. zero64) size lifted) k nan (λ i b. omega (arith, accepted .1 .fixed-within .below i b))
+      ∙ beyond-mapFirst (λ _ _. zero64) size lifted k nan h)

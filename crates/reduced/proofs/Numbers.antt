@@ -164,3 +164,30 @@ judged-asks {from = from} {to = to} j z =
       input-reducible i,
       record { rows-room = omega (arith, l .rows-there); cols-room = omega (arith, l .cols-there); values-room = omega (arith, l .values-there) },
     )
+
+-- ---- the theorem: nothing is refused exactly where the slices are long enough and the input is as it should be
+
+pub record Acceptable (mostSize mostEntries size count : ℕ) (from : Slices) (map fixed : List ℕ) (to : Slices) : Type 0 where
+  pub from-lent : Lent count (from .rows) (from .cols) (from .values)
+  pub to-lent : Lent count (to .rows) (to .cols) (to .values)
+  pub input : Input mostSize mostEntries size count from map fixed
+
+module _ {mostSize mostEntries size count : ℕ} {from : Slices} {map fixed : List ℕ} {to : Slices} where
+  pub submatrix-accepted : submatrixNumber mostSize mostEntries size count from map fixed to ≡ 0 → Acceptable mostSize mostEntries size count from map fixed to
+  unfolding submatrixNumber
+  submatrix-accepted e =
+      let e₁ = first-rest (31 if slicesShort mostEntries count from) _ e in
+      let e₂ = first-rest (31 if slicesShort mostEntries count to) _ e₁ in
+      let i = input-accepted {from = from} (first-head (inputNumber mostSize mostEntries size count (from .rows) (from .cols) map fixed) [] e₂) in
+      record {
+        from-lent = slices-lent {s = from} (clear _ 30 (first-head (31 if slicesShort mostEntries count from) _ e)) (i .few);
+        to-lent = slices-lent {s = to} (clear _ 30 (first-head (31 if slicesShort mostEntries count to) _ e₁)) (i .few);
+        input = i;
+      }
+
+  pub submatrix-passes : Acceptable mostSize mostEntries size count from map fixed to → submatrixNumber mostSize mostEntries size count from map fixed to ≡ 0
+  unfolding submatrixNumber
+  submatrix-passes a =
+      first-skip 31 _ _ (lent-slices {s = from} (a .input .few) (a .from-lent))
+      ∙ first-skip 31 _ _ (lent-slices {s = to} (a .input .few) (a .to-lent))
+      ∙ first-next _ _ (input-passes (a .input)) ∙ first-end

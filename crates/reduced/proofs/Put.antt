@@ -1,7 +1,7 @@
 -- Values put at their indices one after the other: what stands at a place afterwards.
 -- Assumes nothing.
 use mathlib.Core.Path.{_≡_, refl, sym, ap, _∙_}
-use mathlib.Core.List.{List}
+use mathlib.Core.List.{List, [], _∷_}
 use Prim.Native.Nat.{ℕ, zero, suc, _+_, _<_, _≤_}
 use native.Mathlib.Omega.{arith}
 use native.Mathlib.Numerals.{add-one}
@@ -9,6 +9,7 @@ use native.Mathlib.Decide.{ℕ-discrete}
 use lib.ListN.{length, getD, set, length-set}
 use lib.Seq.{getD-set-same, getD-set-other}
 use Rattle.laws.specs.Turns.{upTo}
+use Rattle.laws.specs.Rows.{mapFirst}
 use Rattle.reduced.specs.Indices.{putEach}
 
 -- x is the value of the last of the first n indices that is k, or d where none is
@@ -55,3 +56,18 @@ module _ {A : Type 0} (index : ℕ → ℕ) (value : ℕ → A) where
           rw (e, getD-set-same (putEach index value n l) k (value n) d (rw (length-put n l) h)) (found n (omega arith) e (λ i a b s. absurd (omega arith)))
       go (no e) before =
           rw (getD-set-other (putEach index value n l) (index n) k (value n) d (λ s. e (sym s))) (later n k (getD l k d) _ e before)
+
+  -- a place that no index is stays
+  pub put-beyond : (n : ℕ) (l : List A) (k : ℕ) (d : A) → ((i : ℕ) → i < n → index i < k) → getD (putEach index value n l) k d ≡ getD l k d
+  unfolding upTo
+  put-beyond zero l k d free = refl
+  put-beyond (suc n) l k d free =
+      getD-set-other (putEach index value n l) (index n) k (value n) d (λ e. omega (arith, free n (omega arith))) ∙ put-beyond n l k d (λ i h. free i (omega arith))
+
+-- nor does a list that is written from the front change behind
+pub beyond-mapFirst : {A : Type 0} (f : ℕ → A → A) (n : ℕ) (xs : List A) (k : ℕ) (d : A) → n ≤ k → getD (mapFirst f n xs) k d ≡ getD xs k d
+unfolding mapFirst
+beyond-mapFirst f zero xs k d h = refl
+beyond-mapFirst f (suc n) [] k d h = refl
+beyond-mapFirst f (suc n) (x ∷ xs) zero d h = absurd (omega arith)
+beyond-mapFirst f (suc n) (x ∷ xs) (suc k) d h = beyond-mapFirst (λ j. f (suc j)) n xs k d (omega arith)
