@@ -11,4 +11,3 @@ pub mod Made
 -- refusals
 pub mod Any
 pub mod Refusal
-pub mod Short

@@ -4,7 +4,7 @@ use Rattle.run_record.proofs.lengths.choice_short.Tie as tie
 use mathlib.Core.Path.{_≡_, sym, _∙_}
 use borrow.Author.Tests.{lt-ltb, le-ltb}
 use Rattle.laws.proofs.Any.{any-here, any-skip, any-none, any-last}
-use Rattle.laws.proofs.Short.{untested, tests}
+use Rattle.run_record.proofs.Short.{untested, tests}
 use Rattle.run_record.specs.Numbers.{choiceShort}
 
 returns : tie.Need-returns

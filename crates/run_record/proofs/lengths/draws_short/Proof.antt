@@ -9,7 +9,7 @@ use native.Mathlib.Nat.{mul-le-mul}
 use borrow.Author.Tests.{eq-eqb, ne-eqb, lt-ltb, le-ltb}
 use Rattle.run_record.specs.Numbers.{drawsRefused, drawsShort}
 use Rattle.laws.proofs.Any.{any-here, any-skip, any-none}
-use Rattle.laws.proofs.Short.{untested, tests}
+use Rattle.run_record.proofs.Short.{untested, tests}
 
 some-draws : (draws : ℕ) → (draws ≡ 0 → ⊥) → draws ≤ 1000 → drawsRefused draws ≡ false
 unfolding drawsRefused

@@ -7,7 +7,7 @@ use native.Mathlib.Omega.{arith}
 use native.Mathlib.Nat.{mul-le-mul}
 use borrow.Author.Tests.{lt-ltb, le-ltb}
 use Rattle.laws.proofs.Any.{any-here, any-skip, any-none}
-use Rattle.laws.proofs.Short.{untested, tests}
+use Rattle.run_record.proofs.Short.{untested, tests}
 use Rattle.run_record.specs.Numbers.{openFactorShort}
 use Rattle.run_record.proofs.Ranked.{resolved-small}
 

@@ -6,7 +6,7 @@ use Prim.Native.Nat.{_≤_, _+_}
 use native.Mathlib.Omega.{arith}
 use borrow.Author.Tests.{lt-ltb, le-ltb}
 use Rattle.laws.proofs.Any.{any-here, any-skip, any-none}
-use Rattle.laws.proofs.Short.{untested, tests}
+use Rattle.run_record.proofs.Short.{untested, tests}
 use Rattle.run_record.specs.Numbers.{startShort}
 use Rattle.run_record.proofs.Ranked.{resolved-small}
 
