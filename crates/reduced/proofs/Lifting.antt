@@ -100,9 +100,10 @@ module _ {size : ℕ} {map fixed : List ℕ} {values solution lifted : List Floa
 module _ {most size : ℕ} {map fixed : List ℕ} {values solution lifted : ℕ} where
   pub lift-accepted : liftNumber most size map fixed values solution lifted ≡ 0 → LiftLent most size map fixed values solution lifted × Mapped most size map fixed
   unfolding liftNumber
-  lift-accepted e =
-      (lift-lent (clear _ 30 (first-head (31 if liftShort most size map fixed values solution lifted) _ e)),
-      index-mapped (clear _ 19 (first-head (20 if indexRefused most size map fixed) [] (first-rest (31 if liftShort most size map fixed values solution lifted) _ e))))
+  lift-accepted e = (
+    lift-lent (clear _ 30 (first-head (31 if liftShort most size map fixed values solution lifted) _ e)),
+    index-mapped (clear _ 19 (first-head (20 if indexRefused most size map fixed) [] (first-rest (31 if liftShort most size map fixed values solution lifted) _ e))),
+  )
 
   pub lift-passes : LiftLent most size map fixed values solution lifted → Mapped most size map fixed → liftNumber most size map fixed values solution lifted ≡ 0
   unfolding liftNumber
@@ -114,7 +115,7 @@ module _ {most size : ℕ} {map fixed : List ℕ} {values solution lifted : ℕ}
 pub data LiftedAt (map fixed : List ℕ) (values solution : List Float) (k : ℕ) : Float → Type 0 where
   by-map : (j : ℕ) → j < length map → elem map j ≡ k → LiftedAt map fixed values solution k (elemF solution j)
   by-fixed : (j : ℕ) → ((i : ℕ) → i < length map → elem map i ≡ k → ⊥) → j < length fixed → elem fixed j ≡ k
-    → ((i : ℕ) → j < i → i < length fixed → elem fixed i ≡ k → ⊥) → LiftedAt map fixed values solution k (elemF values j)
+      → ((i : ℕ) → j < i → i < length fixed → elem fixed i ≡ k → ⊥) → LiftedAt map fixed values solution k (elemF values j)
   by-none : ((i : ℕ) → i < length map → elem map i ≡ k → ⊥) → ((i : ℕ) → i < length fixed → elem fixed i ≡ k → ⊥) → LiftedAt map fixed values solution k zero64
 
 module _ {size : ℕ} {map fixed : List ℕ} {values solution lifted : List Float} {number : ℕ} {lifted′ : List Float}
