@@ -1,21 +1,21 @@
 -- `lift_solution`, return by return; what each place of the lifted slice holds; and when nothing is refused.
 -- Assumes nothing.
-use mathlib.Core.Path.{_≡_, refl, sym, ap, _∙_}
+use mathlib.Core.Path.{_≡_, refl, sym, _∙_}
 use mathlib.Core.Bool.{Bool, true, false}
 use mathlib.Core.List.{List, [], _∷_}
-use Prim.Native.Nat.{ℕ, zero, suc, _+_, _<_, _≤_}
+use Prim.Native.Nat.{ℕ, _<_, _≤_}
 use native.Mathlib.Omega.{arith}
-use lib.ListN.{length, getD}
+use lib.ListN.{length}
 use lib.Dec.{ltb}
 use lib.Ieee.{Float, nan}
 use borrow.Author.Tests.{ltb-false, le-ltb}
 use Rattle.laws.specs.Lists.{elem, fill}
-use Rattle.laws.specs.Refusal.{_if_, first, anyOf, short}
-use Rattle.laws.proofs.Refusal.{clear, unrefused, first-here, first-skip, first-next, first-found, first-end, first-head, first-rest}
+use Rattle.laws.specs.Refusal.{_if_, first, short}
+use Rattle.laws.proofs.Refusal.{clear, first-here, first-skip, first-next, first-found, first-end, first-head, first-rest}
 use Rattle.laws.proofs.Any.{any-head, any-rest, any-not, any-none}
 use Rattle.laws.proofs.MapFirst.{length-fill, getD-mapFirst}
 use Rattle.reduced.specs.Limits.{mostSize}
-use Rattle.reduced.specs.Indices.{indexRefused, putEach, Within, Once}
+use Rattle.reduced.specs.Indices.{indexRefused, putEach, Within}
 use Rattle.reduced.specs.Lift.{zero64, elemF, liftedOf, liftShort, liftNumber, Lifts}
 use Rattle.reduced.proofs.Put.{Last, found, none, length-put, put-last, put-beyond, beyond-mapFirst}
 use Rattle.reduced.proofs.Distinct.{Mapped, index-mapped, mapped-index}

@@ -3,7 +3,6 @@ use Rattle.reduced.proofs.lift_solution.lift_solution.Statement.{statem
 use Rattle.reduced.proofs.lift_solution.lift_solution.Tie as tie
 use Rattle.reduced.proofs.Lifting.{lifts-short, judged, lifts-index, lift-size, lift-fixed, lift-map, lifts-done}
 use denote.Ref.{now}
-use native.Mathlib.Omega.{arith}
 use mathlib.Core.Path.{_∙_}
 
 lift-short-requires : tie.Need-lift-short-requires
