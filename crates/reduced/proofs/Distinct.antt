@@ -1,21 +1,19 @@
 -- Indices of which none is outside and none twice: how the code finds it, and what it gives.
 -- Assumes nothing.
-use mathlib.Core.Path.{_≡_, refl, sym, ap, _∙_}
+use mathlib.Core.Path.{_≡_, refl, sym}
 use mathlib.Core.Bool.{Bool, true, false}
-use mathlib.Core.List.{List, [], _∷_}
-use mathlib.Core.Logic.{_⊎_, inl, inr}
-use Prim.Native.Nat.{ℕ, zero, suc, _+_, _<_, _≤_}
+use mathlib.Core.List.{List}
+use Prim.Native.Nat.{ℕ, _+_, _<_, _≤_}
 use native.Mathlib.Omega.{arith}
 use native.Mathlib.Numerals.{add-one}
-use native.Mathlib.Decide.{ℕ-discrete, decLt}
-use lib.ListN.{length, getD, set, replicate, length-replicate, getD-replicate}
+use native.Mathlib.Decide.{decLt}
+use lib.ListN.{length, getD, replicate, length-replicate, getD-replicate}
 use lib.Dec.{eqb, leb, ltb}
-use borrow.Author.Tests.{eq-eqb, ne-eqb, eqb-true, eqb-false, ltb-false, leb-false, lt-leb, le-leb, le-ltb}
+use borrow.Author.Tests.{eq-eqb, ne-eqb, eqb-false, ltb-false, leb-false, lt-leb, le-leb, le-ltb}
 use Rattle.laws.specs.Lists.{elem, anyBelow}
-use Rattle.laws.specs.Refusal.{anyOf}
 use Rattle.laws.proofs.Any.{below-none, below-at, below-false, any-head, any-rest, any-not, any-none}
 use Rattle.reduced.specs.Indices.{outside, twice, indexRefused, putEach, Within, Once}
-use Rattle.reduced.proofs.Put.{Last, found, none, length-put, put-last}
+use Rattle.reduced.proofs.Put.{Last, found, none, put-last}
 
 unequal : true ≡ false → ⊥
 unequal e = let z : _≡_ {A = ℕ} 0 1 = cc in omega arith

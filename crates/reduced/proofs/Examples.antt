@@ -1,15 +1,15 @@
 -- The definitions, computed on small tables.
 use mathlib.Core.Path.{_≡_, refl}
 use mathlib.Core.List.{List, [], _∷_}
-use Prim.Native.Nat.{ℕ, _^_}
-use lib.IntN.{ℤ, pos, negsuc}
+use Prim.Native.Nat.{ℕ}
+use lib.IntN.{pos, negsuc}
 use lib.Ieee.{Float, binary64, ofBits}
 use Rattle.laws.specs.Sum.{sum}
 use Rattle.laws.specs.Lists.{anyBelow}
 use Rattle.laws.specs.Rows.{mapFirst}
 use Rattle.laws.specs.Turns.{upTo}
 use Rattle.laws.specs.Refusal.{orElse, first, firstOf, anyOf, short}
-use Rattle.tables.specs.Table.{Table, tableOf, valueAt, storedAt}
+use Rattle.tables.specs.Table.{valueAt, storedAt}
 use Rattle.tables.specs.Stored.{rowPlaces, places, valuesOf}
 use Rattle.tables.specs.Check.{before, orderRefusal}
 use Rattle.reduced.specs.Indices.{outside, twice, indexRefused}

@@ -1,21 +1,21 @@
 -- `lift_solution`, return by return; what each place of the lifted slice holds; and when nothing is refused.
 -- Assumes nothing.
-use mathlib.Core.Path.{_≡_, refl, sym, ap, _∙_}
+use mathlib.Core.Path.{_≡_, refl, sym, _∙_}
 use mathlib.Core.Bool.{Bool, true, false}
 use mathlib.Core.List.{List, [], _∷_}
-use Prim.Native.Nat.{ℕ, zero, suc, _+_, _<_, _≤_}
+use Prim.Native.Nat.{ℕ, _<_, _≤_}
 use native.Mathlib.Omega.{arith}
-use lib.ListN.{length, getD}
+use lib.ListN.{length}
 use lib.Dec.{ltb}
 use lib.Ieee.{Float, nan}
 use borrow.Author.Tests.{ltb-false, le-ltb}
 use Rattle.laws.specs.Lists.{elem, fill}
-use Rattle.laws.specs.Refusal.{_if_, first, anyOf, short}
-use Rattle.laws.proofs.Refusal.{clear, unrefused, first-here, first-skip, first-next, first-found, first-end, first-head, first-rest}
+use Rattle.laws.specs.Refusal.{_if_, first, short}
+use Rattle.laws.proofs.Refusal.{clear, first-here, first-skip, first-next, first-found, first-end, first-head, first-rest}
 use Rattle.laws.proofs.Any.{any-head, any-rest, any-not, any-none}
 use Rattle.laws.proofs.MapFirst.{length-fill, getD-mapFirst}
 use Rattle.reduced.specs.Limits.{mostSize}
-use Rattle.reduced.specs.Indices.{indexRefused, putEach, Within, Once}
+use Rattle.reduced.specs.Indices.{indexRefused, putEach, Within}
 use Rattle.reduced.specs.Lift.{zero64, elemF, liftedOf, liftShort, liftNumber, Lifts}
 use Rattle.reduced.proofs.Put.{Last, found, none, length-put, put-last, put-beyond, beyond-mapFirst}
 use Rattle.reduced.proofs.Distinct.{Mapped, index-mapped, mapped-index}
@@ -100,9 +100,10 @@ module _ {size : ℕ} {map fixed : List ℕ} {values solution lifted : List Floa
 module _ {most size : ℕ} {map fixed : List ℕ} {values solution lifted : ℕ} where
   pub lift-accepted : liftNumber most size map fixed values solution lifted ≡ 0 → LiftLent most size map fixed values solution lifted × Mapped most size map fixed
   unfolding liftNumber
-  lift-accepted e =
-      (lift-lent (clear _ 30 (first-head (31 if liftShort most size map fixed values solution lifted) _ e)),
-      index-mapped (clear _ 19 (first-head (20 if indexRefused most size map fixed) [] (first-rest (31 if liftShort most size map fixed values solution lifted) _ e))))
+  lift-accepted e = (
+    lift-lent (clear _ 30 (first-head (31 if liftShort most size map fixed values solution lifted) _ e)),
+    index-mapped (clear _ 19 (first-head (20 if indexRefused most size map fixed) [] (first-rest (31 if liftShort most size map fixed values solution lifted) _ e))),
+  )
 
   pub lift-passes : LiftLent most size map fixed values solution lifted → Mapped most size map fixed → liftNumber most size map fixed values solution lifted ≡ 0
   unfolding liftNumber
@@ -114,7 +115,7 @@ module _ {most size : ℕ} {map fixed : List ℕ} {values solution lifted : ℕ}
 pub data LiftedAt (map fixed : List ℕ) (values solution : List Float) (k : ℕ) : Float → Type 0 where
   by-map : (j : ℕ) → j < length map → elem map j ≡ k → LiftedAt map fixed values solution k (elemF solution j)
   by-fixed : (j : ℕ) → ((i : ℕ) → i < length map → elem map i ≡ k → ⊥) → j < length fixed → elem fixed j ≡ k
-    → ((i : ℕ) → j < i → i < length fixed → elem fixed i ≡ k → ⊥) → LiftedAt map fixed values solution k (elemF values j)
+      → ((i : ℕ) → j < i → i < length fixed → elem fixed i ≡ k → ⊥) → LiftedAt map fixed values solution k (elemF values j)
   by-none : ((i : ℕ) → i < length map → elem map i ≡ k → ⊥) → ((i : ℕ) → i < length fixed → elem fixed i ≡ k → ⊥) → LiftedAt map fixed values solution k zero64
 
 module _ {size : ℕ} {map fixed : List ℕ} {values solution lifted : List Float} {number : ℕ} {lifted′ : List Float}

@@ -7,21 +7,19 @@ use Prim.Native.Nat.{ℕ, zero, suc, _<_, _≤_}
 use native.Mathlib.Omega.{arith}
 use lib.ListN.{length}
 use lib.Dec.{ltb}
-use lib.IntN.{ℤ}
 use borrow.Author.Tests.{ltb-false, lt-ltb, le-ltb}
 use Rattle.laws.specs.Lists.{elem}
-use Rattle.laws.specs.Refusal.{_if_, first, anyOf, short}
-use Rattle.laws.proofs.Refusal.{clear, unrefused, first-here, first-skip, first-next, first-found, first-end, first-head, first-rest}
+use Rattle.laws.specs.Refusal.{_if_, first, short}
+use Rattle.laws.proofs.Refusal.{clear, first-here, first-skip, first-next, first-found, first-end, first-head, first-rest}
 use Rattle.laws.proofs.Any.{any-head, any-rest, any-not, any-none}
-use Rattle.tables.specs.Table.{Table, tableOf, InRange, Rising, Lent}
+use Rattle.tables.specs.Table.{InRange, Rising, Lent}
 use Rattle.tables.specs.Stored.{Wrote, Room}
 use Rattle.tables.specs.Check.{orderRefusal}
 use Rattle.tables.proofs.Checks.{order-range, order-rising, order-passes}
 use Rattle.reduced.specs.Limits.{mostSize, mostEntries}
-use Rattle.reduced.specs.Indices.{indexRefused, Within, Once}
-use Rattle.reduced.specs.declared.from_principal_submatrix.Reduced.{Reduced}
+use Rattle.reduced.specs.Indices.{indexRefused}
 use Rattle.reduced.specs.declared.from_principal_submatrix.Reduced.the-variants.{Count, Refused}
-use Rattle.reduced.specs.Submatrix.{Slices, slicesOf, tableIn, valueIn, reducedPlaces, entriesShort, slicesShort, inputNumber, submatrixNumber, reducedNumber, Reduces, Reducible}
+use Rattle.reduced.specs.Submatrix.{Slices, tableIn, valueIn, reducedPlaces, entriesShort, slicesShort, inputNumber, submatrixNumber, Reduces, Reducible}
 use Rattle.reduced.proofs.Distinct.{Mapped, index-mapped, mapped-index, within-up}
 
 -- a list of one number

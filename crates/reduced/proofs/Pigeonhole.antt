@@ -1,11 +1,11 @@
 -- Where each of m things has a place below n that no other has, m is at most n.
 -- Assumes nothing.
-use mathlib.Core.Path.{_≡_, refl, sym, ap, _∙_}
+use mathlib.Core.Path.{_≡_, refl, ap, _∙_}
 use mathlib.Core.List.{List, [], _∷_}
-use Prim.Native.Nat.{ℕ, zero, suc, _+_, _<_, _≤_}
+use Prim.Native.Nat.{ℕ, zero, suc, _<_, _≤_}
 use native.Mathlib.Omega.{arith}
 use native.Mathlib.Decide.{ℕ-discrete}
-use lib.ListN.{length, getD, set, replicate, length-set, length-replicate, getD-replicate}
+use lib.ListN.{length, set, replicate, length-set, length-replicate}
 use lib.Seq.{getD-set-other}
 use Rattle.laws.specs.Lists.{elem}
 

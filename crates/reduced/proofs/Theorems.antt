@@ -3,19 +3,18 @@
 -- Assumes nothing.
 use mathlib.Core.Path.{_≡_, refl, sym, ap, _∙_}
 use mathlib.Core.List.{List}
-use Prim.Native.Nat.{ℕ, zero, suc, _+_, _<_, _≤_}
+use Prim.Native.Nat.{ℕ, suc, _<_, _≤_}
 use native.Mathlib.Omega.{arith}
 use lib.ListN.{length, getD}
 use lib.IntN.{ℤ}
 use Rattle.laws.specs.Lists.{elem, elemZ}
-use Rattle.tables.specs.Table.{Table, tableOf, storedAt, valueAt, InRange, Rising}
-use Rattle.tables.specs.Stored.{places, rowsOf, colsOf, valuesOf, listed, Wrote, Room}
+use Rattle.tables.specs.Table.{Table, InRange, Rising}
+use Rattle.tables.specs.Stored.{rowsOf, colsOf, valuesOf}
 use Rattle.tables.proofs.Mirrors.{value-here, stored-true, stored-here}
 use Rattle.tables.proofs.Kept.{place-at, places-have, row-listed, col-listed, value-listed}
 use Rattle.tables.proofs.Slices.{Same, written-same}
 use Rattle.reduced.specs.Limits.{mostSize, mostEntries}
-use Rattle.reduced.specs.declared.from_principal_submatrix.Reduced.{Reduced}
-use Rattle.reduced.specs.declared.from_principal_submatrix.Reduced.the-variants.{Count, Refused}
+use Rattle.reduced.specs.declared.from_principal_submatrix.Reduced.the-variants.{Count}
 use Rattle.reduced.specs.Submatrix.{Slices, tableIn, keptIn, valueIn, reducedPlaces, Reduces, Stands}
 use Rattle.reduced.proofs.Numbers.{Acceptable, submatrix-accepted, input-reducible}
 use Rattle.reduced.proofs.Entries.{places-rising, reduced-few}

@@ -8,7 +8,7 @@ ghost use Rattle.reduced.specs.Indices.{outside, twice, indexRefused, Wi
 pub const MOST_SIZE: usize = 1_024;
 
 // Whether an index is not below the size.
-pub fn any_outside(size: usize, indices: &[u16]) -> bool
+fn any_outside(size: usize, indices: &[u16]) -> bool
     ensures { λ r. ⌜ r ≡ outside size (now (indices .entry)) ⌝ }
 {
     let mut j = 0;
@@ -22,7 +22,7 @@ pub fn any_outside(size: usize, indices: &[u16]) -> bool
 }
 
 // Whether an index is in the map twice: `seen` marks those passed.
-pub fn any_twice(variable_map: &[u16]) -> bool
+fn any_twice(variable_map: &[u16]) -> bool
     requires { ⌜ Within mostSize (now «variable_map») ⌝ }
     ensures { λ r. ⌜ r ≡ twice (now («variable_map» .entry)) ⌝ }
 {

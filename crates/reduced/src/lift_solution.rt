@@ -1,5 +1,6 @@
 // `lift_solution`: a reduced solution over the original indices.
-use crate::indices::{MOST_SIZE, index_refusal};
+use crate::indices::MOST_SIZE;
+use crate::indices::index_refusal;
 use tables::check::wide;
 ghost use mathlib.Core.Path.{_≡_};
 ghost use Prim.Native.Nat.{_≤_};

@@ -1,13 +1,11 @@
 use borrow.Author.Needs.{needs}
 use Rattle.reduced.proofs.indices.any_outside.Statement.{statement}
 use Rattle.reduced.proofs.indices.any_outside.Tie as tie
-use Rattle.reduced.proofs.Distinct.{any-start, any-next, any-ended, any-found}
+use Rattle.reduced.proofs.Distinct.{any-start, any-ended}
 use Rattle.reduced.specs.Indices.{outside}
 use Rattle.laws.specs.Lists.{elem, anyBelow}
-use borrow.Author.Tests.{le-leb, lt-leb}
 use lib.Dec.{leb}
 use lib.ListN.{length}
-use native.Mathlib.Omega.{arith}
 use mathlib.Core.Bool.{false}
 use mathlib.Core.Path.{_≡_}
 use Prim.Native.Nat.{_≤_, _-_}

@@ -1,14 +1,12 @@
 use borrow.Author.Needs.{needs}
 use Rattle.reduced.proofs.indices.any_twice.Statement.{statement}
 use Rattle.reduced.proofs.indices.any_twice.Tie as tie
-use Rattle.reduced.proofs.Distinct.{any-start, any-next, any-ended}
+use Rattle.reduced.proofs.Distinct.{any-start, any-ended}
 use Rattle.reduced.specs.Indices.{twice, putEach}
-use Rattle.laws.proofs.UpTo.{upTo-next}
 use Rattle.laws.specs.Turns.{upTo}
 use Rattle.laws.specs.Lists.{elem, anyBelow}
 use lib.Dec.{eqb}
 use lib.ListN.{length, replicate}
-use native.Mathlib.Omega.{arith}
 use mathlib.Core.Bool.{false}
 use mathlib.Core.Path.{_≡_, refl}
 use Prim.Native.Nat.{_≤_, _-_}

@@ -1,5 +1,4 @@
 use borrow.Author.Needs.{needs}
-use borrow.Author.Needs.{needs}
 use Rattle.reduced.proofs.indices.index_refusal.Statement.{statement}
 use Rattle.reduced.proofs.indices.index_refusal.Tie as tie
 use Rattle.reduced.specs.Indices.{indexRefused}

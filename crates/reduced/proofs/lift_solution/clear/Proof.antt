@@ -1,12 +1,11 @@
 use borrow.Author.Needs.{needs}
 use Rattle.reduced.proofs.lift_solution.clear.Statement.{statement}
 use Rattle.reduced.proofs.lift_solution.clear.Tie as tie
-use Rattle.laws.proofs.MapFirst.{fill-none, fill-more, fill-all, length-fill}
+use Rattle.laws.proofs.MapFirst.{fill-none, fill-more, fill-all}
 use Rattle.laws.specs.Lists.{fill}
 use Rattle.reduced.specs.Lift.{zero64}
 use lib.ListN.{length}
-use native.Mathlib.Omega.{arith}
-use mathlib.Core.Path.{_≡_, refl, ap, _∙_}
+use mathlib.Core.Path.{_≡_, refl}
 use Prim.Native.Nat.{_≤_, _-_}
 
 abbrev Inv-loop : tie.InvT-loop

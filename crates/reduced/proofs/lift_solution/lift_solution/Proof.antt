@@ -1,10 +1,8 @@
 use borrow.Author.Needs.{needs}
-use borrow.Author.Needs.{needs}
 use Rattle.reduced.proofs.lift_solution.lift_solution.Statement.{statement}
 use Rattle.reduced.proofs.lift_solution.lift_solution.Tie as tie
 use Rattle.reduced.proofs.Lifting.{lifts-short, judged, lifts-index, lift-size, lift-fixed, lift-map, lifts-done}
 use denote.Ref.{now}
-use native.Mathlib.Omega.{arith}
 use mathlib.Core.Path.{_∙_}
 
 lift-short-requires : tie.Need-lift-short-requires

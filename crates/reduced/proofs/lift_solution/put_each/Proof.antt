@@ -1,14 +1,13 @@
 use borrow.Author.Needs.{needs}
 use Rattle.reduced.proofs.lift_solution.put_each.Statement.{statement}
 use Rattle.reduced.proofs.lift_solution.put_each.Tie as tie
-use Rattle.laws.proofs.UpTo.{upTo-next}
 use Rattle.laws.specs.Lists.{elem}
 use Rattle.laws.specs.Turns.{upTo}
 use Rattle.reduced.specs.Indices.{putEach}
 use Rattle.reduced.specs.Lift.{elemF}
 use lib.ListN.{length}
 use native.Mathlib.Omega.{arith}
-use mathlib.Core.Path.{_≡_, refl, ap, _∙_}
+use mathlib.Core.Path.{_≡_, refl}
 use Prim.Native.Nat.{_≤_, _-_}
 use Rattle.reduced.proofs.Put.{put-next, put-all}
 
