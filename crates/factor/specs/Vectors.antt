@@ -29,9 +29,17 @@ multiplied by xs = mapFirst (λ j x. by *ᶠ x) (length xs) xs
 unfoldable pub divided : Float → List Float → List Float
 divided by xs = mapFirst (λ j x. x /ᶠ by) (length xs) xs
 
--- a row divided by its norm, the root of its sum of squares
+-- acc with source added, element by element
+unfoldable pub added : List Float → List Float → List Float
+added source acc = mapFirst (λ j x. x +ᶠ at source j) (length acc) acc
+
+-- `norm_l2`: the root of the sum of squares
+abbrev pub norm : List Float → Float
+norm row = sqrtOf (dotOf row row)
+
+-- a row divided by its norm
 unfoldable pub unit : List Float → List Float
-unit row = divided (sqrtOf (dotOf row row)) row
+unit row = divided (norm row) row
 
 -- row i divided by its norm
 abbrev pub unitRow : ℕ → ℕ → List Float → List Float

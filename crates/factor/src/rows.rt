@@ -5,7 +5,7 @@ ghost use Prim.Native.Nat.{_+_, _*_, _≤_};
 ghost use lib.ListN.{length, replicate};
 ghost use Rattle.laws.specs.Rows.{rowOf};
 ghost use Rattle.ieee.specs.Floats.{zero64};
-ghost use Rattle.factor.specs.Vectors.{addScaled, subScaled, scaled, multiplied, divided, unit, unitRow, projected};
+ghost use Rattle.factor.specs.Vectors.{addScaled, subScaled, scaled, multiplied, divided, added, norm, unit, unitRow, projected};
 use super::sums::dot;
 
 // Row i of a matrix that lies row after row.
@@ -95,11 +95,30 @@ pub fn divide(row: &mut [f64], by: f64)
     }
 }
 
+// `source` added to `acc`.
+pub fn add(acc: &mut [f64], source: &[f64])
+    requires { ⌜ length (now acc) ≡ length (now source) ⌝ }
+    ensures { λ _. ⌜ now (acc .exit) ≡ added (now (source .entry)) (now (acc .entry)) ⌝ }
+{
+    let mut j = 0;
+    while j < acc.len() {
+        acc[j] = acc[j] + source[j];
+        j += 1;
+    }
+}
+
+// The norm of a row: the root of its sum of squares.
+pub fn norm_l2(row: &[f64]) -> f64
+    ensures { λ r. ⌜ r ≡ norm (now (row .entry)) ⌝ }
+{
+    ieee::sqrt(dot(row, row))
+}
+
 // The row divided by its norm.
 pub fn normalize(row: &mut [f64])
     ensures { λ _. ⌜ now (row .exit) ≡ unit (now (row .entry)) ⌝ }
 {
-    let norm = ieee::sqrt(dot(row, row));
+    let norm = norm_l2(row);
     divide(row, norm);
 }
 

@@ -6,10 +6,10 @@ use Rattle.factor.proofs.rows.normalize.Tie as tie
 
 returns : tie.Need-returns
 unfolding unit
-returns c = rw (c .before .before .before .before .sqrt .ensures, c .before .before .before .before .before .dot .ensures) at (c .before .before .divide .ensures)
+returns c = rw (c .before .before .before .before .norm-l2 .ensures) at (c .before .before .divide .ensures)
 
 pub normalize-spec : {M : Type 1} → statement M
 normalize-spec =
     tie.close
     (tie.spec
-    (λ c κs. search needs) (λ c κs. search needs) (λ c κs. search needs) (λ c. search needs) returns)
+    (λ c κs. search needs) (λ c κs. search needs) (λ c. search needs) returns)
