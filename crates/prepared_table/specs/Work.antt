@@ -4,7 +4,7 @@ use Prim.Native.Nat.{ℕ, zero, suc, _+_, _<_}
 use mathlib.Core.Bool.{Bool, true, false, not}
 use mathlib.Core.List.{List, [], _∷_}
 use lib.Dec.{eqb, ltb}
-use lib.IntN.{ℤ}
+use lib.IntN.{natAbs}
 use lib.Ieee.{Float}
 use lib.ListN.{length, getD, replicate}
 use Rattle.laws.specs.Turns.{upTo}
@@ -12,7 +12,6 @@ use Rattle.laws.specs.Lists.{anyBelow, tabulate, kept, putIf}
 use Rattle.ieee.specs.Floats.{zero64, eighthOf}
 use Rattle.factor.specs.Norms.{sumOf}
 use Rattle.tables.specs.Table.{Table}
-use Rattle.tables.specs.Stored.{isZero}
 
 -- entry e lies on the diagonal
 abbrev pub onDiagonal : Table → ℕ → Bool
@@ -24,7 +23,7 @@ setBy true nothing = not nothing
 setBy false nothing = false
 
 unfoldable pub setsAside : Table → Bool
-setsAside t = anyBelow (t .count) (λ e. setBy (onDiagonal t e) (isZero (t .value e)))
+setsAside t = anyBelow (t .count) (λ e. setBy (onDiagonal t e) (eqb (natAbs (t .value e)) 0))
 
 -- an entry stays unless the diagonal is set aside and it lies there
 abbrev pub staysBy : Bool → Bool → Bool

@@ -4,12 +4,12 @@ ghost use mathlib.Core.Path.{_≡_};
 ghost use mathlib.Core.Bool.{true, cond};
 ghost use Prim.Native.Nat.{_+_, _≤_, _<_};
 ghost use lib.Dec.{eqb};
-ghost use lib.ListN.{length, take};
+ghost use lib.IntN.{natAbs};
+ghost use lib.ListN.{length};
 ghost use Rattle.laws.specs.Lists.{elem, elemZ, over, putIf, nextIf, kept};
 ghost use Rattle.ieee.specs.Floats.{eighthOf};
 ghost use Rattle.factor.specs.Norms.{sumOf};
 ghost use Rattle.tables.specs.Table.{tableOf, Lent, InRange};
-ghost use Rattle.tables.specs.Stored.{isZero};
 ghost use Rattle.prepared_table.specs.Work.{setBy, setsAside, staysBy, stays, workRows, workCols, workValues, rowStart, startsOf, workStarts, diagonalOf, diagonalSum};
 use factor::rows::clear;
 use factor::sums::sum;
@@ -17,7 +17,7 @@ use tables::check::wide;
 
 // Whether a diagonal value that isn't 0 is found by now, after one more entry.
 fn found_by(found: bool, i: u16, j: u16, value: i64) -> bool
-    ensures { λ r. ⌜ r ≡ cond (setBy (eqb i j) (isZero value)) true found ⌝ }
+    ensures { λ r. ⌜ r ≡ cond (setBy (eqb i j) (eqb (natAbs value) 0)) true found ⌝ }
 {
     if i == j {
         if value < 0 {

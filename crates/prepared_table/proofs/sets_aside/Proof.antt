@@ -9,14 +9,14 @@ use lib.IntN.{pos}
 use lib.ListN.{getD}
 use Rattle.laws.specs.Lists.{anyBelow, elem, elemZ}
 use Rattle.laws.proofs.Integer.{held}
-use Rattle.tables.specs.Stored.{isZero}
+use lib.IntN.{natAbs}
 use Rattle.prepared_table.specs.Work.{setBy, setsAside}
 use Rattle.prepared_table.proofs.Preparing.{below-next}
 use Rattle.prepared_table.proofs.sets_aside.Statement.{statement}
 use Rattle.prepared_table.proofs.sets_aside.Tie as tie
 
 abbrev Inv-loop : tie.InvT-loop
-Inv-loop count rows cols values found₀ e₀ found e = (e ≤ count) × (found ≡ anyBelow e (λ k. setBy (eqb (elem rows k) (elem cols k)) (isZero (elemZ values k))))
+Inv-loop count rows cols values found₀ e₀ found e = (e ≤ count) × (found ≡ anyBelow e (λ k. setBy (eqb (elem rows k) (elem cols k)) (eqb (natAbs (elemZ values k)) 0)))
 
 abbrev μ-loop : tie.MeasureT-loop
 μ-loop count rows cols values found₀ e₀ found e = count - e
