@@ -12,6 +12,7 @@ use Rattle.run_record.specs.declared.Stage.{Stage}
 use Rattle.run_record.specs.declared.Stage.the-variants.{Open, Stopped}
 use Rattle.run_record.specs.declared.Run.{Run}
 use Rattle.laws.specs.Refusal.{anyOf}
+use Rattle.factor.specs.Shapes.{Shaped}
 use Rattle.run_record.specs.Numbers.{isStopped}
 use Rattle.run_sweep.specs.Work.{Work}
 use Rattle.run_sweep.specs.Sweep.{State, whileOpen, statusFound, stageAfter, advanced, runAfter, sweptOnce, sweepsUpTo}
@@ -82,24 +83,24 @@ turn w k made run run′ factor factor′ whole l open′ left swept after inv =
      ∙ ap (λ (v : List Float). sweepsUpTo (k - (made + 1)) w (runAfter run w v) v) swept
      ∙ sym (sweeps-next w run factor k made l open′) ∙ inv)
 
--- a sweep leaves size and rank, and a factor of the same length can be swept on
-pub still : {w : Work} {run run′ : Run} {factor factor′ : List Float} {product moved dual : ℕ} → run′ ≡ runAfter run w factor′ → length factor′ ≡ length factor
-    → Sweepable w (run .size) (run .rank) factor product moved dual → Sweepable w (run′ .size) (run′ .rank) factor′ product moved dual
+-- a factor of the same length is of the same shape
+pub reshaped : {cols : List ℕ} {values : List Float} {starts : List ℕ} {factor factor′ : List Float} {m rank : ℕ} → Shaped cols values starts factor m rank → length factor′ ≡ length factor
+    → Shaped cols values starts factor′ m rank
+reshaped s l =
+    record { paired = s .paired; started = s .started; rising = s .rising; ended = s .ended; columns = s .columns; whole = l ∙ s .whole }
+
+-- a sweep leaves size and rank, and lengths: it can go on
+pub still : {w : Work} (run : Run) {run′ : Run} {factor factor′ : List Float} {product moved dual product′ moved′ dual′ : ℕ} → run′ ≡ runAfter run w factor′
+    → length factor′ ≡ length factor → product′ ≡ product → moved′ ≡ moved → dual′ ≡ dual
+    → Sweepable w (run .size) (run .rank) factor product moved dual → Sweepable w (run′ .size) (run′ .rank) factor′ product′ moved′ dual′
 unfolding runAfter advanced
-still {w} {run} {run′} {factor} {factor′} {product} {moved} {dual} e l s =
-    subst (λ (r : Run). Sweepable w (r .size) (r .rank) factor′ product moved dual) (sym e)
+still {w} run {run′} {factor} {factor′} {product} {moved} {dual} {product′} {moved′} {dual′} e l ep em ed s =
+    subst (λ (r : Run). Sweepable w (r .size) (r .rank) factor′ product′ moved′ dual′) (sym e)
     (record {
-      shaped = record {
-        paired = s .shaped .paired;
-        started = s .shaped .started;
-        rising = s .shaped .rising;
-        ended = s .shaped .ended;
-        columns = s .shaped .columns;
-        whole = l ∙ s .shaped .whole;
-      };
+      shaped = reshaped (s .shaped) l;
       fits = s .fits;
-      product-is = s .product-is;
-      moved-is = s .moved-is;
-      dual-is = s .dual-is;
+      product-is = ep ∙ s .product-is;
+      moved-is = em ∙ s .moved-is;
+      dual-is = ed ∙ s .dual-is;
       some = s .some;
     })

@@ -4,7 +4,7 @@ use Rattle.run_sweep.proofs.check.stage_after.Tie as tie
 use mathlib.Core.Path.{ap}
 use mathlib.Core.Bool.{Bool, true, false, not}
 use borrow.Author.Tests.{eq-eqb, ne-eqb}
-use Rattle.run_sweep.specs.First.{anyOf}
+use Rattle.laws.specs.Refusal.{anyOf}
 use Rattle.run_sweep.specs.Sweep.{stageAfter}
 
 returns : tie.Need-returns
