@@ -2,23 +2,26 @@
 -- objective is the cost, and its floor stands below every choice.
 use mathlib.Core.Path.{_≡_, refl, sym, _∙_}
 use mathlib.Core.List.{List}
-use Prim.Native.Nat.{ℕ, suc}
+use Prim.Native.Nat.{ℕ, suc, _-_, _≤_}
+use native.Mathlib.Omega.{arith}
 use lib.ListN.{length}
 use lib.IntN.{ℤ}
 use lib.Signed.{_≤ℤ_}
-use Rattle.laws.specs.Lists.{elemZ, over}
+use Rattle.laws.specs.Lists.{elemZ, over, fill}
 use Rattle.tables.specs.Limits.{mostWagons, mostEntries, mostMagnitude}
 use Rattle.tables.specs.Table.{Table, tableOf, valueAt, signAt, objectiveOf, floorOf}
-use Rattle.tables.specs.Cost.{costEighths, decoded, choiceAt}
+use Rattle.tables.specs.Cost.{costEighths, decodedByte, decoded, choiceAt}
 use Rattle.tables.specs.Check.{Hall}
 use Rattle.tables.proofs.Checks.{table-passes}
+use Rattle.tables.proofs.Choices.{decoded-cost}
 use Rattle.sign_table.specs.SignTable.{rowsOf, colsOf, valuesOf, signOf, signPlaces}
 use Rattle.sign_table.proofs.Slices.{Holds, over-holds, built-accepted, built-objective, built-floor}
 use Rattle.table_calls.specs.declared.Entries.{Entries}
 use Rattle.table_calls.specs.declared.Entries.the-variants as T
-use Rattle.table_calls.specs.Numbers.{signTableNumber, signNumber}
+use Rattle.table_calls.specs.Answer.{kept}
+use Rattle.table_calls.specs.Numbers.{signTableNumber, signNumber, decodeNumber}
 use Rattle.table_calls.specs.Convert.{Converts}
-use Rattle.table_calls.proofs.Accepting.{sign-accepted, accepted-is}
+use Rattle.table_calls.proofs.Accepting.{sign-accepted, decode-accepted, accepted-is}
 
 -- an accepted call of `qubo_sign_table`
 module _ (n count : ℕ) (rows cols : List ℕ) (values c : List ℤ) (toRows toCols : List ℕ) (toValues : List ℤ) {answer : Entries} {rows′ cols′ : List ℕ} {values′ : List ℤ}
@@ -55,3 +58,13 @@ module _ (n count : ℕ) (rows cols : List ℕ) (values c : List ℤ) (toRows to
   pub floor-is-below : (b : List ℕ) → floorOf (tableOf (length (signPlaces n (tableOf count rows cols values) (elemZ c))) rows′ cols′ values′)
       ≤ℤ costEighths n (valueAt (tableOf count rows cols values)) (elemZ c) (choiceAt b)
   floor-is-below b = built-floor hall holds b
+
+-- the choice that `qubo_binary_from_sign_solution` lends out costs what the signs do: for any (H, c), signs of n + 1 and room for n bytes
+pub decoded-call : (n : ℕ) (h : Table) (c : ℕ → ℤ) (signs b : List ℕ) {b′ : List ℕ} → decodeNumber (suc n) signs b ≡ 0
+    → b′ ≡ kept (decodeNumber (suc n) signs b) b (fill (decodedByte (suc n - 1) signs) (suc n - 1) b)
+    → costEighths n (valueAt h) c (choiceAt b′) ≡ costEighths n (valueAt h) c (decoded n signs)
+decoded-call n h c signs b {b′} ok is =
+    let back : suc n - 1 ≡ n = omega arith in
+    let wrote : b′ ≡ fill (decodedByte n signs) n b = (rw back at (is ∙ sym (accepted-is (decodeNumber (suc n) signs b) (λ _. b) (fill (decodedByte (suc n - 1) signs) (suc n - 1) b) refl ok))) in
+    let (some, long, room) = decode-accepted (suc n) signs b ok in
+    rw wrote (decoded-cost n (valueAt h) c signs b (rw back at room))
