@@ -102,8 +102,7 @@ module _ (m count : ℕ) (rows cols : List ℕ) (values : List ℤ) where
     objective-accepted ok =
         let (s, k) = two-parts (objectiveShort m count rows cols values signs) _ ok in
         let t : Accepted mostSigns mostSignEntries mostSignMagnitude m (tableOf count rows cols values) = table-accepted k in
-        let long : m ≤ length signs = signs-long s (signs-passes m (t .some) (t .signs)) in
-        (
+        let long : m ≤ length signs = signs-long s (signs-passes m (t .some) (t .signs)) in (
           objective-lent s (t .entries),
           record { rows-in = λ k h. omega (arith, t .in-range .rows-in k h); cols-in = λ k h. omega (arith, t .in-range .cols-in k h) },
           t .magnitude,

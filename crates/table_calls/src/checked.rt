@@ -1,8 +1,12 @@
 // 31 first, then the numbers of the table.
-use tables::check::{hall_number, table_number};
-use tables::limits::{
-    MOST_ENTRIES, MOST_MAGNITUDE, MOST_SIGN_ENTRIES, MOST_SIGN_MAGNITUDE, MOST_SIGNS, MOST_WAGONS,
-};
+use tables::check::hall_number;
+use tables::check::table_number;
+use tables::limits::MOST_ENTRIES;
+use tables::limits::MOST_MAGNITUDE;
+use tables::limits::MOST_SIGN_ENTRIES;
+use tables::limits::MOST_SIGN_MAGNITUDE;
+use tables::limits::MOST_SIGNS;
+use tables::limits::MOST_WAGONS;
 ghost use mathlib.Core.Path.{_≡_};
 ghost use mathlib.Core.Bool.{false};
 ghost use mathlib.Core.List.{[], _∷_};

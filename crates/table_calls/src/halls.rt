@@ -1,9 +1,13 @@
 // The calls on (H, c): n wagons, the entries of H in the first places of three slices.
+use crate::Eighths;
+use crate::Entries;
 use crate::checked::checked_hall;
-use crate::{Eighths, Entries};
 use sign_table::sign_matrix::sign_matrix;
-use tables::check::{bad_size, short_table, too_short};
-use tables::limits::{MOST_ENTRIES, MOST_WAGONS};
+use tables::check::bad_size;
+use tables::check::short_table;
+use tables::check::too_short;
+use tables::limits::MOST_ENTRIES;
+use tables::limits::MOST_WAGONS;
 use tables::objective;
 ghost use mathlib.Core.Path.{_≡_};
 ghost use Prim.Native.Nat.{_+_, _*_};

@@ -1,8 +1,11 @@
 // The calls on a sign table given directly: m signs, its entries in the first places of three slices.
-use crate::checked::{bad_signs, checked_table};
-use crate::{Bound, Eighths};
+use crate::Bound;
+use crate::Eighths;
+use crate::checked::bad_signs;
+use crate::checked::checked_table;
 use tables::bound;
-use tables::check::{short_table, too_short};
+use tables::check::short_table;
+use tables::check::too_short;
 use tables::limits::MOST_SIGN_ENTRIES;
 use tables::objective;
 ghost use mathlib.Core.Path.{_≡_};
@@ -49,13 +52,7 @@ pub fn obj_rounded(
 }
 
 // The floor under every objective, in eighths.
-pub fn floor_eighths(
-    m: usize,
-    count: usize,
-    rows: &[u16],
-    cols: &[u16],
-    values: &[i64],
-) -> Eighths
+pub fn floor_eighths(m: usize, count: usize, rows: &[u16], cols: &[u16], values: &[i64]) -> Eighths
     ensures { λ r. ⌜ r ≡ eighthsAnswer (floorNumber m count (now (rows .entry)) (now (cols .entry)) (now (values .entry)))
         (floorOf (tableOf count (now (rows .entry)) (now (cols .entry)) (now (values .entry)))) ⌝ }
 {

@@ -1,3 +1,4 @@
+-- `table_calls::checked::checked_hall` meets its contract.
 use borrow.Author.Needs.{needs}
 use Rattle.table_calls.proofs.checked.checked_hall.Statement.{statement}
 use Rattle.table_calls.proofs.checked.checked_hall.Tie as tie
@@ -10,7 +11,9 @@ returns : tie.Need-returns
 returns c = sym (first-here 30 _ _ (c .if1 .taken))
 
 hall-number-requires : tie.Need-hall-number-requires
-hall-number-requires c κs = (λ h. c .before .before .before .pre (c .if1 .left) .0 h, λ h. c .before .before .before .pre (c .if1 .left) .1 h, lit≤ tt, lit< tt)
+hall-number-requires c κs =
+    let p = c .before .before .before .pre in
+    (λ h. p (c .if1 .left) .0 h, λ h. p (c .if1 .left) .1 h, lit≤ tt, lit< tt)
 
 returns-2 : tie.Need-returns-2
 returns-2 c = c .hall-number .ensures ∙ sym (first-skip 31 _ _ (c .before .if1 .left) ∙ first-last _)

@@ -1,4 +1,4 @@
-use borrow.Author.Needs.{needs}
+-- `table_calls::choices::decode_number` meets its contract.
 use borrow.Author.Needs.{needs}
 use Rattle.table_calls.proofs.choices.decode_number.Statement.{statement}
 use Rattle.table_calls.proofs.choices.decode_number.Tie as tie

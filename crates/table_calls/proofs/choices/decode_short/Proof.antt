@@ -1,4 +1,4 @@
-use borrow.Author.Needs.{needs}
+-- `table_calls::choices::decode_short` meets its contract.
 use borrow.Author.Needs.{needs}
 use Rattle.table_calls.proofs.choices.decode_short.Statement.{statement}
 use Rattle.table_calls.proofs.choices.decode_short.Tie as tie

@@ -1,4 +1,4 @@
-use borrow.Author.Needs.{needs}
+-- `table_calls::choices::qubo_binary_from_sign_solution` meets its contract.
 use borrow.Author.Needs.{needs}
 use Rattle.table_calls.proofs.choices.qubo_binary_from_sign_solution.Statement.{statement}
 use Rattle.table_calls.proofs.choices.qubo_binary_from_sign_solution.Tie as tie

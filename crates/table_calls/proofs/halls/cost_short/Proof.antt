@@ -1,4 +1,4 @@
-use borrow.Author.Needs.{needs}
+-- `table_calls::halls::cost_short` meets its contract.
 use borrow.Author.Needs.{needs}
 use Rattle.table_calls.proofs.halls.cost_short.Statement.{statement}
 use Rattle.table_calls.proofs.halls.cost_short.Tie as tie

@@ -1,4 +1,4 @@
-use borrow.Author.Needs.{needs}
+-- `table_calls::halls::eval_qubo_objective` meets its contract.
 use borrow.Author.Needs.{needs}
 use Rattle.table_calls.proofs.halls.eval_qubo_objective.Statement.{statement}
 use Rattle.table_calls.proofs.halls.eval_qubo_objective.Tie as tie

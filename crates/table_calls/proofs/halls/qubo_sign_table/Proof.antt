@@ -1,4 +1,4 @@
-use borrow.Author.Needs.{needs}
+-- `table_calls::halls::qubo_sign_table` meets its contract.
 use borrow.Author.Needs.{needs}
 use Rattle.table_calls.proofs.halls.qubo_sign_table.Statement.{statement}
 use Rattle.table_calls.proofs.halls.qubo_sign_table.Tie as tie

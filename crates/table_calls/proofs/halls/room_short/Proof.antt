@@ -1,4 +1,4 @@
-use borrow.Author.Needs.{needs}
+-- `table_calls::halls::room_short` meets its contract.
 use borrow.Author.Needs.{needs}
 use Rattle.table_calls.proofs.halls.room_short.Statement.{statement}
 use Rattle.table_calls.proofs.halls.room_short.Tie as tie

@@ -1,4 +1,4 @@
-use borrow.Author.Needs.{needs}
+-- `table_calls::halls::sign_short` meets its contract.
 use borrow.Author.Needs.{needs}
 use Rattle.table_calls.proofs.halls.sign_short.Statement.{statement}
 use Rattle.table_calls.proofs.halls.sign_short.Tie as tie

@@ -1,4 +1,4 @@
-use borrow.Author.Needs.{needs}
+-- `table_calls::sign_tables::entrywise_lower_bound` meets its contract.
 use borrow.Author.Needs.{needs}
 use Rattle.table_calls.proofs.sign_tables.entrywise_lower_bound.Statement.{statement}
 use Rattle.table_calls.proofs.sign_tables.entrywise_lower_bound.Tie as tie

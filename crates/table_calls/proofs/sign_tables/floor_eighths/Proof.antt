@@ -1,4 +1,4 @@
-use borrow.Author.Needs.{needs}
+-- `table_calls::sign_tables::floor_eighths` meets its contract.
 use borrow.Author.Needs.{needs}
 use Rattle.table_calls.proofs.sign_tables.floor_eighths.Statement.{statement}
 use Rattle.table_calls.proofs.sign_tables.floor_eighths.Tie as tie

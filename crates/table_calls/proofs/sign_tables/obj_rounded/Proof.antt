@@ -1,4 +1,4 @@
-use borrow.Author.Needs.{needs}
+-- `table_calls::sign_tables::obj_rounded` meets its contract.
 use borrow.Author.Needs.{needs}
 use Rattle.table_calls.proofs.sign_tables.obj_rounded.Statement.{statement}
 use Rattle.table_calls.proofs.sign_tables.obj_rounded.Tie as tie

@@ -1,4 +1,4 @@
-use borrow.Author.Needs.{needs}
+-- `table_calls::sign_tables::objective_short` meets its contract.
 use borrow.Author.Needs.{needs}
 use Rattle.table_calls.proofs.sign_tables.objective_short.Statement.{statement}
 use Rattle.table_calls.proofs.sign_tables.objective_short.Tie as tie
