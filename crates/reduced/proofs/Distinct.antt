@@ -12,7 +12,7 @@ use lib.Dec.{eqb, leb, ltb}
 use borrow.Author.Tests.{eq-eqb, ne-eqb, eqb-false, ltb-false, leb-false, lt-leb, le-leb, le-ltb}
 use Rattle.laws.specs.Lists.{elem, anyBelow}
 use Rattle.laws.proofs.Any.{below-none, below-at, below-false, any-head, any-rest, any-not, any-none}
-use Rattle.reduced.specs.Indices.{outside, twice, indexRefused, putEach, Within, Once}
+use Rattle.reduced.specs.Indices.{outside, twice, indexRefused, putEach, Within, Once, Mapped}
 use Rattle.reduced.proofs.Put.{Last, found, none, put-last}
 
 unequal : true ≡ false → ⊥
@@ -110,13 +110,6 @@ module _ (map : List ℕ) where
     unmarked-next z e = any-next (λ k. anyBelow k (λ i. eqb (elem map i) (elem map k))) j e (unmarked z)
 
 -- ---- 20 whole
-
--- what the indices are where none is refused
-pub record Mapped (most size : ℕ) (map fixed : List ℕ) : Type 0 where
-  pub small : size ≤ most
-  pub map-within : Within size map
-  pub map-once : Once map
-  pub fixed-within : Within size fixed
 
 module _ {most size : ℕ} {map fixed : List ℕ} where
   pub index-mapped : indexRefused most size map fixed ≡ false → Mapped most size map fixed

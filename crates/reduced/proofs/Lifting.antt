@@ -15,17 +15,12 @@ use Rattle.laws.proofs.Refusal.{clear, first-here, first-skip, first-next, firs
 use Rattle.laws.proofs.Any.{any-head, any-rest, any-not, any-none}
 use Rattle.laws.proofs.MapFirst.{length-fill, getD-mapFirst}
 use Rattle.reduced.specs.Limits.{mostSize}
-use Rattle.reduced.specs.Indices.{indexRefused, putEach, Within}
-use Rattle.reduced.specs.Lift.{zero64, elemF, liftedOf, liftShort, liftNumber, Lifts}
+use Rattle.reduced.specs.Indices.{indexRefused, putEach, Within, Mapped}
+use Rattle.reduced.specs.Lift.{zero64, elemF, liftedOf, liftShort, liftNumber, Lifts, LiftLent, LiftedAt, by-map, by-fixed, by-none}
 use Rattle.reduced.proofs.Put.{Last, found, none, length-put, put-last, put-beyond, beyond-mapFirst}
-use Rattle.reduced.proofs.Distinct.{Mapped, index-mapped, mapped-index}
+use Rattle.reduced.proofs.Distinct.{index-mapped, mapped-index}
 
 -- ---- what the lengths are where none is short
-
-pub record LiftLent (most size : ℕ) (map fixed : List ℕ) (values solution lifted : ℕ) : Type 0 where
-  pub values-there : length fixed ≤ values
-  pub solution-there : length map ≤ solution
-  pub lifted-there : size ≤ most → size ≤ lifted
 
 module _ {most size : ℕ} {map fixed : List ℕ} {values solution lifted : ℕ} where
   pub lift-lent : liftShort most size map fixed values solution lifted ≡ false → LiftLent most size map fixed values solution lifted
@@ -110,13 +105,6 @@ module _ {most size : ℕ} {map fixed : List ℕ} {values solution lifted : ℕ}
   lift-passes l m = first-skip 31 _ _ (lent-lift (m .small) l) ∙ first-skip 20 _ _ (mapped-index m) ∙ first-end
 
 -- ---- the theorem: a place of the lifted slice, where nothing is refused
-
--- what stands at k: the solution of the new index that is mapped to k, else the last value that is fixed at k, else 0.0
-pub data LiftedAt (map fixed : List ℕ) (values solution : List Float) (k : ℕ) : Float → Type 0 where
-  by-map : (j : ℕ) → j < length map → elem map j ≡ k → LiftedAt map fixed values solution k (elemF solution j)
-  by-fixed : (j : ℕ) → ((i : ℕ) → i < length map → elem map i ≡ k → ⊥) → j < length fixed → elem fixed j ≡ k
-      → ((i : ℕ) → j < i → i < length fixed → elem fixed i ≡ k → ⊥) → LiftedAt map fixed values solution k (elemF values j)
-  by-none : ((i : ℕ) → i < length map → elem map i ≡ k → ⊥) → ((i : ℕ) → i < length fixed → elem fixed i ≡ k → ⊥) → LiftedAt map fixed values solution k zero64
 
 module _ {size : ℕ} {map fixed : List ℕ} {values solution lifted : List Float} {number : ℕ} {lifted′ : List Float}
     (call : Lifts size map fixed values solution lifted number lifted′) (ok : number ≡ 0) where

@@ -19,8 +19,9 @@ use Rattle.tables.proofs.Checks.{order-range, order-rising, order-passes}
 use Rattle.reduced.specs.Limits.{mostSize, mostEntries}
 use Rattle.reduced.specs.Indices.{indexRefused}
 use Rattle.reduced.specs.declared.from_principal_submatrix.Reduced.the-variants.{Count, Refused}
-use Rattle.reduced.specs.Submatrix.{Slices, tableIn, valueIn, reducedPlaces, entriesShort, slicesShort, inputNumber, submatrixNumber, Reduces, Reducible}
-use Rattle.reduced.proofs.Distinct.{Mapped, index-mapped, mapped-index, within-up}
+use Rattle.reduced.specs.Submatrix.{Slices, tableIn, valueIn, reducedPlaces, entriesShort, slicesShort, inputNumber, submatrixNumber, Reduces, Input, Acceptable}
+use Rattle.reduced.specs.Scatter.{Reducible}
+use Rattle.reduced.proofs.Distinct.{index-mapped, mapped-index, within-up}
 
 -- a list of one number
 first-one : (k : ℕ) → k ≡ first (k ∷ [])
@@ -108,12 +109,6 @@ module _ {size count : ℕ} {from : Slices} {map fixed : List ℕ} {to : Slices}
 
 -- ---- where the input is not refused
 
-pub record Input (mostSize mostEntries size count : ℕ) (from : Slices) (map fixed : List ℕ) : Type 0 where
-  pub few : count ≤ mostEntries
-  pub in-range : InRange size (tableIn count from)
-  pub rising : Rising (tableIn count from)
-  pub mapped : Mapped mostSize size map fixed
-
 module _ {mostSize mostEntries size count : ℕ} {from : Slices} {map fixed : List ℕ} where
   pub input-accepted : inputNumber mostSize mostEntries size count (from .rows) (from .cols) map fixed ≡ 0 → Input mostSize mostEntries size count from map fixed
   unfolding inputNumber
@@ -164,11 +159,6 @@ judged-asks {from = from} {to = to} j z =
     )
 
 -- ---- the theorem: nothing is refused exactly where the slices are long enough and the input is as it should be
-
-pub record Acceptable (mostSize mostEntries size count : ℕ) (from : Slices) (map fixed : List ℕ) (to : Slices) : Type 0 where
-  pub from-lent : Lent count (from .rows) (from .cols) (from .values)
-  pub to-lent : Lent count (to .rows) (to .cols) (to .values)
-  pub input : Input mostSize mostEntries size count from map fixed
 
 module _ {mostSize mostEntries size count : ℕ} {from : Slices} {map fixed : List ℕ} {to : Slices} where
   pub submatrix-accepted : submatrixNumber mostSize mostEntries size count from map fixed to ≡ 0 → Acceptable mostSize mostEntries size count from map fixed to

@@ -15,8 +15,8 @@ use Rattle.tables.proofs.Kept.{place-at, places-have, row-listed, col-listed, v
 use Rattle.tables.proofs.Slices.{Same, written-same}
 use Rattle.reduced.specs.Limits.{mostSize, mostEntries}
 use Rattle.reduced.specs.declared.from_principal_submatrix.Reduced.the-variants.{Count}
-use Rattle.reduced.specs.Submatrix.{Slices, tableIn, keptIn, valueIn, reducedPlaces, Reduces, Stands}
-use Rattle.reduced.proofs.Numbers.{Acceptable, submatrix-accepted, input-reducible}
+use Rattle.reduced.specs.Submatrix.{Slices, tableIn, keptIn, valueIn, reducedPlaces, Reduces, Acceptable, Stands}
+use Rattle.reduced.proofs.Numbers.{submatrix-accepted, input-reducible}
 use Rattle.reduced.proofs.Entries.{places-rising, reduced-few}
 
 counted : {n m : ℕ} → Count n ≡ Count m → n ≡ m

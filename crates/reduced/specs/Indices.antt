@@ -1,5 +1,5 @@
 -- The map from new indices to original ones, and the fixed indices (01, "Reduced" and number 20).
-use Prim.Native.Nat.{ℕ, _<_}
+use Prim.Native.Nat.{ℕ, _<_, _≤_}
 use mathlib.Core.Path.{_≡_}
 use mathlib.Core.Bool.{Bool}
 use mathlib.Core.List.{List, [], _∷_}
@@ -31,3 +31,10 @@ pub record Within (n : ℕ) (indices : List ℕ) : Type 0 where
 
 pub record Once (indices : List ℕ) : Type 0 where
   pub same : (i j : ℕ) → i < length indices → j < length indices → elem indices i ≡ elem indices j → i ≡ j
+
+-- what the indices are where none is refused
+pub record Mapped (most size : ℕ) (map fixed : List ℕ) : Type 0 where
+  pub small : size ≤ most
+  pub map-within : Within size map
+  pub map-once : Once map
+  pub fixed-within : Within size fixed

@@ -1,5 +1,5 @@
 -- `lift_solution` (000; 01, "Reduced").
-use Prim.Native.Nat.{ℕ}
+use Prim.Native.Nat.{ℕ, _<_, _≤_}
 use mathlib.Core.Path.{_≡_}
 use mathlib.Core.Bool.{Bool, false}
 use mathlib.Core.List.{List, [], _∷_}
@@ -38,3 +38,18 @@ pub record Lifts (size : ℕ) (map fixed : List ℕ) (values solution lifted : L
   pub numbered : number ≡ liftNumber mostSize size map fixed (length values) (length solution) (length lifted)
   pub refused : (number ≡ 0 → ⊥) → lifted′ ≡ lifted
   pub accepted : number ≡ 0 → lifted′ ≡ liftedOf size map fixed values solution lifted
+
+-- ---- what is shown of the call
+
+-- the slices of an accepted call
+pub record LiftLent (most size : ℕ) (map fixed : List ℕ) (values solution lifted : ℕ) : Type 0 where
+  pub values-there : length fixed ≤ values
+  pub solution-there : length map ≤ solution
+  pub lifted-there : size ≤ most → size ≤ lifted
+
+-- what stands at k: the solution of the new index that is mapped to k, else the last value that is fixed at k, else 0.0
+pub data LiftedAt (map fixed : List ℕ) (values solution : List Float) (k : ℕ) : Float → Type 0 where
+  by-map : (j : ℕ) → j < length map → elem map j ≡ k → LiftedAt map fixed values solution k (elemF solution j)
+  by-fixed : (j : ℕ) → ((i : ℕ) → i < length map → elem map i ≡ k → ⊥) → j < length fixed → elem fixed j ≡ k
+      → ((i : ℕ) → j < i → i < length fixed → elem fixed i ≡ k → ⊥) → LiftedAt map fixed values solution k (elemF values j)
+  by-none : ((i : ℕ) → i < length map → elem map i ≡ k → ⊥) → ((i : ℕ) → i < length fixed → elem fixed i ≡ k → ⊥) → LiftedAt map fixed values solution k zero64
