@@ -1,4 +1,4 @@
--- The sign table of an accepted (H, c) as it stands in the slices that `sign_matrix` wrote: what holds of it, and of every vector of signs and every choice.
+-- The sign table of an accepted (H, c) in the slices that it was written to: what holds of it, and of every vector of signs and every choice.
 use mathlib.Core.Path.{_≡_, refl, sym, _∙_, ap, ap₂}
 use mathlib.Core.List.{List, [], _∷_, _++_, map}
 use Prim.Native.Nat.{ℕ, zero, suc, _+_, _*_, _^_, _<_, _≤_}
@@ -8,7 +8,7 @@ use lib.Seq.{sets, sets-eq}
 use lib.IntN.{ℤ, pos, natAbs, _+ℤ_, _*ℤ_}
 use lib.Signed.{_≤ℤ_}
 use Rattle.laws.specs.Sum.{sum, total}
-use Rattle.laws.specs.Lists.{elem, elemZ}
+use Rattle.laws.specs.Lists.{elem, elemZ, over}
 use Rattle.laws.proofs.Sums.{sum-ext}
 use Rattle.laws.proofs.Totals.{total-ext}
 use Rattle.tables.specs.Table.{Table, tableOf, InRange, Rising, Mirrored, magnitudeOf, valueAt, signAt, objectiveOf, floorOf}
@@ -51,26 +51,50 @@ module _ {m : ℕ} {r r′ k k′ : ℕ → ℕ} {v v′ : ℕ → ℤ} (s : Sam
 read : {A : Type 0} (xs l : List A) (d : A) (k : ℕ) → length xs ≤ length l → k < length xs → getD (sets l 0 xs) k d ≡ getD xs k d
 read xs l d k room h = ap (λ s. getD s k d) (sets-eq xs l 0 (omega arith)) ∙ List·getD-append xs (drop (0 + length xs) l) d k h
 
-pub written-same : {q : ℕ → ℕ → ℤ} {ps : List (ℕ × ℕ)} {rows cols : List ℕ} {values : List ℤ} {rows′ cols′ : List ℕ} {values′ : List ℤ}
-    → Wrote q ps 0 rows cols values rows′ cols′ values′ → Room 0 (length ps) rows cols values
-    → Same (length ps) (elem rows′) (elem (rowsOf ps)) (elem cols′) (elem (colsOf ps)) (elemZ values′) (elemZ (valuesOf q ps))
-written-same {q} {ps} {rows} {cols} {values} w room =
-    record {
-      rows = λ k h. rw (w .rows-are) (read (rowsOf ps) rows 0 k (omega (arith, length-map ps (λ p. p .0), room .rows-room)) (omega (arith, length-map ps (λ p. p .0))));
-      cols = λ k h. rw (w .cols-are) (read (colsOf ps) cols 0 k (omega (arith, length-map ps (λ p. p .1), room .cols-room)) (omega (arith, length-map ps (λ p. p .1))));
-      values = λ k h. rw (w .values-are) (read (valuesOf q ps) values (pos 0) k (omega (arith, length-map ps (λ p. q (p .0) (p .1)), room .values-room)) (omega (arith, length-map ps (λ p. q (p .0) (p .1)))));
-    }
+-- the slices hold the sign table of (H, c) in their first places
+pub record Holds (n : ℕ) (h : Table) (c : ℕ → ℤ) (rows cols : List ℕ) (values : List ℤ) : Type 0 where
+  pub same : Same (length (signPlaces n h c)) (elem rows) (elem (rowsOf (signPlaces n h c))) (elem cols) (elem (colsOf (signPlaces n h c))) (elemZ values)
+      (elemZ (valuesOf (signOf n h c) (signPlaces n h c)))
 
-module _ {most capacity limit n : ℕ} {h : Table} {c : ℕ → ℤ} (ok : Hall most capacity limit n h c) {rows cols : List ℕ} {values : List ℤ} {rows′ cols′ : List ℕ} {values′ : List ℤ}
-    (w : Wrote (signOf n h c) (signPlaces n h c) 0 rows cols values rows′ cols′ values′) (room : Room 0 (length (signPlaces n h c)) rows cols values) where
-  -- the table that was built passes every check of a sign table
-  pub built-accepted : Accepted (most + 1) (capacity + 3 * most + 1) (4 * limit) (suc n) (tableOf (length (signPlaces n h c)) rows′ cols′ values′)
-  built-accepted = same-accepted (written-same w room) (sign-table-accepted ok)
+module _ (n : ℕ) (h : Table) (c : ℕ → ℤ) where
+  -- as `sign_matrix` leaves them
+  pub written-holds : {rows cols : List ℕ} {values : List ℤ} {rows′ cols′ : List ℕ} {values′ : List ℤ} → Wrote (signOf n h c) (signPlaces n h c) 0 rows cols values rows′ cols′ values′
+      → Room 0 (length (signPlaces n h c)) rows cols values → Holds n h c rows′ cols′ values′
+  written-holds {rows} {cols} {values} w room =
+      let ps = signPlaces n h c in
+      let q = signOf n h c in
+      record {
+        same = record {
+          rows = λ k l. rw (w .rows-are) (read (rowsOf ps) rows 0 k (omega (arith, length-map ps (λ p. p .0), room .rows-room)) (omega (arith, length-map ps (λ p. p .0))));
+          cols = λ k l. rw (w .cols-are) (read (colsOf ps) cols 0 k (omega (arith, length-map ps (λ p. p .1), room .cols-room)) (omega (arith, length-map ps (λ p. p .1))));
+          values = λ k l. rw (w .values-are) (read (valuesOf q ps) values (pos 0) k (omega (arith, length-map ps (λ p. q (p .0) (p .1)), room .values-room)) (omega (arith, length-map ps (λ p. q (p .0) (p .1)))));
+        };
+      }
+
+  -- written over the front of others
+  pub over-holds : (rows cols : List ℕ) (values : List ℤ) {rows′ cols′ : List ℕ} {values′ : List ℤ} → rows′ ≡ over (rowsOf (signPlaces n h c)) rows → cols′ ≡ over (colsOf (signPlaces n h c)) cols
+      → values′ ≡ over (valuesOf (signOf n h c) (signPlaces n h c)) values → Holds n h c rows′ cols′ values′
+  over-holds rows cols values a b d =
+      let ps = signPlaces n h c in
+      let q = signOf n h c in
+      record {
+        same = record {
+          rows = λ k l. rw a (List·getD-append (rowsOf ps) (drop (length (rowsOf ps)) rows) 0 k (omega (arith, length-map ps (λ p. p .0))));
+          cols = λ k l. rw b (List·getD-append (colsOf ps) (drop (length (colsOf ps)) cols) 0 k (omega (arith, length-map ps (λ p. p .1))));
+          values = λ k l. rw d (List·getD-append (valuesOf q ps) (drop (length (valuesOf q ps)) values) (pos 0) k (omega (arith, length-map ps (λ p. q (p .0) (p .1)))));
+        };
+      }
+
+-- slices that hold the sign table of an accepted (H, c)
+module _ {most capacity limit n : ℕ} {h : Table} {c : ℕ → ℤ} (ok : Hall most capacity limit n h c) {rows cols : List ℕ} {values : List ℤ} (s : Holds n h c rows cols values) where
+  -- the table in them passes every check of a sign table
+  pub built-accepted : Accepted (most + 1) (capacity + 3 * most + 1) (4 * limit) (suc n) (tableOf (length (signPlaces n h c)) rows cols values)
+  built-accepted = same-accepted (s .same) (sign-table-accepted ok)
 
   -- its objective at signs is eight times the cost of what they decode to
-  pub built-objective : (signs : List ℕ) → objectiveOf (tableOf (length (signPlaces n h c)) rows′ cols′ values′) (signAt signs) ≡ costEighths n (valueAt h) c (decoded n signs)
-  built-objective signs = same-objective (written-same w room) (signAt signs) ∙ objective-cost ok signs
+  pub built-objective : (signs : List ℕ) → objectiveOf (tableOf (length (signPlaces n h c)) rows cols values) (signAt signs) ≡ costEighths n (valueAt h) c (decoded n signs)
+  built-objective signs = same-objective (s .same) (signAt signs) ∙ objective-cost ok signs
 
   -- its floor is at most the cost of every choice
-  pub built-floor : (b : List ℕ) → floorOf (tableOf (length (signPlaces n h c)) rows′ cols′ values′) ≤ℤ costEighths n (valueAt h) c (choiceAt b)
-  built-floor b = rw (same-floor (written-same w room)) (floor-le-choice ok b)
+  pub built-floor : (b : List ℕ) → floorOf (tableOf (length (signPlaces n h c)) rows cols values) ≤ℤ costEighths n (valueAt h) c (choiceAt b)
+  built-floor b = rw (same-floor (s .same)) (floor-le-choice ok b)

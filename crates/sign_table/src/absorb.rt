@@ -147,7 +147,14 @@ pub struct RowSum {
 }
 
 // The sum of row i of the absorbed table, whose entries start at `start`.
-pub fn row_sum(count: usize, rows: &[u16], values: &[i64], c: &[i64], i: usize, start: usize) -> RowSum
+pub fn row_sum(
+    count: usize,
+    rows: &[u16],
+    values: &[i64],
+    c: &[i64],
+    i: usize,
+    start: usize,
+) -> RowSum
     requires { ⌜ (count ≤ length (now rows)) × (count ≤ length (now values)) × (i < length (now c)) × (total count (λ k. natAbs (elemZ (now values) k)) ≤ 2 ^ 60) × (natAbs (elemZ (now c) i) ≤ 2 ^ 59)
         × RowAt count (elem (now rows)) start i × (sum start (rowTerm (elem (now rows)) (elemZ (now values)) i) ≡ pos 0) ⌝ }
     ensures { λ r. ⌜ RowSummed count (elem (now (rows .entry))) (elemZ (now (values .entry))) (elemZ (now (c .entry)) i) i (r .next) (r .sum) ⌝ }

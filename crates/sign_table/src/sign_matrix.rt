@@ -1,5 +1,9 @@
 // `qubo_hessian_to_sign_matrix`, of the absorbed table, in one walk of the entries of H.
-use crate::absorb::{after_here, here_value, next_column, row_sum, vanishes};
+use crate::absorb::after_here;
+use crate::absorb::here_value;
+use crate::absorb::next_column;
+use crate::absorb::row_sum;
+use crate::absorb::vanishes;
 ghost use mathlib.Core.Path.{_≡_};
 ghost use mathlib.Core.Bool.{not, cond};
 ghost use mathlib.Core.List.{[], _∷_};

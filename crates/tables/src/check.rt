@@ -197,7 +197,13 @@ pub fn too_short(refused: bool, needed: usize, lent: usize) -> bool
 }
 
 // 31 for the slices of a table.
-pub fn short_table(capacity: usize, count: usize, rows: &[u16], cols: &[u16], values: &[i64]) -> bool
+pub fn short_table(
+    capacity: usize,
+    count: usize,
+    rows: &[u16],
+    cols: &[u16],
+    values: &[i64],
+) -> bool
     ensures { λ r. ⌜ r ≡ shortTable capacity count (length (now (rows .entry))) (length (now (cols .entry))) (length (now (values .entry))) ⌝ }
 {
     if too_short(capacity < count, count, rows.len()) {

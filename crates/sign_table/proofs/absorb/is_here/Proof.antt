@@ -1,6 +1,6 @@
+-- `sign_table::absorb::is_here` meets its contract.
 use mathlib.Core.Path.{sym, _∙_}
 use borrow.Author.Tests.{lt-ltb, le-ltb, eq-eqb, ne-eqb}
-use borrow.Author.Needs.{needs}
 use borrow.Author.Needs.{needs}
 use Rattle.sign_table.proofs.absorb.is_here.Statement.{statement}
 use Rattle.sign_table.proofs.absorb.is_here.Tie as tie

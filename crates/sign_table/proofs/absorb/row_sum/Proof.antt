@@ -1,3 +1,4 @@
+-- `sign_table::absorb::row_sum` meets its contract.
 use Rattle.tables.proofs.Mirrors.{only-yes}
 use Rattle.sign_table.proofs.Bounds.{row-held, row-abs, summed-fits, summed-is}
 use Rattle.sign_table.proofs.Cursor.{in-row-true, row-step}
@@ -30,31 +31,51 @@ in-row-requires : tie.Need-in-row-requires Inv-loop μ-loop
 in-row-requires c κs = search needs
 
 mul-sum : tie.Need-mul-sum Inv-loop μ-loop
-mul-sum c = let here = in-row-true (c .before .before .before .before .args .count) (elem (now (c .before .before .before .before .args .rows))) (c .before .before .before .before .args .i) (c .before .before .loop .k) (sym (c .before .in-row .ensures) ∙ c .if1 .taken) in omega arith
+mul-sum c =
+    let a = c .before .before .before .before .args in
+    let here = in-row-true (a .count) (elem (now (a .rows))) (a .i) (c .before .before .loop .k) (sym (c .before .in-row .ensures) ∙ c .if1 .taken) in omega arith
 
 shared-slice-copy-out-sum : tie.Need-shared-slice-copy-out-sum Inv-loop μ-loop
-shared-slice-copy-out-sum c = let here = in-row-true (c .before .before .before .before .args .count) (elem (now (c .before .before .before .before .args .rows))) (c .before .before .before .before .args .i) (c .before .before .loop .k) (sym (c .before .in-row .ensures) ∙ c .if1 .taken) in omega arith
+shared-slice-copy-out-sum c =
+    let a = c .before .before .before .before .args in
+    let here = in-row-true (a .count) (elem (now (a .rows))) (a .i) (c .before .before .loop .k) (sym (c .before .in-row .ensures) ∙ c .if1 .taken) in omega arith
 
 add-sum : tie.Need-add-sum Inv-loop μ-loop
-add-sum c = let here = in-row-true (c .before .before .before .before .before .args .count) (elem (now (c .before .before .before .before .before .args .rows))) (c .before .before .before .before .before .args .i) (c .before .before .before .loop .k) (sym (c .before .before .in-row .ensures) ∙ c .before .if1 .taken) in turn-fits (row-held (c .before .before .before .before .before .args .count) (elem (now (c .before .before .before .before .before .args .rows))) (elemZ (now (c .before .before .before .before .before .args .values))) (c .before .before .before .before .before .args .i) (c .before .before .before .before .before .pre .3)) (c .before .before .before .loop .k) (c .before .before .before .loop .sum) (elemZ (now (c .before .before .before .before .before .args .values)) (c .before .before .before .loop .k)) (here .0) (c .before .before .before .loop .inv .1) (c .sum .given) (sym (only-yes (elem (now (c .before .before .before .before .before .args .rows)) (c .before .before .before .loop .k)) (c .before .before .before .before .before .args .i) (elemZ (now (c .before .before .before .before .before .args .values)) (c .before .before .before .loop .k)) (here .1)))
+add-sum c =
+    let a = c .before .before .before .before .before .args in
+    let here = in-row-true (a .count) (elem (now (a .rows))) (a .i) (c .before .before .before .loop .k) (sym (c .before .before .in-row .ensures) ∙ c .before .if1 .taken) in turn-fits (row-held (a .count) (elem (now (a .rows))) (elemZ (now (a .values))) (a .i) (c .before .before .before .before .before .pre .3)) (c .before .before .before .loop .k) (c .before .before .before .loop .sum) (elemZ (now (a .values)) (c .before .before .before .loop .k)) (here .0) (c .before .before .before .loop .inv .1) (c .sum .given) (sym (only-yes (elem (now (a .rows)) (c .before .before .before .loop .k)) (a .i) (elemZ (now (a .values)) (c .before .before .before .loop .k)) (here .1)))
 
 add-k : tie.Need-add-k Inv-loop μ-loop
-add-k c = let here = in-row-true (c .before .before .before .before .before .args .count) (elem (now (c .before .before .before .before .before .args .rows))) (c .before .before .before .before .before .args .i) (c .before .before .before .loop .k) (sym (c .before .before .in-row .ensures) ∙ c .before .if1 .taken) in omega arith
+add-k c =
+    let a = c .before .before .before .before .before .args in
+    let here = in-row-true (a .count) (elem (now (a .rows))) (a .i) (c .before .before .before .loop .k) (sym (c .before .before .in-row .ensures) ∙ c .before .if1 .taken) in omega arith
 
 loop-less : tie.Need-loop-less Inv-loop μ-loop
-loop-less c = let here = in-row-true (c .before .before .before .before .before .args .count) (elem (now (c .before .before .before .before .before .args .rows))) (c .before .before .before .before .before .args .i) (c .before .before .before .loop .k) (sym (c .before .before .in-row .ensures) ∙ c .before .if1 .taken) in omega arith
+loop-less c =
+    let a = c .before .before .before .before .before .args in
+    let here = in-row-true (a .count) (elem (now (a .rows))) (a .i) (c .before .before .before .loop .k) (sym (c .before .before .in-row .ensures) ∙ c .before .if1 .taken) in omega arith
 
 loop-again : tie.Need-loop-again Inv-loop μ-loop
-loop-again c = let here = in-row-true (c .before .before .before .before .before .args .count) (elem (now (c .before .before .before .before .before .args .rows))) (c .before .before .before .before .before .args .i) (c .before .before .before .loop .k) (sym (c .before .before .in-row .ensures) ∙ c .before .if1 .taken) in (row-step _ _ _ _ (c .before .before .before .loop .inv .0) (here .0) (here .1), turn-is (row-held (c .before .before .before .before .before .args .count) (elem (now (c .before .before .before .before .before .args .rows))) (elemZ (now (c .before .before .before .before .before .args .values))) (c .before .before .before .before .before .args .i) (c .before .before .before .before .before .pre .3)) (c .before .before .before .loop .k) (c .before .before .before .loop .sum) (elemZ (now (c .before .before .before .before .before .args .values)) (c .before .before .before .loop .k)) (here .0) (c .before .before .before .loop .inv .1) (c .sum .given) (sym (only-yes (elem (now (c .before .before .before .before .before .args .rows)) (c .before .before .before .loop .k)) (c .before .before .before .before .before .args .i) (elemZ (now (c .before .before .before .before .before .args .values)) (c .before .before .before .loop .k)) (here .1))))
+loop-again c =
+    let a = c .before .before .before .before .before .args in
+    let here = in-row-true (a .count) (elem (now (a .rows))) (a .i) (c .before .before .before .loop .k) (sym (c .before .before .in-row .ensures) ∙ c .before .if1 .taken) in (row-step _ _ _ _ (c .before .before .before .loop .inv .0) (here .0) (here .1), turn-is (row-held (a .count) (elem (now (a .rows))) (elemZ (now (a .values))) (a .i) (c .before .before .before .before .before .pre .3)) (c .before .before .before .loop .k) (c .before .before .before .loop .sum) (elemZ (now (a .values)) (c .before .before .before .loop .k)) (here .0) (c .before .before .before .loop .inv .1) (c .sum .given) (sym (only-yes (elem (now (a .rows)) (c .before .before .before .loop .k)) (a .i) (elemZ (now (a .values)) (c .before .before .before .loop .k)) (here .1))))
 
 linear-value-requires : tie.Need-linear-value-requires Inv-loop μ-loop
-linear-value-requires c κs = (c .before .before .before .before .pre .2, c .before .before .before .before .pre .4)
+linear-value-requires c κs =
+    let p = c .before .before .before .before .pre in
+    (p .2, p .4)
 
 add-t14 : tie.Need-add-t14 Inv-loop μ-loop
-add-t14 c = summed-fits (c .before .before .before .loop .sum) (S.sum (c .before .before .before .loop .k) (rowTerm (elem (now (c .before .before .before .before .before .args .rows))) (elemZ (now (c .before .before .before .before .before .args .values))) (c .before .before .before .before .before .args .i))) (c .linear-value .result) (elemZ (now (c .before .before .before .before .before .args .c)) (c .before .before .before .before .before .args .i)) (c .before .before .before .loop .inv .1) (c .linear-value .ok) (c .linear-value .ensures ∙ rw (eq-eqb (c .before .before .before .before .before .args .i) (c .before .before .before .before .before .args .i) refl)) (le-trans (row-abs (c .before .before .before .before .before .args .count) (c .before .before .before .loop .k) (elem (now (c .before .before .before .before .before .args .rows))) (elemZ (now (c .before .before .before .before .before .args .values))) (c .before .before .before .before .before .args .i) (c .before .before .before .loop .inv .0 .inside)) (c .before .before .before .before .before .pre .3)) (c .before .before .before .before .before .pre .4)
+add-t14 c =
+    let a = c .before .before .before .before .before .args in
+    let p = c .before .before .before .before .before .pre in
+    summed-fits (c .before .before .before .loop .sum) (S.sum (c .before .before .before .loop .k) (rowTerm (elem (now (a .rows))) (elemZ (now (a .values))) (a .i))) (c .linear-value .result) (elemZ (now (a .c)) (a .i)) (c .before .before .before .loop .inv .1) (c .linear-value .ok) (c .linear-value .ensures ∙ rw (eq-eqb (a .i) (a .i) refl)) (le-trans (row-abs (a .count) (c .before .before .before .loop .k) (elem (now (a .rows))) (elemZ (now (a .values))) (a .i) (c .before .before .before .loop .inv .0 .inside)) (p .3)) (p .4)
 
 returns : tie.Need-returns Inv-loop μ-loop
-returns c = record { is = summed-is (c .before .before .before .loop .sum) (S.sum (c .before .before .before .loop .k) (rowTerm (elem (now (c .before .before .before .before .before .args .rows))) (elemZ (now (c .before .before .before .before .before .args .values))) (c .before .before .before .before .before .args .i))) (c .linear-value .result) (elemZ (now (c .before .before .before .before .before .args .c)) (c .before .before .before .before .before .args .i)) (c .before .before .before .loop .inv .1) (c .linear-value .ok) (c .linear-value .ensures ∙ rw (eq-eqb (c .before .before .before .before .before .args .i) (c .before .before .before .before .before .args .i) refl)) (le-trans (row-abs (c .before .before .before .before .before .args .count) (c .before .before .before .loop .k) (elem (now (c .before .before .before .before .before .args .rows))) (elemZ (now (c .before .before .before .before .before .args .values))) (c .before .before .before .before .before .args .i) (c .before .before .before .loop .inv .0 .inside)) (c .before .before .before .before .before .pre .3)) (c .before .before .before .before .before .pre .4); at = c .before .before .before .loop .inv .0; past = sym (c .before .before .in-row .ensures) ∙ c .before .if1 .left }
+returns c =
+    let a = c .before .before .before .before .before .args in
+    let p = c .before .before .before .before .before .pre in
+    record { is = summed-is (c .before .before .before .loop .sum) (S.sum (c .before .before .before .loop .k) (rowTerm (elem (now (a .rows))) (elemZ (now (a .values))) (a .i))) (c .linear-value .result) (elemZ (now (a .c)) (a .i)) (c .before .before .before .loop .inv .1) (c .linear-value .ok) (c .linear-value .ensures ∙ rw (eq-eqb (a .i) (a .i) refl)) (le-trans (row-abs (a .count) (c .before .before .before .loop .k) (elem (now (a .rows))) (elemZ (now (a .values))) (a .i) (c .before .before .before .loop .inv .0 .inside)) (p .3)) (p .4); at = c .before .before .before .loop .inv .0; past = sym (c .before .before .in-row .ensures) ∙ c .before .if1 .left }
 
 pub row-sum-spec : {M : Type 1} → statement M
 row-sum-spec =

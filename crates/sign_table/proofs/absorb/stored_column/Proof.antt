@@ -1,7 +1,7 @@
+-- `sign_table::absorb::stored_column` meets its contract.
 use Rattle.sign_table.specs.Walk.{storedColumn}
 use mathlib.Core.Path.{sym, _∙_}
 use borrow.Author.Tests.{lt-ltb, le-ltb, eq-eqb, ne-eqb}
-use borrow.Author.Needs.{needs}
 use borrow.Author.Needs.{needs}
 use Rattle.sign_table.proofs.absorb.stored_column.Statement.{statement}
 use Rattle.sign_table.proofs.absorb.stored_column.Tie as tie

@@ -1,6 +1,6 @@
+-- `sign_table::absorb::stored_value` meets its contract.
 use Rattle.laws.proofs.Integer.{held}
 use borrow.Author.Tests.{le-ltb}
-use borrow.Author.Needs.{needs}
 use borrow.Author.Needs.{needs}
 use Rattle.sign_table.proofs.absorb.stored_value.Statement.{statement}
 use Rattle.sign_table.proofs.absorb.stored_value.Tie as tie

@@ -1,3 +1,4 @@
+-- `sign_table::absorb::vanishes` meets its contract.
 use Rattle.sign_table.proofs.Cursor.{zero-bits}
 use borrow.Author.Needs.{needs}
 use Rattle.sign_table.proofs.absorb.vanishes.Statement.{statement}

@@ -1,3 +1,4 @@
+-- `sign_table::sign_matrix::put_last_row` meets its contract.
 use Rattle.sign_table.proofs.Built.{LastInv, last-begin, last-turn, last-room, last-fits, last-done, row-asks, room-on, sum-back, sum-small}
 use Rattle.sign_table.proofs.Cursor.{row-start}
 use Rattle.sign_table.proofs.Bounds.{linear-small}
@@ -22,10 +23,14 @@ loop-holds : tie.Need-loop-holds Inv-loop μ-loop
 loop-holds c = (last-begin _ _ _, refl, refl, refl)
 
 row-sum-requires : tie.Need-row-sum-requires Inv-loop μ-loop
-row-sum-requires c κs = (c .before .before .before .before .before .before .pre .0 .rows-there, c .before .before .before .before .before .before .pre .0 .values-there, omega (arith, c .before .before .before .before .before .before .pre .1), omega (arith, c .before .before .before .before .before .before .pre .2 .small), linear-small (c .before .before .before .before .before .before .pre .2) (c .before .loop .i) (c .loop-test .taken), row-start ((c .before .loop .inv .0) .cursor), row-asks ((c .before .loop .inv .0) .cursor))
+row-sum-requires c κs =
+    let p = c .before .before .before .before .before .before .pre in
+    (p .0 .rows-there, p .0 .values-there, omega (arith, p .1), omega (arith, p .2 .small), linear-small (p .2) (c .before .loop .i) (c .loop-test .taken), row-start ((c .before .loop .inv .0) .cursor), row-asks ((c .before .loop .inv .0) .cursor))
 
 put-negated-requires : tie.Need-put-negated-requires Inv-loop μ-loop
-put-negated-requires c κs = rw (sum-back (c .before .before .before .before .before .before .before .before .before .before .before .pre .2) (c .before .before .before .before .before .loop-test .taken) (c .before .before .before .before .row-sum .ensures)) (room-on (c .before .before .before .before .before .before .before .before .before .before .before .pre .3) (last-room (c .before .before .before .before .before .before .before .before .before .before .before .pre .2) (c .before .before .before .before .before .before .loop .inv .0) (c .before .before .before .before .before .loop-test .taken) (c .before .before .before .before .row-sum .ensures)) (c .before .before .before .before .before .before .loop .inv .1) (c .before .before .before .before .before .before .loop .inv .2) (c .before .before .before .before .before .before .loop .inv .3), omega (arith, c .before .before .before .before .before .before .before .before .before .before .before .pre .2 .low), omega (arith, c .before .before .before .before .before .before .before .before .before .before .before .pre .2 .low), sum-small (c .before .before .before .before .before .before .before .before .before .before .before .pre .2) (c .before .before .before .before .before .loop-test .taken) (c .before .before .before .before .row-sum .ensures))
+put-negated-requires c κs =
+    let p = c .before .before .before .before .before .before .before .before .before .before .before .pre in
+    rw (sum-back (p .2) (c .before .before .before .before .before .loop-test .taken) (c .before .before .before .before .row-sum .ensures)) (room-on (p .3) (last-room (p .2) (c .before .before .before .before .before .before .loop .inv .0) (c .before .before .before .before .before .loop-test .taken) (c .before .before .before .before .row-sum .ensures)) (c .before .before .before .before .before .before .loop .inv .1) (c .before .before .before .before .before .before .loop .inv .2) (c .before .before .before .before .before .before .loop .inv .3), omega (arith, p .2 .low), omega (arith, p .2 .low), sum-small (p .2) (c .before .before .before .before .before .loop-test .taken) (c .before .before .before .before .row-sum .ensures))
 
 add-total : tie.Need-add-total Inv-loop μ-loop
 add-total c = last-fits (c .before .before .before .before .before .before .before .before .before .before .before .before .before .before .before .before .before .pre .2) (c .before .before .before .before .before .before .before .before .before .before .before .before .loop .inv .0) (c .before .before .before .before .before .before .before .before .before .before .before .loop-test .taken) (c .before .before .before .before .before .before .before .before .before .before .row-sum .ensures)
@@ -38,9 +43,10 @@ loop-less c = search needs
 
 loop-again : tie.Need-loop-again Inv-loop μ-loop
 loop-again c =
-    let back = sum-back (c .before .before .before .before .before .before .before .before .before .before .before .before .before .before .before .before .before .pre .2) (c .before .before .before .before .before .before .before .before .before .before .before .loop-test .taken) (c .before .before .before .before .before .before .before .before .before .before .row-sum .ensures) in
+    let p = c .before .before .before .before .before .before .before .before .before .before .before .before .before .before .before .before .before .pre in
+    let back = sum-back (p .2) (c .before .before .before .before .before .before .before .before .before .before .before .loop-test .taken) (c .before .before .before .before .before .before .before .before .before .before .row-sum .ensures) in
     let edge = (rw back at (c .before .before .before .before .before .put-negated .ensures)) in
-    (last-turn (c .before .before .before .before .before .before .before .before .before .before .before .before .before .before .before .before .before .pre .2) (c .before .before .before .before .before .before .before .before .before .before .before .before .loop .inv .0) (c .before .before .before .before .before .before .before .before .before .before .before .loop-test .taken) (c .before .before .before .before .before .before .before .before .before .before .row-sum .ensures) (edge .0) (edge .1) refl, omega (arith, c .before .before .before .before .before .before .before .before .before .before .before .before .loop .inv .1), omega (arith, c .before .before .before .before .before .before .before .before .before .before .before .before .loop .inv .2), omega (arith, c .before .before .before .before .before .before .before .before .before .before .before .before .loop .inv .3))
+    (last-turn (p .2) (c .before .before .before .before .before .before .before .before .before .before .before .before .loop .inv .0) (c .before .before .before .before .before .before .before .before .before .before .before .loop-test .taken) (c .before .before .before .before .before .before .before .before .before .before .row-sum .ensures) (edge .0) (edge .1) refl, omega (arith, c .before .before .before .before .before .before .before .before .before .before .before .before .loop .inv .1), omega (arith, c .before .before .before .before .before .before .before .before .before .before .before .before .loop .inv .2), omega (arith, c .before .before .before .before .before .before .before .before .before .before .before .before .loop .inv .3))
 
 same-length : tie.Need-same-length Inv-loop μ-loop
 same-length c = search needs

@@ -1,10 +1,10 @@
+-- `sign_table::sign_matrix::put_negated` meets its contract.
 use Rattle.sign_table.proofs.Bounds.{negation-fits, negation-is}
 use Rattle.sign_table.proofs.Writing.{wrote-none}
 use Rattle.sign_table.specs.SignTable.{isZero}
 use mir.Facts.{toZ-ofZ}
 use native.Mathlib.Omega.{arith}
 use mathlib.Core.Path.{refl, sym, ap, _∙_}
-use borrow.Author.Needs.{needs}
 use borrow.Author.Needs.{needs}
 use Rattle.sign_table.proofs.sign_matrix.put_negated.Statement.{statement}
 use Rattle.sign_table.proofs.sign_matrix.put_negated.Tie as tie
@@ -19,7 +19,9 @@ sub-put : tie.Need-sub-put
 sub-put c = negation-fits (c .before .before .before .before .before .before .before .args .sum) (c .before .before .before .before .before .before .before .fits .sum) (c .before .before .before .before .before .before .before .pre .3)
 
 put-requires : tie.Need-put-requires
-put-requires c κs = ((rw (sym (c .before .before .before .before .vanishes .ensures ∙ ap isZero (toZ-ofZ (c .before .before .before .before .before .before .before .fits .sum))) ∙ c .before .before .before .if1 .left) at (c .before .before .before .before .before .before .before .pre .0)), c .before .before .before .before .before .before .before .pre .1, c .before .before .before .before .before .before .before .pre .2)
+put-requires c κs =
+    let p = c .before .before .before .before .before .before .before .pre in
+    ((rw (sym (c .before .before .before .before .vanishes .ensures ∙ ap isZero (toZ-ofZ (c .before .before .before .before .before .before .before .fits .sum))) ∙ c .before .before .before .if1 .left) at (p .0)), p .1, p .2)
 
 add-result : tie.Need-add-result
 add-result c = search needs

@@ -1,3 +1,4 @@
+-- `sign_table::sign_matrix::put_row` meets its contract.
 use Rattle.sign_table.proofs.Built.{RowInv, row-begin, row-turn, row-room, row-done}
 use Rattle.sign_table.proofs.Bounds.{linear-small}
 use Rattle.tables.specs.Table.{tableOf}
@@ -24,16 +25,24 @@ next-column-requires : tie.Need-next-column-requires Inv-loop μ-loop
 next-column-requires c κs = search needs
 
 loop-holds : tie.Need-loop-holds Inv-loop μ-loop
-loop-holds c = (row-begin (c .before .before .before .before .before .pre .2) (c .before .before .before .before .before .pre .3) (c .before .before .before .before .before .pre .4) (c .next-column .ensures), refl, refl, refl)
+loop-holds c =
+    let p = c .before .before .before .before .before .pre in
+    (row-begin (p .2) (p .3) (p .4) (c .next-column .ensures), refl, refl, refl)
 
 here-value-requires : tie.Need-here-value-requires Inv-loop μ-loop
-here-value-requires c κs = (c .before .before .before .before .before .before .before .pre .0, omega arith, linear-small (c .before .before .before .before .before .before .before .pre .2) (c .before .before .before .before .before .before .before .args .i) (c .before .before .before .before .before .before .before .pre .3), omega (arith, c .before .before .before .before .before .before .before .pre .2 .small))
+here-value-requires c κs =
+    let p = c .before .before .before .before .before .before .before .pre in
+    (p .0, omega arith, linear-small (p .2) (c .before .before .before .before .before .before .before .args .i) (p .3), omega (arith, p .2 .small))
 
 put-requires : tie.Need-put-requires Inv-loop μ-loop
-put-requires c κs = (record { rows-room = omega (arith, row-room (c .before .before .before .before .before .before .before .before .before .before .before .pre .2) (c .before .before .before .before .before .before .before .before .before .before .before .pre .3) (c .before .before .before .before .before .loop .inv .0) (c .before .before .before .before .loop-test .taken), c .before .before .before .before .before .before .before .before .before .before .before .pre .5 .rows-room, c .before .before .before .before .before .loop .inv .1); cols-room = omega (arith, row-room (c .before .before .before .before .before .before .before .before .before .before .before .pre .2) (c .before .before .before .before .before .before .before .before .before .before .before .pre .3) (c .before .before .before .before .before .loop .inv .0) (c .before .before .before .before .loop-test .taken), c .before .before .before .before .before .before .before .before .before .before .before .pre .5 .cols-room, c .before .before .before .before .before .loop .inv .2); values-room = omega (arith, row-room (c .before .before .before .before .before .before .before .before .before .before .before .pre .2) (c .before .before .before .before .before .before .before .before .before .before .before .pre .3) (c .before .before .before .before .before .loop .inv .0) (c .before .before .before .before .loop-test .taken), c .before .before .before .before .before .before .before .before .before .before .before .pre .5 .values-room, c .before .before .before .before .before .loop .inv .3) }, omega (arith, c .before .before .before .before .before .before .before .before .before .before .before .pre .2 .low), omega (arith, c .before .before .before .before .before .before .before .before .before .before .before .pre .2 .low))
+put-requires c κs =
+    let p = c .before .before .before .before .before .before .before .before .before .before .before .pre in
+    (record { rows-room = omega (arith, row-room (p .2) (p .3) (c .before .before .before .before .before .loop .inv .0) (c .before .before .before .before .loop-test .taken), p .5 .rows-room, c .before .before .before .before .before .loop .inv .1); cols-room = omega (arith, row-room (p .2) (p .3) (c .before .before .before .before .before .loop .inv .0) (c .before .before .before .before .loop-test .taken), p .5 .cols-room, c .before .before .before .before .before .loop .inv .2); values-room = omega (arith, row-room (p .2) (p .3) (c .before .before .before .before .before .loop .inv .0) (c .before .before .before .before .loop-test .taken), p .5 .values-room, c .before .before .before .before .before .loop .inv .3) }, omega (arith, p .2 .low), omega (arith, p .2 .low))
 
 add-at : tie.Need-add-at Inv-loop μ-loop
-add-at c = omega (arith, row-room (c .before .before .before .before .before .before .before .before .before .before .before .before .before .before .before .before .before .pre .2) (c .before .before .before .before .before .before .before .before .before .before .before .before .before .before .before .before .before .pre .3) (c .before .before .before .before .before .before .before .before .before .before .before .loop .inv .0) (c .before .before .before .before .before .before .before .before .before .before .loop-test .taken), c .before .before .before .before .before .before .before .before .before .before .before .before .before .before .before .before .before .pre .5 .rows-room, c .before .before .before .before .before .before .before .before .before .before .before .before .before .before .before .before .before .good .1 .1 .1 .1 .1 .1 .1 .1 .0 .0)
+add-at c =
+    let p = c .before .before .before .before .before .before .before .before .before .before .before .before .before .before .before .before .before .pre in
+    omega (arith, row-room (p .2) (p .3) (c .before .before .before .before .before .before .before .before .before .before .before .loop .inv .0) (c .before .before .before .before .before .before .before .before .before .before .loop-test .taken), p .5 .rows-room, c .before .before .before .before .before .before .before .before .before .before .before .before .before .before .before .before .before .good .1 .1 .1 .1 .1 .1 .1 .1 .0 .0)
 
 after-here-requires : tie.Need-after-here-requires Inv-loop μ-loop
 after-here-requires c κs = search needs
@@ -42,13 +51,19 @@ add-next-column : tie.Need-add-next-column Inv-loop μ-loop
 add-next-column c = search needs
 
 next-column-requires-2 : tie.Need-next-column-requires-2 Inv-loop μ-loop
-next-column-requires-2 c κs = (c .before .before .before .before .before .before .before .before .before .before .before .before .before .before .before .before .before .before .pre .0 .rows-there, c .before .before .before .before .before .before .before .before .before .before .before .before .before .before .before .before .before .before .pre .0 .cols-there, omega (arith, c .before .before .before .before .before .before .before .before .before .before .before .before .before .before .before .before .before .before .pre .1, c .before .before .before .before .before .before .before .before .before .before .before .before .before .before .before .before .before .before .pre .3))
+next-column-requires-2 c κs =
+    let p = c .before .before .before .before .before .before .before .before .before .before .before .before .before .before .before .before .before .before .pre in
+    (p .0 .rows-there, p .0 .cols-there, omega (arith, p .1, p .3))
 
 loop-less : tie.Need-loop-less Inv-loop μ-loop
-loop-less c = let t = row-turn (c .before .before .before .before .before .before .before .before .before .before .before .before .before .before .before .before .before .before .before .pre .2) (c .before .before .before .before .before .before .before .before .before .before .before .before .before .before .before .before .before .before .before .pre .3) (c .before .before .before .before .before .before .before .before .before .before .before .before .before .loop .inv .0) (c .before .before .before .before .before .before .before .before .before .before .before .before .loop-test .taken) (held (c .before .before .before .before .before .before .before .before .before .before .before .here-value .result) (c .before .before .before .before .before .before .before .before .before .before .before .here-value .ok) ∙ c .before .before .before .before .before .before .before .before .before .before .before .here-value .ensures) (c .before .after-here .ensures) (c .next-column2 .ensures) (c .before .before .before .before .before .before .before .put .ensures) in omega (arith, c .before .before .before .before .before .before .before .before .before .before .before .before .loop-test .taken, t .1)
+loop-less c =
+    let p = c .before .before .before .before .before .before .before .before .before .before .before .before .before .before .before .before .before .before .before .pre in
+    let t = row-turn (p .2) (p .3) (c .before .before .before .before .before .before .before .before .before .before .before .before .before .loop .inv .0) (c .before .before .before .before .before .before .before .before .before .before .before .before .loop-test .taken) (held (c .before .before .before .before .before .before .before .before .before .before .before .here-value .result) (c .before .before .before .before .before .before .before .before .before .before .before .here-value .ok) ∙ c .before .before .before .before .before .before .before .before .before .before .before .here-value .ensures) (c .before .after-here .ensures) (c .next-column2 .ensures) (c .before .before .before .before .before .before .before .put .ensures) in omega (arith, c .before .before .before .before .before .before .before .before .before .before .before .before .loop-test .taken, t .1)
 
 loop-again : tie.Need-loop-again Inv-loop μ-loop
-loop-again c = let t = row-turn (c .before .before .before .before .before .before .before .before .before .before .before .before .before .before .before .before .before .before .before .pre .2) (c .before .before .before .before .before .before .before .before .before .before .before .before .before .before .before .before .before .before .before .pre .3) (c .before .before .before .before .before .before .before .before .before .before .before .before .before .loop .inv .0) (c .before .before .before .before .before .before .before .before .before .before .before .before .loop-test .taken) (held (c .before .before .before .before .before .before .before .before .before .before .before .here-value .result) (c .before .before .before .before .before .before .before .before .before .before .before .here-value .ok) ∙ c .before .before .before .before .before .before .before .before .before .before .before .here-value .ensures) (c .before .after-here .ensures) (c .next-column2 .ensures) (c .before .before .before .before .before .before .before .put .ensures) in (t .0, omega (arith, c .before .before .before .before .before .before .before .before .before .before .before .before .before .loop .inv .1), omega (arith, c .before .before .before .before .before .before .before .before .before .before .before .before .before .loop .inv .2), omega (arith, c .before .before .before .before .before .before .before .before .before .before .before .before .before .loop .inv .3))
+loop-again c =
+    let p = c .before .before .before .before .before .before .before .before .before .before .before .before .before .before .before .before .before .before .before .pre in
+    let t = row-turn (p .2) (p .3) (c .before .before .before .before .before .before .before .before .before .before .before .before .before .loop .inv .0) (c .before .before .before .before .before .before .before .before .before .before .before .before .loop-test .taken) (held (c .before .before .before .before .before .before .before .before .before .before .before .here-value .result) (c .before .before .before .before .before .before .before .before .before .before .before .here-value .ok) ∙ c .before .before .before .before .before .before .before .before .before .before .before .here-value .ensures) (c .before .after-here .ensures) (c .next-column2 .ensures) (c .before .before .before .before .before .before .before .put .ensures) in (t .0, omega (arith, c .before .before .before .before .before .before .before .before .before .before .before .before .before .loop .inv .1), omega (arith, c .before .before .before .before .before .before .before .before .before .before .before .before .before .loop .inv .2), omega (arith, c .before .before .before .before .before .before .before .before .before .before .before .before .before .loop .inv .3))
 
 same-length : tie.Need-same-length Inv-loop μ-loop
 same-length c = search needs
@@ -60,7 +75,9 @@ same-length-3 : tie.Need-same-length-3 Inv-loop μ-loop
 same-length-3 c = search needs
 
 returns : tie.Need-returns Inv-loop μ-loop
-returns c = row-done (c .before .before .before .before .before .before .before .pre .2) (c .before .before .before .before .before .before .before .pre .3) (c .before .loop .inv .0) (c .loop-test .left)
+returns c =
+    let p = c .before .before .before .before .before .before .before .pre in
+    row-done (p .2) (p .3) (c .before .loop .inv .0) (c .loop-test .left)
 
 pub put-row-spec : {M : Type 1} → statement M
 put-row-spec =

@@ -1,3 +1,4 @@
+-- `sign_table::sign_matrix::put_rows` meets its contract.
 use Rattle.sign_table.proofs.Built.{RowsInv, rows-begin, rows-turn, rows-room, rows-done, room-on}
 use Rattle.tables.specs.Table.{tableOf}
 use Rattle.laws.specs.Lists.{elemZ}
@@ -20,7 +21,10 @@ loop-holds : tie.Need-loop-holds Inv-loop μ-loop
 loop-holds c = (rows-begin _ _ _, refl, refl, refl)
 
 put-whole-row-requires : tie.Need-put-whole-row-requires Inv-loop μ-loop
-put-whole-row-requires c κs = (c .before .before .before .before .before .before .before .before .before .pre .0, c .before .before .before .before .before .before .before .before .before .pre .1, c .before .before .before .before .before .before .before .before .before .pre .2, c .before .before .before .loop-test .taken, (c .before .before .before .before .loop .inv .0) .cursor, room-on (c .before .before .before .before .before .before .before .before .before .pre .3) (omega (arith, rows-room (c .before .before .before .before .before .before .before .before .before .args .n) (tableOf (c .before .before .before .before .before .before .before .before .before .args .count) (now (c .before .before .before .before .before .before .before .before .before .args .rows)) (now (c .before .before .before .before .before .before .before .before .before .args .cols)) (now (c .before .before .before .before .before .before .before .before .before .args .values))) (elemZ (now (c .before .before .before .before .before .before .before .before .before .args .c))) (c .before .before .before .before .loop .inv .0) (c .before .before .before .loop-test .taken))) (c .before .before .before .before .loop .inv .1) (c .before .before .before .before .loop .inv .2) (c .before .before .before .before .loop .inv .3))
+put-whole-row-requires c κs =
+    let a = c .before .before .before .before .before .before .before .before .before .args in
+    let p = c .before .before .before .before .before .before .before .before .before .pre in
+    (p .0, p .1, p .2, c .before .before .before .loop-test .taken, (c .before .before .before .before .loop .inv .0) .cursor, room-on (p .3) (omega (arith, rows-room (a .n) (tableOf (a .count) (now (a .rows)) (now (a .cols)) (now (a .values))) (elemZ (now (a .c))) (c .before .before .before .before .loop .inv .0) (c .before .before .before .loop-test .taken))) (c .before .before .before .before .loop .inv .1) (c .before .before .before .before .loop .inv .2) (c .before .before .before .before .loop .inv .3))
 
 add-i : tie.Need-add-i Inv-loop μ-loop
 add-i c = search needs
@@ -29,7 +33,9 @@ loop-less : tie.Need-loop-less Inv-loop μ-loop
 loop-less c = search needs
 
 loop-again : tie.Need-loop-again Inv-loop μ-loop
-loop-again c = (rows-turn (c .before .before .before .before .before .before .before .before .before .before .before .before .before .before .before .args .n) (tableOf (c .before .before .before .before .before .before .before .before .before .before .before .before .before .before .before .args .count) (now (c .before .before .before .before .before .before .before .before .before .before .before .before .before .before .before .args .rows)) (now (c .before .before .before .before .before .before .before .before .before .before .before .before .before .before .before .args .cols)) (now (c .before .before .before .before .before .before .before .before .before .before .before .before .before .before .before .args .values))) (elemZ (now (c .before .before .before .before .before .before .before .before .before .before .before .before .before .before .before .args .c))) (c .before .before .before .before .before .before .before .before .before .before .loop .inv .0) (c .before .before .before .before .before .before .before .before .before .loop-test .taken) (c .before .before .before .before .before .put-whole-row .ensures .0) (c .before .before .before .before .before .put-whole-row .ensures .1) (c .before .before .before .before .before .put-whole-row .ensures .2), omega (arith, c .before .before .before .before .before .before .before .before .before .before .loop .inv .1), omega (arith, c .before .before .before .before .before .before .before .before .before .before .loop .inv .2), omega (arith, c .before .before .before .before .before .before .before .before .before .before .loop .inv .3))
+loop-again c =
+    let a = c .before .before .before .before .before .before .before .before .before .before .before .before .before .before .before .args in
+    (rows-turn (a .n) (tableOf (a .count) (now (a .rows)) (now (a .cols)) (now (a .values))) (elemZ (now (a .c))) (c .before .before .before .before .before .before .before .before .before .before .loop .inv .0) (c .before .before .before .before .before .before .before .before .before .loop-test .taken) (c .before .before .before .before .before .put-whole-row .ensures .0) (c .before .before .before .before .before .put-whole-row .ensures .1) (c .before .before .before .before .before .put-whole-row .ensures .2), omega (arith, c .before .before .before .before .before .before .before .before .before .before .loop .inv .1), omega (arith, c .before .before .before .before .before .before .before .before .before .before .loop .inv .2), omega (arith, c .before .before .before .before .before .before .before .before .before .before .loop .inv .3))
 
 same-length : tie.Need-same-length Inv-loop μ-loop
 same-length c = search needs
@@ -41,7 +47,9 @@ same-length-3 : tie.Need-same-length-3 Inv-loop μ-loop
 same-length-3 c = search needs
 
 returns : tie.Need-returns Inv-loop μ-loop
-returns c = rows-done (c .before .before .before .before .before .before .args .n) (tableOf (c .before .before .before .before .before .before .args .count) (now (c .before .before .before .before .before .before .args .rows)) (now (c .before .before .before .before .before .before .args .cols)) (now (c .before .before .before .before .before .before .args .values))) (elemZ (now (c .before .before .before .before .before .before .args .c))) (c .before .loop .inv .0) (c .loop-test .left)
+returns c =
+    let a = c .before .before .before .before .before .before .args in
+    rows-done (a .n) (tableOf (a .count) (now (a .rows)) (now (a .cols)) (now (a .values))) (elemZ (now (a .c))) (c .before .loop .inv .0) (c .loop-test .left)
 
 pub put-rows-spec : {M : Type 1} → statement M
 put-rows-spec =

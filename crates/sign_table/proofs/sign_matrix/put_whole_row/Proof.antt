@@ -1,3 +1,4 @@
+-- `sign_table::sign_matrix::put_whole_row` meets its contract.
 use Rattle.sign_table.proofs.Built.{sum-back}
 use Rattle.sign_table.proofs.Built.{row-asks, room-less, room-on, sum-small, whole-wrote, whole-many, next-row}
 use Rattle.sign_table.proofs.Writing.{row-length-le}
@@ -13,18 +14,24 @@ use native.Mathlib.Omega.{arith}
 use mathlib.Core.Path.{_≡_, refl, sym, _∙_}
 use Prim.Native.Nat.{suc, _-_}
 use borrow.Author.Needs.{needs}
-use borrow.Author.Needs.{needs}
 use Rattle.sign_table.proofs.sign_matrix.put_whole_row.Statement.{statement}
 use Rattle.sign_table.proofs.sign_matrix.put_whole_row.Tie as tie
 
 row-sum-requires : tie.Need-row-sum-requires
-row-sum-requires c κs = (c .before .before .before .before .pre .0 .rows-there, c .before .before .before .before .pre .0 .values-there, omega (arith, c .before .before .before .before .pre .1), omega (arith, c .before .before .before .before .pre .2 .small), linear-small (c .before .before .before .before .pre .2) (c .before .before .before .before .args .i) (c .before .before .before .before .pre .3), row-start (c .before .before .before .before .pre .4), row-asks (c .before .before .before .before .pre .4))
+row-sum-requires c κs =
+    let p = c .before .before .before .before .pre in
+    (p .0 .rows-there, p .0 .values-there, omega (arith, p .1), omega (arith, p .2 .small), linear-small (p .2) (c .before .before .before .before .args .i) (p .3), row-start (p .4), row-asks (p .4))
 
 put-row-requires : tie.Need-put-row-requires
-put-row-requires c κs = (c .before .before .before .before .before .before .before .before .before .pre .0, c .before .before .before .before .before .before .before .before .before .pre .1, c .before .before .before .before .before .before .before .before .before .pre .2, c .before .before .before .before .before .before .before .before .before .pre .3, c .before .before .before .before .before .before .before .before .before .pre .4, room-less (c .before .before .before .before .before .before .before .before .before .pre .5) (row-length-le (keptOf (c .before .before .before .before .before .before .before .before .before .args .n) (tableOf (c .before .before .before .before .before .before .before .before .before .args .count) (now (c .before .before .before .before .before .before .before .before .before .args .rows)) (now (c .before .before .before .before .before .before .before .before .before .args .cols)) (now (c .before .before .before .before .before .before .before .before .before .args .values))) (elemZ (now (c .before .before .before .before .before .before .before .before .before .args .c)))) (c .before .before .before .before .before .before .before .before .before .args .i) (c .before .before .before .before .before .before .before .before .before .args .n) (suc (c .before .before .before .before .before .before .before .before .before .args .n)) (omega arith)))
+put-row-requires c κs =
+    let a = c .before .before .before .before .before .before .before .before .before .args in
+    let p = c .before .before .before .before .before .before .before .before .before .pre in
+    (p .0, p .1, p .2, p .3, p .4, room-less (p .5) (row-length-le (keptOf (a .n) (tableOf (a .count) (now (a .rows)) (now (a .cols)) (now (a .values))) (elemZ (now (a .c)))) (a .i) (a .n) (suc (a .n)) (omega arith)))
 
 put-negated-requires : tie.Need-put-negated-requires
-put-negated-requires c κs = rw (sum-back (c .before .before .before .before .before .before .before .before .before .before .before .before .before .before .before .before .before .before .pre .2) (c .before .before .before .before .before .before .before .before .before .before .before .before .before .before .before .before .before .before .pre .3) (c .before .before .before .before .before .before .before .before .before .before .before .before .before .row-sum .ensures)) (room-on (c .before .before .before .before .before .before .before .before .before .before .before .before .before .before .before .before .before .before .pre .5) (omega (arith, whole-many (c .before .before .before .before .before .before .before .before .before .before .before .before .before .before .before .before .before .before .pre .2) (c .before .before .before .before .before .before .before .before .before .before .before .before .before .before .before .before .before .before .pre .3) (c .before .before .before .before .before .before .before .before .before .before .before .before .before .row-sum .ensures) (c .before .before .before .before .before .before .before .before .before .before .before .before .before .before .before .before .before .before .args .len) (c .before .before .before .before .before .before .before .before .put-row .ensures .1))) (omega arith) (omega arith) (omega arith), omega (arith, c .before .before .before .before .before .before .before .before .before .before .before .before .before .before .before .before .before .before .pre .2 .low), omega (arith, c .before .before .before .before .before .before .before .before .before .before .before .before .before .before .before .before .before .before .pre .2 .low), sum-small (c .before .before .before .before .before .before .before .before .before .before .before .before .before .before .before .before .before .before .pre .2) (c .before .before .before .before .before .before .before .before .before .before .before .before .before .before .before .before .before .before .pre .3) (c .before .before .before .before .before .before .before .before .before .before .before .before .before .row-sum .ensures))
+put-negated-requires c κs =
+    let p = c .before .before .before .before .before .before .before .before .before .before .before .before .before .before .before .before .before .before .pre in
+    rw (sum-back (p .2) (p .3) (c .before .before .before .before .before .before .before .before .before .before .before .before .before .row-sum .ensures)) (room-on (p .5) (omega (arith, whole-many (p .2) (p .3) (c .before .before .before .before .before .before .before .before .before .before .before .before .before .row-sum .ensures) (c .before .before .before .before .before .before .before .before .before .before .before .before .before .before .before .before .before .before .args .len) (c .before .before .before .before .before .before .before .before .put-row .ensures .1))) (omega arith) (omega arith) (omega arith), omega (arith, p .2 .low), omega (arith, p .2 .low), sum-small (p .2) (p .3) (c .before .before .before .before .before .before .before .before .before .before .before .before .before .row-sum .ensures))
 
 same-length : tie.Need-same-length
 same-length c = search needs
@@ -37,9 +44,11 @@ same-length-3 c = search needs
 
 returns : tie.Need-returns
 returns c =
-    let back = sum-back (c .before .before .before .before .before .before .before .before .before .before .before .before .before .before .before .before .before .before .before .before .before .before .before .before .pre .2) (c .before .before .before .before .before .before .before .before .before .before .before .before .before .before .before .before .before .before .before .before .before .before .before .before .pre .3) (c .before .before .before .before .before .before .before .before .before .before .before .before .before .before .before .before .before .before .before .row-sum .ensures) in
+    let a = c .before .before .before .before .before .before .before .before .before .before .before .before .before .before .before .before .before .before .before .before .before .before .before .before .args in
+    let p = c .before .before .before .before .before .before .before .before .before .before .before .before .before .before .before .before .before .before .before .before .before .before .before .before .pre in
+    let back = sum-back (p .2) (p .3) (c .before .before .before .before .before .before .before .before .before .before .before .before .before .before .before .before .before .before .before .row-sum .ensures) in
     let edge = (rw back at (c .before .before .before .before .before .put-negated .ensures)) in
-    (whole-wrote (c .before .before .before .before .before .before .before .before .before .before .before .before .before .before .before .before .before .before .before .before .before .before .before .before .pre .2) (c .before .before .before .before .before .before .before .before .before .before .before .before .before .before .before .before .before .before .before .before .before .before .before .before .pre .3) (c .before .before .before .before .before .before .before .before .before .before .before .before .before .before .before .before .before .before .before .row-sum .ensures) (c .before .before .before .before .before .before .before .before .before .before .before .before .before .before .before .before .before .before .before .before .before .before .before .before .args .len) (c .before .before .before .before .before .before .before .before .before .before .before .before .before .before .put-row .ensures .1) (c .before .before .before .before .before .before .before .before .before .before .before .before .before .before .put-row .ensures .0) (edge .0), edge .1 ∙ whole-many (c .before .before .before .before .before .before .before .before .before .before .before .before .before .before .before .before .before .before .before .before .before .before .before .before .pre .2) (c .before .before .before .before .before .before .before .before .before .before .before .before .before .before .before .before .before .before .before .before .before .before .before .before .pre .3) (c .before .before .before .before .before .before .before .before .before .before .before .before .before .before .before .before .before .before .before .row-sum .ensures) (c .before .before .before .before .before .before .before .before .before .before .before .before .before .before .before .before .before .before .before .before .before .before .before .before .args .len) (c .before .before .before .before .before .before .before .before .before .before .before .before .before .before .put-row .ensures .1), next-row (c .before .before .before .before .before .before .before .before .before .before .before .before .before .before .before .before .before .before .before .before .before .before .before .before .pre .2) (c .before .before .before .before .before .before .before .before .before .before .before .before .before .before .before .before .before .before .before .before .before .before .before .before .pre .3) (c .before .before .before .before .before .before .before .before .before .before .before .before .before .before .before .before .before .before .before .row-sum .ensures))
+    (whole-wrote (p .2) (p .3) (c .before .before .before .before .before .before .before .before .before .before .before .before .before .before .before .before .before .before .before .row-sum .ensures) (a .len) (c .before .before .before .before .before .before .before .before .before .before .before .before .before .before .put-row .ensures .1) (c .before .before .before .before .before .before .before .before .before .before .before .before .before .before .put-row .ensures .0) (edge .0), edge .1 ∙ whole-many (p .2) (p .3) (c .before .before .before .before .before .before .before .before .before .before .before .before .before .before .before .before .before .before .before .row-sum .ensures) (a .len) (c .before .before .before .before .before .before .before .before .before .before .before .before .before .before .put-row .ensures .1), next-row (p .2) (p .3) (c .before .before .before .before .before .before .before .before .before .before .before .before .before .before .before .before .before .before .before .row-sum .ensures))
 
 pub put-whole-row-spec : {M : Type 1} → statement M
 put-whole-row-spec =

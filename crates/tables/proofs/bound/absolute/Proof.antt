@@ -1,3 +1,4 @@
+-- `tables::bound::absolute` meets its contract.
 use borrow.Author.Needs.{needs}
 use Rattle.tables.proofs.bound.absolute.Statement.{statement}
 use Rattle.tables.proofs.bound.absolute.Tie as tie
@@ -6,12 +7,16 @@ use mir.Facts.{toZ-ofZ}
 use Rattle.tables.proofs.BoundSums.{absolute-negative, absolute-positive, absolute-fits}
 
 sub-result : tie.Need-sub-result
-sub-result c = let back = toZ-ofZ (c .before .fits .value) in
-    rw (back, absolute-negative (c .before .args .value) (rw back at (c .if1 .taken))) (absolute-fits (c .before .args .value) (c .before .pre))
+sub-result c =
+    let a = c .before .args in
+    let back = toZ-ofZ (c .before .fits .value) in
+    rw (back, absolute-negative (a .value) (rw back at (c .if1 .taken))) (absolute-fits (a .value) (c .before .pre))
 
 returns : tie.Need-returns
-returns c = let back = toZ-ofZ (c .before .fits .value) in
-    rw (back, absolute-negative (c .before .args .value) (rw back at (c .if1 .taken))) (toZ-ofZ (absolute-fits (c .before .args .value) (c .before .pre)))
+returns c =
+    let a = c .before .args in
+    let back = toZ-ofZ (c .before .fits .value) in
+    rw (back, absolute-negative (a .value) (rw back at (c .if1 .taken))) (toZ-ofZ (absolute-fits (a .value) (c .before .pre)))
 
 returns-2 : tie.Need-returns-2
 returns-2 c = let back = toZ-ofZ (c .before .fits .value) in

@@ -1,3 +1,4 @@
+-- `tables::bound::magnitude_sum` meets its contract.
 use borrow.Author.Needs.{needs}
 use Rattle.tables.proofs.bound.magnitude_sum.Statement.{statement}
 use Rattle.tables.proofs.bound.magnitude_sum.Tie as tie
@@ -33,8 +34,10 @@ shared-slice-copy-out-absolute : tie.Need-shared-slice-copy-out-absolute Inv-loo
 shared-slice-copy-out-absolute c = search needs
 
 absolute-requires : tie.Need-absolute-requires Inv-loop μ-loop
-absolute-requires c κs = let values = now (c .before .before .before .args .values) in
-    rw (held (elemZ values (c .before .before .loop .k)) (c .absolute-arg .given)) (value-small (tableOf (c .before .before .before .args .count) [] [] values) (c .before .before .before .pre .1) (c .before .before .loop .k) (c .before .loop-test .taken))
+absolute-requires c κs =
+    let a = c .before .before .before .args in
+    let values = now (a .values) in
+    rw (held (elemZ values (c .before .before .loop .k)) (c .absolute-arg .given)) (value-small (tableOf (a .count) [] [] values) (c .before .before .before .pre .1) (c .before .before .loop .k) (c .before .loop-test .taken))
 
 eighth-requires : tie.Need-eighth-requires Inv-loop μ-loop
 eighth-requires c κs = search needs

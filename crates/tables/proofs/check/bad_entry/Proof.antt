@@ -1,4 +1,4 @@
-use borrow.Author.Needs.{needs}
+-- `tables::check::bad_entry` meets its contract.
 use borrow.Author.Needs.{needs}
 use Rattle.tables.proofs.check.bad_entry.Statement.{statement}
 use Rattle.tables.proofs.check.bad_entry.Tie as tie

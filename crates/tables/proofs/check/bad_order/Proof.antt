@@ -1,3 +1,4 @@
+-- `tables::check::bad_order` meets its contract.
 use borrow.Author.Needs.{needs}
 use Rattle.tables.proofs.check.bad_order.Statement.{statement}
 use Rattle.tables.proofs.check.bad_order.Tie as tie

@@ -1,4 +1,4 @@
-use borrow.Author.Needs.{needs}
+-- `tables::check::hall_too_large` meets its contract.
 use borrow.Author.Needs.{needs}
 use Rattle.tables.proofs.check.hall_too_large.Statement.{statement}
 use Rattle.tables.proofs.check.hall_too_large.Tie as tie

@@ -1,4 +1,4 @@
-use borrow.Author.Needs.{needs}
+-- `tables::check::short_table` meets its contract.
 use borrow.Author.Needs.{needs}
 use Rattle.tables.proofs.check.short_table.Statement.{statement}
 use Rattle.tables.proofs.check.short_table.Tie as tie

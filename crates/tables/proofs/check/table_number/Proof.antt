@@ -1,4 +1,4 @@
-use borrow.Author.Needs.{needs}
+-- `tables::check::table_number` meets its contract.
 use borrow.Author.Needs.{needs}
 use Rattle.tables.proofs.check.table_number.Statement.{statement}
 use Rattle.tables.proofs.check.table_number.Tie as tie
@@ -25,17 +25,21 @@ unfolding tableNumber
 returns-2 c = sym (first-skip 13 _ _ (sym (c .before .before .before .bad-size .ensures) ∙ c .before .before .if1 .left) ∙ first-here 13 _ _ (sym (c .before .bad-order .ensures) ∙ c .if2 .taken))
 
 unmirrored-requires : tie.Need-unmirrored-requires
-unmirrored-requires c κs = let s = size-parts _ _ _ _ _ (sym (c .before .before .before .bad-size .ensures) ∙ c .before .before .if1 .left) in
+unmirrored-requires c κs =
+    let p = c .before .before .before .before .before .before .pre in
+    let s = size-parts _ _ _ _ _ (sym (c .before .before .before .bad-size .ensures) ∙ c .before .before .if1 .left) in
     let a = c .before .before .before .before .before .before .args in
-    (c .before .before .before .before .before .before .pre .0 (s .2), order-placed (a .m) (tableOf (a .count) (now (a .rows)) (now (a .cols)) (now (a .values))) (omega (arith, s, c .before .before .before .before .before .before .pre .1)) (sym (c .before .bad-order .ensures) ∙ c .if2 .left))
+    (p .0 (s .2), order-placed (a .m) (tableOf (a .count) (now (a .rows)) (now (a .cols)) (now (a .values))) (omega (arith, s, p .1)) (sym (c .before .bad-order .ensures) ∙ c .if2 .left))
 
 returns-3 : tie.Need-returns-3
 unfolding tableNumber
 returns-3 c = sym (first-skip 13 _ _ (sym (c .before .before .before .before .before .bad-size .ensures) ∙ c .before .before .before .before .if1 .left) ∙ first-skip 14 _ _ (sym (c .before .before .before .bad-order .ensures) ∙ c .before .before .if2 .left) ∙ first-here 14 _ _ (sym (c .before .unmirrored .ensures) ∙ c .if3 .taken))
 
 too-large-requires : tie.Need-too-large-requires
-too-large-requires c κs = let s = size-parts _ _ _ _ _ (sym (c .before .before .before .before .before .bad-size .ensures) ∙ c .before .before .before .before .if1 .left) in
-    (c .before .before .before .before .before .before .before .before .pre .0 (s .2) .values-there, c .before .before .before .before .before .before .before .before .pre .2)
+too-large-requires c κs =
+    let p = c .before .before .before .before .before .before .before .before .pre in
+    let s = size-parts _ _ _ _ _ (sym (c .before .before .before .before .before .bad-size .ensures) ∙ c .before .before .before .before .if1 .left) in
+    (p .0 (s .2) .values-there, p .2)
 
 returns-4 : tie.Need-returns-4
 unfolding tableNumber

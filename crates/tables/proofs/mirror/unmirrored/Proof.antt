@@ -1,3 +1,4 @@
+-- `tables::mirror::unmirrored` meets its contract.
 use borrow.Author.Needs.{needs}
 use Rattle.tables.proofs.mirror.unmirrored.Statement.{statement}
 use Rattle.tables.proofs.mirror.unmirrored.Tie as tie
@@ -22,7 +23,9 @@ unfolding anyBelow
 loop-holds c = (omega arith, refl)
 
 has-mirror-requires : tie.Need-has-mirror-requires Inv-loop μ-loop
-has-mirror-requires c κs = (c .before .before .before .before .pre .0, c .before .before .before .before .pre .1, omega arith)
+has-mirror-requires c κs =
+    let p = c .before .before .before .before .pre in
+    (p .0, p .1, omega arith)
 
 returns : tie.Need-returns Inv-loop μ-loop
 unfolding unmirrored

@@ -1,3 +1,4 @@
+-- `tables::objective::qubo_binary_from_sign_solution` meets its contract.
 use Rattle.tables.specs.Cost.{decodedByte}
 use Rattle.laws.proofs.MapFirst.{fill-none, fill-more, fill-all}
 use Rattle.laws.specs.Lists.{fill}
