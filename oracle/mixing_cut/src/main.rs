@@ -9,6 +9,8 @@ mod bench;
 mod draws;
 mod job;
 mod leaf;
+mod leaf_numbers;
+mod lent;
 mod plain;
 mod problem;
 mod refusals;
@@ -38,7 +40,10 @@ fn main() -> ExitCode {
 fn mode(arguments: &[&str]) -> Result<(), String> {
     match arguments {
         ["answer"] => write_bytes(&answer::answer(&read_bytes()?)),
-        ["answers"] => each_line(|line| Ok(words::hex(&answer::answer(&words::unhex(line)?)))),
+        ["answers"] => each_line(|line| {
+            let record = words::unhex(if line == "-" { "" } else { line })?;
+            Ok(words::hex(&answer::answer(&record)))
+        }),
         ["trace"] => write_bytes(trace::trace(&read_bytes()?).as_bytes()),
         ["leaf"] => each_line(leaf::leaf),
         ["run"] => {
@@ -66,7 +71,7 @@ fn write_bytes(bytes: &[u8]) -> Result<(), String> {
         .map_err(|error| format!("cannot write standard output: {error}"))
 }
 
-/// Prints the answer to each line of standard input; empty lines and lines after # are kept out.
+/// Prints the answer to each line of standard input; empty lines and comments (#) are passed over.
 fn each_line(mut answer: impl FnMut(&str) -> Result<String, String>) -> Result<(), String> {
     let text = String::from_utf8(read_bytes()?).map_err(|error| error.to_string())?;
     for (number, line) in text.lines().enumerate() {

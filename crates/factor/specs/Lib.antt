@@ -1,0 +1,4 @@
+pub mod Multiply
+pub mod Norms
+pub mod Shapes
+pub mod Vectors

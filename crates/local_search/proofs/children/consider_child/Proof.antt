@@ -1,0 +1,70 @@
+use borrow.Author.Needs.{needs, sfits-of}
+use denote.Ref.{now}
+use mathlib.Core.Path.{_≡_, refl, ap, ap₂, _∙_}
+use lib.IntN.{ℤ, pos, _+ℤ_}
+use lib.ListN.{length, getD}
+use mir.Facts.{toZ-ofZ}
+use mir.Syntax.{w64}
+use mir.Val.{toZ, ofZ}
+use Rattle.local_search.specs.SignSearch.{improvesC, flipC}
+use Rattle.local_search.specs.Children.{changeOf, parentOf}
+use Rattle.local_search.proofs.ExpandLaws.{child-kept, no-child}
+use Rattle.local_search.proofs.children.consider_child.Statement.{statement}
+use Rattle.local_search.proofs.children.consider_child.Tie as tie
+use Rattle.local_search.proofs.children.consider_child.Reads as reads
+use Rattle.local_search.proofs.children.consider_child.Lts as lts
+use Rattle.local_search.proofs.level.insert_child.Reads as insert-child-reads
+
+changed : (c : tie.After-d) → let a = c .before .before .before .args in toZ w64 (ofZ w64 (getD (now (a .changes)) (a .i) (pos 0))) ≡ getD (now (a .changes)) (a .i) (pos 0)
+changed c = toZ-ofZ (sfits-of (c .d .given))
+
+mul-d : tie.Need-mul-d
+mul-d c = search needs
+
+shared-slice-copy-out-d : tie.Need-shared-slice-copy-out-d
+shared-slice-copy-out-d c = search needs
+
+add-insert-child : tie.Need-add-insert-child
+add-insert-child c =
+    let d = c .before .before .before in
+    let s = d .before .before .before in
+    rw (toZ-ofZ (s .fits .objective), changed d) (s .pre .0 .safe (s .args .i) (s .pre .1) (rw (changed d) at (c .before .before .if1 .taken)))
+
+insert-child-requires : tie.Need-insert-child-requires
+insert-child-requires c κs = search needs
+
+same-length : tie.Need-same-length
+same-length c = search needs
+
+same-length-2 : tie.Need-same-length-2
+same-length-2 c = search needs
+
+returns : tie.Need-returns
+returns c =
+    let k = c .before .before .before in
+    let d = k .before .before .before .before in
+    let s = d .before .before .before in
+    let change = changeOf (now (s .args .changes)) in
+    child-kept (s .args .width) _ _ (k .insert-child .result) (s .args .i) change (improvesC change) (parentOf (s .args .objective) (now (s .args .parent)))
+    _ (rw (changed d) at (k .before .before .before .if1 .taken))
+    (toZ-ofZ (add-insert-child (k .before)) ∙ ap₂ _+ℤ_ (toZ-ofZ (s .fits .objective)) (changed d)) (k .insert-child .ensures .0)
+
+returns-2 : tie.Need-returns-2
+returns-2 c =
+    let s = c .before .before .before .before in
+    let change = changeOf (now (s .args .changes)) in
+    no-child (s .args .width) _ _ (s .args .count) (s .args .i) change (improvesC change) (parentOf (s .args .objective) (now (s .args .parent)))
+    (rw (changed (c .before)) at (c .if1 .left)) refl (s .pre .0 .used)
+
+pub consider-child-spec : {M : Type 1} → statement M
+consider-child-spec =
+    tie.close
+    (tie.spec
+    mul-d
+    shared-slice-copy-out-d
+    add-insert-child
+    insert-child-requires
+    same-length
+    same-length-2
+    returns
+    returns-2)

@@ -1,0 +1,31 @@
+use mir.Facts.{toZ-ofZ}
+use Rattle.local_search.specs.Level.{below}
+use borrow.Author.Needs.{needs}
+use Rattle.local_search.proofs.least.keep_better.Statement.{statement}
+use Rattle.local_search.proofs.least.keep_better.Tie as tie
+use Rattle.local_search.proofs.least.keep_better.Reads as reads
+use Rattle.local_search.proofs.least.keep_better.Lts as lts
+use Rattle.local_search.proofs.rows.copy_row.Reads as copy-row-reads
+
+copy-row-requires : tie.Need-copy-row-requires
+copy-row-requires c κs = search needs
+
+same-length : tie.Need-same-length
+same-length c = search needs
+
+returns : tie.Need-returns
+unfolding below
+returns c =
+    let s = c .before .before .before .before .before .before .before in
+    let lower = rw (toZ-ofZ (s .fits .objective), toZ-ofZ (s .fits .least)) at (c .before .before .before .before .if1 .taken) in
+    rw (toZ-ofZ (s .fits .objective), c .before .before .copy-row .ensures, lower)
+
+returns-2 : tie.Need-returns-2
+unfolding below
+returns-2 c =
+    let s = c .before .before .before in
+    let higher = rw (toZ-ofZ (s .fits .objective), toZ-ofZ (s .fits .least)) at (c .if1 .left) in
+    rw (toZ-ofZ (s .fits .least), higher)
+
+pub keep-better-spec : {M : Type 1} → statement M
+keep-better-spec = tie.close (tie.spec copy-row-requires same-length returns returns-2)

@@ -1,0 +1,4 @@
+pub mod LocalSearch
+pub mod Level
+pub mod SignSearch
+pub mod Children

@@ -1,0 +1,104 @@
+// The children of a parent whose changes are listed, put into a level: in order of their objectives, or one behind the other.
+use crate::level::insert_child;
+use crate::level::insert_objective;
+use crate::level::insert_row;
+ghost use mathlib.Core.List.{[]};
+ghost use Prim.Native.Nat.{suc, _≤_, _<_};
+ghost use lib.ListN.{length};
+ghost use Rattle.local_search.specs.Level.{levelOf};
+ghost use Rattle.local_search.specs.SignSearch.{improvesC, flipC, childAt};
+ghost use Rattle.local_search.specs.Children.{changeOf, listedChildren, parentOf, Appended, Appends, Expands, Kept};
+
+// Puts child `i` of the parent in, where it exists.
+pub fn consider_child(
+    changes: &[i64],
+    objective: i64,
+    parent: &[u8],
+    i: usize,
+    objectives: &mut [i64],
+    signs: &mut [u8],
+    count: usize,
+    width: usize,
+) -> usize
+    requires { ⌜ Expands (now changes) (parentOf objective (now parent)) count width (length (now objectives)) (length (now signs)) × (i < length (now parent)) ⌝ }
+    ensures { λ r. ⌜ Kept width (levelOf (length (now (parent .entry))) count (now (objectives .entry)) (now (signs .entry))) (childAt (improvesC (changeOf (now (changes .entry)))) (flipC (changeOf (now (changes .entry)))) (parentOf objective (now (parent .entry))) i) (levelOf (length (now (parent .entry))) r (now (objectives .exit)) (now (signs .exit))) r ⌝ }
+{
+    let d = changes[i];
+    if d < 0 {
+        return insert_child(objectives, signs, count, width, objective + d, parent, i);
+    }
+    count
+}
+
+// Puts the parent's children in, by index.
+pub fn expand_parent(
+    changes: &[i64],
+    objective: i64,
+    parent: &[u8],
+    objectives: &mut [i64],
+    signs: &mut [u8],
+    count: usize,
+    width: usize,
+) -> usize
+    requires { ⌜ Expands (now changes) (parentOf objective (now parent)) count width (length (now objectives)) (length (now signs)) ⌝ }
+    ensures { λ r. ⌜ Kept width (levelOf (length (now (parent .entry))) count (now (objectives .entry)) (now (signs .entry))) (listedChildren (now (changes .entry)) (parentOf objective (now (parent .entry)))) (levelOf (length (now (parent .entry))) r (now (objectives .exit)) (now (signs .exit))) r ⌝ }
+{
+    let mut kept = count;
+    let mut i = 0;
+    while i < parent.len() {
+        kept = consider_child(
+            changes,
+            objective,
+            parent,
+            i,
+            objectives,
+            signs,
+            kept,
+            width,
+        );
+        i += 1;
+    }
+    kept
+}
+
+// Puts child `i` of the start behind the others, where it exists.
+pub fn append_child(
+    changes: &[i64],
+    objective: i64,
+    start: &[u8],
+    i: usize,
+    objectives: &mut [i64],
+    signs: &mut [u8],
+    count: usize,
+) -> usize
+    requires { ⌜ Appends (now changes) (parentOf objective (now start)) (length (now objectives)) (length (now signs)) × (i < length (now start)) × (count ≤ i) ⌝ }
+    ensures { λ r. ⌜ Appended (levelOf (length (now (start .entry))) count (now (objectives .entry)) (now (signs .entry))) (childAt (improvesC (changeOf (now (changes .entry)))) (flipC (changeOf (now (changes .entry)))) (parentOf objective (now (start .entry))) i) (levelOf (length (now (start .entry))) r (now (objectives .exit)) (now (signs .exit))) r (suc i) ⌝ }
+{
+    let d = changes[i];
+    if d < 0 {
+        insert_objective(objectives, count, count, objective + d);
+        insert_row(signs, count, count, start, i);
+        return count + 1;
+    }
+    count
+}
+
+// Level 1: all children of the start, by index.
+pub fn first_level(
+    changes: &[i64],
+    objective: i64,
+    start: &[u8],
+    objectives: &mut [i64],
+    signs: &mut [u8],
+) -> usize
+    requires { ⌜ Appends (now changes) (parentOf objective (now start)) (length (now objectives)) (length (now signs)) ⌝ }
+    ensures { λ r. ⌜ Appended [] (listedChildren (now (changes .entry)) (parentOf objective (now (start .entry)))) (levelOf (length (now (start .entry))) r (now (objectives .exit)) (now (signs .exit))) r (length (now (start .entry))) ⌝ }
+{
+    let mut count = 0;
+    let mut i = 0;
+    while i < start.len() {
+        count = append_child(changes, objective, start, i, objectives, signs, count);
+        i += 1;
+    }
+    count
+}

@@ -1,0 +1,62 @@
+// A choice's row of signs, a byte for each: the only functions that know how a row is stored.
+ghost use mathlib.Core.Path.{_≡_};
+ghost use Prim.Native.Nat.{_+_, _≤_, _<_};
+ghost use lib.ListN.{length, take, getD};
+ghost use Rattle.local_search.specs.Level.{flipByte, flipSign, shifted};
+
+// The byte of sign `i`.
+pub fn sign_at(row: &[u8], i: usize) -> u8
+    requires { ⌜ i < length (now row) ⌝ }
+    ensures { λ r. ⌜ r ≡ getD (now (row .entry)) i 0 ⌝ }
+{
+    row[i]
+}
+
+pub fn copy_row(row: &mut [u8], parent: &[u8])
+    requires { ⌜ length (now row) ≡ length (now parent) ⌝ }
+    ensures { λ r. ⌜ now (row .exit) ≡ now (parent .entry) ⌝ }
+{
+    let mut k = 0;
+    while k < parent.len() {
+        row[k] = parent[k];
+        k += 1;
+    }
+}
+
+pub fn flip_byte(sign: u8) -> u8
+    ensures { λ r. ⌜ r ≡ flipByte sign ⌝ }
+{
+    if sign == 0 { 1 } else { 0 }
+}
+
+// The parent's signs, with sign `i` flipped.
+pub fn copy_flip(row: &mut [u8], parent: &[u8], i: usize)
+    requires { ⌜ (length (now row) ≡ length (now parent)) × (i < length (now parent)) ⌝ }
+    ensures { λ r. ⌜ now (row .exit) ≡ flipSign i (now (parent .entry)) ⌝ }
+{
+    copy_row(row, parent);
+    row[i] = flip_byte(row[i]);
+}
+
+// Moves the bytes from `from` up to `to` by `m` places up.
+pub fn shift_signs(signs: &mut [u8], from: usize, to: usize, m: usize)
+    requires { ⌜ (from ≤ to) × (to + m ≤ length (now signs)) ⌝ }
+    ensures { λ r. ⌜ now (signs .exit) ≡ shifted m from to (now (signs .entry)) ⌝ }
+{
+    let mut j = to;
+    while from < j {
+        j -= 1;
+        signs[j + m] = signs[j];
+    }
+}
+
+pub fn copy_signs(to: &mut [u8], from: &[u8], n: usize)
+    requires { ⌜ (n ≤ length (now to)) × (n ≤ length (now from)) ⌝ }
+    ensures { λ r. ⌜ take n (now (to .exit)) ≡ take n (now (from .entry)) ⌝ }
+{
+    let mut k = 0;
+    while k < n {
+        to[k] = from[k];
+        k += 1;
+    }
+}

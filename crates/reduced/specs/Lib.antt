@@ -1,0 +1,5 @@
+pub mod Limits
+pub mod Indices
+pub mod Submatrix
+pub mod Scatter
+pub mod Lift

@@ -1,0 +1,21 @@
+// Runs the stored answers of standard input through the proved functions and writes, for each group
+// of cases, how many there were and how many differed. docs/REPLAY.md says how the list was made.
+mod cases;
+mod leaves;
+mod text;
+
+ghost use mathlib.Core.Path.{_≡_};
+ghost use lib.ListN.{length};
+
+// Room for the numbers of one case.
+fn case_room() -> [u64; 16384]
+    ensures { λ r. ⌜ 16384 ≡ length r ⌝ }
+{
+    [0; 16384]
+}
+
+fn main() {
+    let mut buffer = io::large_buffer();
+    let mut numbers = case_room();
+    cases::run_list(&mut buffer, &mut numbers);
+}

@@ -1,0 +1,9 @@
+-- what holds of the search
+pub mod Lawful
+pub mod Theorems
+pub mod HallTheorems
+pub mod Examples
+-- the code's loops
+pub mod ChangeLaws
+pub mod ExpandLaws
+pub mod Searches

@@ -1,0 +1,62 @@
+-- `clear` meets its contract: the first i are 0.
+-- Assumes nothing.
+use Prim.Native.Nat.{_≤_, _-_}
+use native.Mathlib.Omega.{arith}
+use mathlib.Core.Path.{_≡_, refl, subst}
+use denote.Ref.{now}
+use lib.ListN.{length, length-set}
+use Rattle.sign_search.specs.Contracts.{Cleared}
+use Rattle.sign_search.proofs.ChangeLaws.{cleared-none, cleared-more}
+use borrow.Author.Needs.{needs}
+use Rattle.sign_search.proofs.changes.clear.Statement.{statement}
+use Rattle.sign_search.proofs.changes.clear.Tie as tie
+
+abbrev Inv-loop : tie.InvT-loop
+Inv-loop changes₀ m i₀ changes i = (i ≤ m) × (length changes ≡ length changes₀) × Cleared i changes
+
+abbrev μ-loop : tie.MeasureT-loop
+μ-loop changes₀ m i₀ changes i = m - i
+
+loop-holds : tie.Need-loop-holds Inv-loop μ-loop
+loop-holds c = (omega arith, refl, cleared-none (now (c .args .changes)))
+
+mul-changes : tie.Need-mul-changes Inv-loop μ-loop
+mul-changes c = omega arith
+
+slice-set-of-changes : tie.Need-slice-set-of-changes Inv-loop μ-loop
+slice-set-of-changes c = omega arith
+
+add-i : tie.Need-add-i Inv-loop μ-loop
+add-i c = omega arith
+
+loop-less : tie.Need-loop-less Inv-loop μ-loop
+loop-less c = omega arith
+
+loop-again : tie.Need-loop-again Inv-loop μ-loop
+loop-again c =
+    let l = c .before .loop in
+    (omega arith, simp length-set (l .inv .1), cleared-more (l .i) (l .changes) (omega arith) (l .inv .2))
+
+same-length : tie.Need-same-length Inv-loop μ-loop
+same-length c = c .before .loop .inv .1
+
+returns : tie.Need-returns Inv-loop μ-loop
+returns c =
+    let l = c .before .loop in
+    let all : l .i ≡ c .before .before .args .m = omega arith in
+    rw all at (l .inv .2)
+
+pub clear-spec : {M : Type 1} → statement M
+clear-spec =
+    tie.close
+    (tie.spec
+    Inv-loop
+    μ-loop
+    loop-holds
+    mul-changes
+    slice-set-of-changes
+    add-i
+    loop-less
+    loop-again
+    same-length
+    returns)

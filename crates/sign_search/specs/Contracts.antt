@@ -1,0 +1,120 @@
+-- What the functions of the search on a table ask and leave.
+use Prim.Native.Nat.{ℕ, _+_, _*_, _^_, _≤_, _<_}
+use mathlib.Core.Bool.{cond}
+use mathlib.Core.List.{List}
+use mathlib.Core.Path.{_≡_}
+use lib.Dec.{eqb}
+use lib.IntN.{ℤ, pos, natAbs, _+ℤ_}
+use lib.ListN.{length, getD, set}
+use Rattle.laws.specs.Sum.{sum, total, only}
+use Rattle.tables.specs.Table.{Table, tableOf, Lent, InRange, magnitudeOf, signAt}
+use Rattle.tables.specs.Flip.{flipTerm}
+use Rattle.local_search.specs.LocalSearch.{All, Found, nextLevel}
+use Rattle.local_search.specs.Level.{Choice, below, levelOf}
+use Rattle.local_search.specs.SignSearch.{improvesC, childrenC, Safe, searchedFrom}
+use Rattle.sign_search.specs.Search.{objectiveIn, changeIn, heightIn, Mirrors, beamSearch}
+
+-- a table of m signs whose sums an i64 holds
+pub record Usable (m : ℕ) (t : Table) : Type 0 where
+  pub in-range : InRange m t
+  pub small : magnitudeOf t ≤ 2 ^ 42
+
+-- and one that equals its mirror image
+pub record Sound (m : ℕ) (t : Table) : Type 0 where
+  pub mirrors : Mirrors m t
+  pub small : magnitudeOf t ≤ 2 ^ 42
+
+-- the first m are 0
+pub record Cleared (m : ℕ) (changes : List ℤ) : Type 0 where
+  pub zero-at : (i : ℕ) → i < m → getD changes i (pos 0) ≡ pos 0
+
+-- the sum of a row, laid down where another row begins
+pub record RowTurned (row i : ℕ) (held next : ℤ) (before after : List ℤ) : Type 0 where
+  pub next-is : next ≡ cond (eqb i row) held (pos 0)
+  pub after-is : after ≡ cond (eqb i row) before (set before row (getD before row (pos 0) +ℤ held))
+
+-- the changes by flipping each sign of x, summed over the first k entries; what is `held` is still to be added to that of `row`
+pub record Summed (t : Table) (x : List ℕ) (k row : ℕ) (held : ℤ) (changes : List ℤ) : Type 0 where
+  pub many : length x ≤ length changes
+  pub row-in : row < length x
+  pub small : natAbs held ≤ 4 * total k (λ l. natAbs (t .value l))
+  pub sums : (i : ℕ) → i < length x → getD changes i (pos 0) +ℤ only row i held ≡ sum k (flipTerm t (signAt x) i)
+
+-- the changes, one for each sign
+pub record Changes (t : Table) (x : List ℕ) (changes : List ℤ) : Type 0 where
+  pub many : length x ≤ length changes
+  pub are : (i : ℕ) → i < length x → getD changes i (pos 0) ≡ changeIn t x i
+
+-- 01's children on a table of m signs
+abbrev pub tableChildren : Table → ℕ → Choice → List Choice
+tableChildren t m = childrenC (changeIn t) (improvesC (changeIn t)) m
+
+abbrev pub TableSafe : Table → Choice → Type 0
+TableSafe t c = Safe (changeIn t) (improvesC (changeIn t)) c
+
+-- what it takes to put a parent's children into a level with room for `width`, of which `count` are in use
+pub record RowExpands (t : Table) (parent : Choice) (count width changes objectives signs : ℕ) : Type 0 where
+  pub some : 1 ≤ width
+  pub used : count ≤ width
+  pub changes-room : length (parent .signs) ≤ changes
+  pub objectives-room : width ≤ objectives
+  pub signs-room : width * length (parent .signs) ≤ signs
+  pub table : Usable (length (parent .signs)) t
+  pub safe : TableSafe t parent
+
+-- what it takes to lay down all children of the start
+pub record RowAppends (t : Table) (start : Choice) (changes objectives signs : ℕ) : Type 0 where
+  pub changes-room : length (start .signs) ≤ changes
+  pub objectives-room : length (start .signs) ≤ objectives
+  pub signs-room : length (start .signs) * length (start .signs) ≤ signs
+  pub table : Usable (length (start .signs)) t
+  pub safe : TableSafe t start
+
+-- what it takes to make a level from another one of `count` choices
+pub record LevelExpands (t : Table) (m count width : ℕ) (from-objectives : List ℤ) (from-signs : List ℕ) (changes objectives signs : ℕ) : Type 0 where
+  pub some : 1 ≤ width
+  pub from-objectives-room : count ≤ length from-objectives
+  pub from-signs-room : count * m ≤ length from-signs
+  pub changes-room : m ≤ changes
+  pub objectives-room : width ≤ objectives
+  pub signs-room : width * m ≤ signs
+  pub table : Usable m t
+  pub safe : All (TableSafe t) (levelOf m count from-objectives from-signs)
+
+-- the next level, and its count
+pub record NextLevel (t : Table) (m width : ℕ) (before after : List Choice) (count : ℕ) : Type 0 where
+  pub level : after ≡ nextLevel below (tableChildren t m) width before
+  pub room : count ≤ width
+
+-- what it takes to make the next level and to copy it back
+pub record AdvanceFits (t : Table) (m count width : ℕ) (objectives : List ℤ) (signs : List ℕ) (changes next-objectives next-signs : ℕ) : Type 0 where
+  pub expands : LevelExpands t m count width objectives signs changes next-objectives next-signs
+  pub objectives-room : width ≤ length objectives
+  pub signs-room : width * m ≤ length signs
+
+-- the room that a search of m signs takes: level 1 is not cut
+pub record SearchFits (m width changes objectives signs next-objectives next-signs : ℕ) : Type 0 where
+  pub some : 1 ≤ width
+  pub changes-room : m ≤ changes
+  pub first-objectives : m ≤ objectives
+  pub first-signs : m * m ≤ signs
+  pub objectives-room : width ≤ objectives
+  pub signs-room : width * m ≤ signs
+  pub next-objectives-room : width ≤ next-objectives
+  pub next-signs-room : width * m ≤ next-signs
+
+-- 01's search from a choice with its objective
+abbrev pub searchedIn : Table → ℕ → Choice → Found Choice
+searchedIn t width start = searchedFrom (changeIn t) (improvesC (changeIn t)) width (heightIn t (start .signs)) start
+
+-- the room that the search takes: level 1 holds m choices of m signs, and every later one `width`
+pub record Room (most m width level : ℕ) : Type 0 where
+  pub signs-few : m ≤ most
+  pub width-few : width ≤ most
+  pub level-room : most * most ≤ level
+
+-- what the search leaves: the definition's answer with its objective, and the rounds
+pub record Found-by (t : Table) (width : ℕ) (start : List ℕ) (least : ℤ) (rounds : ℕ) (answer : List ℕ) : Type 0 where
+  pub answer-is : answer ≡ beamSearch t width start .answer
+  pub least-is : least ≡ objectiveIn t answer
+  pub rounds-are : rounds ≡ beamSearch t width start .rounds

@@ -1,0 +1,4 @@
+// The local search on a sign table (`beam_search` of sdp_local_search.rs), in whole eighths.
+pub mod changes;
+pub mod levels;
+pub mod search;

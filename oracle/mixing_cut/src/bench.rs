@@ -1,0 +1,97 @@
+//! Timings of the unchanged Rust in this process, on the hall of `problem`.
+
+use crate::answer::{answer, solve, step_rule};
+use crate::job;
+use crate::problem::{argument, factor, hall, rule_number, sign_bytes};
+use crate::sdp_local_search::beam_search;
+use crate::sdp_project::project;
+use crate::sdp_solver::inside_solver::separate_diagonal;
+use crate::search::by_levels;
+use crate::step_rules::apply_step;
+use crate::table::{sign_matrix, signs};
+use sprs::CsMat;
+use std::hint::black_box;
+use std::time::Instant;
+
+const BATCHES: usize = 25;
+
+const USAGE: &str = "usage: oracle bench sweep RULE RANK CALLS | beam SEED CALLS \
+                     | answer CALLS (job on standard input)";
+
+pub fn bench(what: &[&str], read: impl Fn() -> Result<Vec<u8>, String>) -> Result<String, String> {
+    match what {
+        ["sweep", rule, rank, calls] => sweeps(argument(rule)?, argument(rank)?, argument(calls)?),
+        ["beam", seed, calls] => beam(argument(seed)?, argument(calls)?),
+        ["answer", calls] => answers(&read()?, argument(calls)?),
+        _ => Err(USAGE.to_string()),
+    }
+}
+
+/// Nanoseconds per call: in the middle one of 25 batches, and in the fastest.
+fn timed(name: &str, calls: u32, mut call: impl FnMut()) -> Result<String, String> {
+    if calls == 0 {
+        return Err("at least one call".to_string());
+    }
+    call();
+    let mut batches = Vec::new();
+    for _ in 0..BATCHES {
+        let start = Instant::now();
+        (0..calls).for_each(|_| call());
+        batches.push(start.elapsed().as_nanos() as f64 / f64::from(calls));
+    }
+    batches.sort_by(f64::total_cmp);
+    let (middle, least) = (batches[BATCHES / 2], batches[0]);
+    Ok(format!(
+        "{name}: {middle:.0} ns per call, {least:.0} in the fastest of {BATCHES} batches of {calls}\n"
+    ))
+}
+
+fn sign_table() -> CsMat<f64> {
+    let (h, c) = hall();
+    let q = sign_matrix(&h, &c);
+    assert_eq!((q.rows(), q.nnz()), (128, 4478), "the hall's sign table");
+    q
+}
+
+fn sweeps(rule: u8, rank: usize, calls: u32) -> Result<String, String> {
+    if rule > 4 || rank == 0 {
+        return Err(USAGE.to_string());
+    }
+    let q = sign_table();
+    let (work, _) = separate_diagonal(&q);
+    let whole = sweep(&q, rule, rank, calls)?;
+    Ok(whole + &sweep(&work, rule, rank, calls)?)
+}
+
+/// One sweep after another, each from the factor of the one before.
+fn sweep(q: &CsMat<f64>, rule: u8, rank: usize, calls: u32) -> Result<String, String> {
+    let step = step_rule(rule, rule_number(rule));
+    let mut v = Some(project(factor(rank, 1)));
+    let name = format!("sweep, rule {rule}, rank {rank}, {} entries", q.nnz());
+    timed(&name, calls, || {
+        let swept = apply_step(black_box(q), v.take().expect("a factor"), step);
+        v = Some(black_box(swept));
+    })
+}
+
+fn beam(seed: u64, calls: u32) -> Result<String, String> {
+    let q = sign_table();
+    let start = signs(&sign_bytes(seed));
+    let rounds = by_levels(&q, 128, &start).levels.len();
+    let name = format!("beam_search, W 128, seed {seed}, {rounds} rounds");
+    timed(&name, calls, || {
+        black_box(beam_search(black_box(&q), 128, vec![start.clone()]));
+    })
+}
+
+/// The solver's part of an answer, and the whole with the harness's second search and checks.
+fn answers(record: &[u8], calls: u32) -> Result<String, String> {
+    let solver = timed("answer, read and solved by the Rust", calls, || {
+        let job = job::read(black_box(record));
+        black_box(job.map(|job| solve(&job).1.iterations).ok());
+    })?;
+    let whole = timed("answer, with the rounds counted by a second search", calls, || {
+        black_box(answer(black_box(record)));
+    })?;
+    Ok(solver + &whole)
+}

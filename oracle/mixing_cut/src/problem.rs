@@ -1,0 +1,164 @@
+//! The made-up hall of the timings, so that another program can be given the same one.
+
+use crate::table::{sign_matrix, Entry, Table};
+use crate::words::{bits, hex, Out};
+use ndarray::Array2;
+
+/// SplitMix64: the state grows by 9E3779B97F4A7C15, and its mixed bits are the number.
+pub struct SplitMix(u64);
+
+impl SplitMix {
+    pub fn new(seed: u64) -> Self {
+        Self(seed)
+    }
+
+    pub fn next(&mut self) -> u64 {
+        self.0 = self.0.wrapping_add(0x9E37_79B9_7F4A_7C15);
+        let mut z = self.0;
+        z = (z ^ (z >> 30)).wrapping_mul(0xBF58_476D_1CE4_E5B9);
+        z = (z ^ (z >> 27)).wrapping_mul(0x94D0_49BB_1331_11EB);
+        z ^ (z >> 31)
+    }
+
+    /// −100 to 100 without 0.
+    fn cost(&mut self) -> i64 {
+        let k = (self.next() % 200) as i64;
+        k - if k < 100 { 100 } else { 99 }
+    }
+
+    /// A multiple of 2^-52 from −1 up to, not including, 1.
+    fn number(&mut self) -> f64 {
+        (self.next() >> 11) as f64 / 2f64.powi(52) - 1.0
+    }
+
+    pub fn numbers(&mut self, count: usize) -> Vec<f64> {
+        (0..count).map(|_| self.number()).collect()
+    }
+}
+
+pub const WAGONS: usize = 127;
+const PAIRS: u64 = 2048;
+const HALL_SEED: u64 = 1;
+
+/// 127 wagons, 4,096 entries off the diagonal, all c and all row sums other than 0, so that the
+/// sign table has 4,478 entries. Pairs (i, j), i < j, in rising order: each is kept where the next
+/// number modulo the pairs left is below the pairs still wanted, and then gets a cost. Then c, one
+/// cost each; where row i's sum with 2·c_i is 0, c_i is doubled.
+pub fn hall() -> (Table, Vec<i64>) {
+    let mut random = SplitMix::new(HALL_SEED);
+    let mut entries = Vec::new();
+    let mut sums = vec![0; WAGONS];
+    let mut left = (WAGONS * (WAGONS - 1) / 2) as u64;
+    let mut wanted = PAIRS;
+    for row in 0..WAGONS {
+        for col in row + 1..WAGONS {
+            if random.next() % left < wanted {
+                wanted -= 1;
+                let value = random.cost();
+                entries.push(Entry { row, col, value });
+                entries.push(Entry { row: col, col: row, value });
+                sums[row] += value;
+                sums[col] += value;
+            }
+            left -= 1;
+        }
+    }
+    entries.sort_by_key(|e| (e.row, e.col));
+    let mut c: Vec<i64> = (0..WAGONS).map(|_| random.cost()).collect();
+    for i in 0..WAGONS {
+        if sums[i] + 2 * c[i] == 0 {
+            c[i] *= 2;
+        }
+    }
+    (Table { size: WAGONS, entries }, c)
+}
+
+/// m·rank numbers from a seed, not yet projected.
+pub fn factor(rank: usize, seed: u64) -> Array2<f64> {
+    let m = WAGONS + 1;
+    Array2::from_rows((m, rank), SplitMix::new(seed).numbers(m * rank))
+}
+
+/// m signs from a seed: 1 (−) where the number is odd.
+pub fn sign_bytes(seed: u64) -> Vec<u8> {
+    let mut random = SplitMix::new(seed);
+    (0..=WAGONS).map(|_| (random.next() % 2) as u8).collect()
+}
+
+/// A number for each rule, for the timings.
+pub fn rule_number(rule: u8) -> f64 {
+    match rule {
+        0 | 1 => 0.001,
+        2 => 0.01,
+        4 => 0.5,
+        _ => 0.0,
+    }
+}
+
+/// A job on the hall: start 0, minimum 0, tolerances 0 and −1, which stop no run of rules 3 and 4.
+fn job(rule: u8, rank: usize, most: u32, width: u8, draws: u16, seed: u64) -> Vec<u8> {
+    let (h, c) = hall();
+    let mut body = vec![1, WAGONS as u8];
+    body.extend((h.entries.len() as u16).to_be_bytes());
+    for e in &h.entries {
+        body.extend([e.row as u8, e.col as u8]);
+        body.extend(e.value.to_be_bytes());
+    }
+    c.iter().for_each(|value| body.extend(value.to_be_bytes()));
+    body.extend([rank as u8, rule]);
+    body.extend(bits(rule_number(rule)).to_be_bytes());
+    body.extend(most.to_be_bytes());
+    body.extend(0u32.to_be_bytes());
+    body.extend(bits(0.0).to_be_bytes());
+    body.extend(bits(-1.0).to_be_bytes());
+    body.extend([width, 0]);
+    let mut random = SplitMix::new(seed);
+    let mut put = |body: &mut Vec<u8>, count| {
+        let numbers = random.numbers(count);
+        numbers.iter().for_each(|&x| body.extend(bits(x).to_be_bytes()));
+    };
+    put(&mut body, (WAGONS + 1) * rank);
+    body.extend(draws.to_be_bytes());
+    put(&mut body, draws as usize * rank);
+    let mut record = (body.len() as u32).to_be_bytes().to_vec();
+    record.extend(body);
+    record
+}
+
+pub fn argument<T: std::str::FromStr>(text: &str) -> Result<T, String> {
+    text.parse().map_err(|_| format!("{text:?} is no number that fits here"))
+}
+
+const USAGE: &str = "usage: oracle problem hall | table | factor RANK SEED | signs SEED \
+                     | job RULE RANK MOST WIDTH DRAWS SEED";
+
+/// The hall's parts in the words of the leaf protocol, or a job in hexadecimal.
+pub fn print(what: &[&str]) -> Result<String, String> {
+    let mut out = Out::default();
+    match what {
+        ["hall"] => {
+            let (h, c) = hall();
+            out.count(h.size);
+            h.put(&mut out);
+            out.count(c.len());
+            c.iter().for_each(|&value| out.whole(value));
+        }
+        ["table"] => {
+            let (h, c) = hall();
+            let q = Table::of_matrix(&sign_matrix(&h, &c));
+            out.count(q.size);
+            q.put(&mut out);
+        }
+        ["factor", rank, seed] => {
+            out.doubles(factor(argument(rank)?, argument(seed)?).iter());
+        }
+        ["signs", seed] => out.bytes(&sign_bytes(argument(seed)?)),
+        ["job", rule, rank, most, width, draws, seed] => {
+            let (rule, rank, most) = (argument(rule)?, argument(rank)?, argument(most)?);
+            let (width, draws, seed) = (argument(width)?, argument(draws)?, argument(seed)?);
+            return Ok(hex(&job(rule, rank, most, width, draws, seed)) + "\n");
+        }
+        _ => return Err(USAGE.to_string()),
+    }
+    Ok(out.text() + "\n")
+}
