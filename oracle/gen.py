@@ -6,6 +6,7 @@
     edges                          a fixed list at the limits; "# NN why" before each job names the
                                    number that it is refused with, 00 for none (COUNT cuts it)
     leaf, leaf-NAME                lines for `oracle leaf`, of all functions in turn or of one
+    leaf-edges                     a fixed list for `oracle leaf` at the limits (COUNT cuts it)
     reduced                        lines for `oracle leaf` on reduced problems, refusals included
     run                            scripts for `oracle run`; COUNT scripts
 
@@ -15,6 +16,9 @@ pattern, infinities, subnormals and both zeros occur.
 import random
 import struct
 import sys
+
+sys.dont_write_bytecode = True
+import model  # noqa: E402
 
 LIMIT = 2**40
 SIGN_LIMIT = 2**42
@@ -53,7 +57,7 @@ def usual(rng):
     return bits(rng.gauss(0.0, 1.0))
 
 
-NUMBER_STYLES = ["usual"] * 6 + ["mixed", "tiny", "huge", "zero", "whole", "odd", "subnormal"]
+NUMBER_STYLES = ["usual"] * 14 + ["mixed", "tiny", "huge", "zero", "whole", "odd", "subnormal"]
 
 
 def numbers(rng, count, style=None):
@@ -79,10 +83,11 @@ def numbers(rng, count, style=None):
 
 
 def factor(rng, m, rank):
-    """A factor row by row; some rows of another style."""
+    """A factor row by row; at times with some rows of another style."""
     flat = numbers(rng, m * rank)
+    chance = rng.choice([0.0, 0.0, 0.0, 0.08])
     for i in range(m):
-        if rng.random() < 0.08:
+        if rng.random() < chance:
             flat[i * rank : (i + 1) * rank] = numbers(rng, rank)
     return flat
 
@@ -98,10 +103,6 @@ def value(rng, style):
     if style == "zeros":
         return rng.choice([0, 0, 0, 1, -1])
     return rng.randint(-(10**6), 10**6)
-
-
-def spread(places, style, rng):
-    return {place: value(rng, style) for place in places}
 
 
 def symmetric(rng, size, most_entries, style):
@@ -210,7 +211,7 @@ def size(rng, kind="mixed", low=0, high=127):
 
 
 def some_rank(rng, small=False):
-    return rng.choice([1, 1, 2, 3, 4, 5] if small else [1, 2, 3, 4, 5, 7, 8, 12, 16, 17, 20, 31, 32])
+    return rng.choice([1, 1, 2, 3, 4, 5]) if small else rng.randint(1, 32)
 
 
 def default_rank(m):
@@ -267,9 +268,10 @@ def job(rng, kind="mixed"):
         rank = r = rng.randint(1, 17)
     width = rng.choice([0, 1, 1, 2, 3, 7, 128, rng.randint(0, 128)])
     if n > 20:
-        width = rng.choice([0, 1, 2, 5, 16])
+        width = rng.choice([0, 1, 2, 5, 16, 128])
     room = FRAME - (46 + 10 * len(h) + 8 * n + 8 * start_count(start, most, m, r))
-    draws = max(1, min(rng.choice([1, 1, 2, 3, 5, 12]), room // (8 * r)))
+    draws = rng.choice([1, 1, 2, 3, 5, 12]) if rng.random() < 0.98 else 1000
+    draws = max(1, min(draws, room // (8 * r)))
     numbers_of_start = factor(rng, m, r) if start < 2 else (
         numbers(rng, m) + numbers(rng, start_count(2, most, m, r) - m))
     return {
@@ -380,6 +382,17 @@ DAMAGES = [
 
 
 def damaged(rng):
+    """A damaged job, or one that is still accepted; never one that sweeps without end."""
+    while True:
+        data = damaged_once(rng)
+        try:
+            if model.read_job(data)[3]["most"] <= 100:
+                return data
+        except model.Refused:
+            return data
+
+
+def damaged_once(rng):
     j = job(rng, rng.choice(["small", "small", "mixed"]))
     for _ in range(rng.choice([0, 1, 1, 1, 2, 3])):
         rng.choice(DAMAGES)(j, rng)
@@ -801,6 +814,134 @@ def leaf_lines(rng, names, count):
         yield f"{name} {LEAVES[name](rng)}"
 
 
+def doubles(*values):
+    return [bits(float(x)) for x in values]
+
+
+def leaf_edges():
+    """Lines on values where a wrong order, guard or comparison shows."""
+    nan, inf = float("nan"), float("inf")
+    link = table_words(2, [(0, 1, 8), (1, 0, 8)])
+    bare = table_words(2, [])
+    for x in (2.0, 5e-324, 0.0, -0.0, -1.0, inf, -inf, nan, 1.7976931348623157e308, 2.0**-1022,
+              1.0 + 2.0**-52, 1.0 - 2.0**-53, 2.0**-1073, 4.0 - 2.0**-51, 2.0**52 + 1):
+        yield "sqrt " + words(bits(x))
+    for m in range(1, 129):
+        yield f"rank {words(m)}"
+    for a, b in [((1e16, 1, -1e16), (1, 1, 1)), ((1, 1e16, -1e16), (1, 1, 1)),
+                 ((0.1,) * 10, (0.1,) * 10), ((inf, 1), (0, 1)), ((-0.0,), (1,)), ((), ()),
+                 ((1 + 2.0**-30, 1), (1 - 2.0**-30, -1)), ((5e-324, 5e-324), (0.5, 0.5))]:
+        yield "dot " + words(doubles(*a), doubles(*b))
+    for a in [(), (0, 0), (-0.0,), (3, 4), (1e200, 1), (1e-170, 0), (1e-162, 1e-162), (inf, nan),
+              (-inf, 1), (nan,), (1, 1e-9, 1e-9, 1e-9, 1e-9), (1e-9, 1e-9, 1e-9, 1e-9, 1)]:
+        yield "norm " + words(doubles(*a))
+        if a:
+            yield "project " + words(1, len(a), doubles(*a))
+    yield from sign_table_edges()
+    yield from step_edges(link, bare)
+    yield from rounding_edges(link)
+    yield from beam_edges()
+    yield "submatrix " + table_words(3, [(0, 1, 5), (0, 2, 7), (2, 0, -7), (2, 2, 0)]) + " " + words([2, 0], [1])
+    yield "submatrix " + table_words(2, [(0, 0, 2**53), (0, 1, 0)]) + " " + words([1, 0], [])
+    yield "submatrix " + table_words(2, [(0, 0, -(2**53))]) + " " + words([0], [0, 0])
+    yield "submatrix " + table_words(2, [(0, 0, 1)]) + " " + words([], [])
+    yield "submatrix " + table_words(0, []) + " " + words([], [])
+    yield "lift " + words(3, [2], [0, 0, 2], doubles(1, 2, 3), doubles(9))
+    yield "lift " + words(0, [], [], [], [])
+    yield "lift " + words(2, [], [1], doubles(nan), [])
+
+
+def sign_table_edges():
+    halls = [
+        (0, [], []), (1, [], [0]), (1, [], [5]), (1, [(0, 0, 0)], [0]), (1, [(0, 0, 2)], [-1]),
+        (1, [(0, 0, 2)], [-3]), (2, [(0, 1, 3), (1, 0, 3)], [-1, -1]),
+        (2, [(0, 1, 2), (1, 0, 2)], [-1, -1]), (2, [(0, 1, 0), (1, 0, 0)], [0, 0]),
+        (1, [(0, 0, LIMIT)], [0]), (1, [], [-LIMIT // 2]),
+        (2, [(0, 0, 1), (0, 1, -1), (1, 0, -1), (1, 1, 1)], [0, 0]),
+    ]
+    for n, h, c in halls:
+        yield "signtable " + table_words(n, h) + " " + words(c)
+        for b in ([0] * n, [1] * n):
+            yield "cost " + table_words(n, h) + " " + words(c, b)
+    tables = [
+        (1, []), (1, [(0, 0, 0)]), (2, [(0, 0, 0), (1, 1, 0)]), (2, [(0, 0, 0), (1, 1, -8)]),
+        (2, [(0, 0, 0), (0, 1, 0), (1, 0, 0)]), (1, [(0, 0, SIGN_LIMIT)]),
+        (2, [(0, 1, SIGN_LIMIT // 2), (1, 0, SIGN_LIMIT // 2)]),
+        (2, [(0, 0, 1), (0, 1, 1), (1, 0, 1), (1, 1, 1)]),
+    ]
+    for m, table in tables:
+        for name in ("floor", "bound", "work"):
+            yield f"{name} {table_words(m, table)}"
+        for x in ([0] * m, [1] + [0] * (m - 1)):
+            yield "obj_rounded " + table_words(m, table) + " " + words(x)
+    for x in ([0], [1], [0, 0], [0, 1], [1, 0], [1, 1]):
+        yield "decode " + words(x)
+
+
+def step_edges(link, bare):
+    nan, inf = float("nan"), float("inf")
+    below, above = bits(1e-24) - 1, bits(1e-24) + 1
+    zero_entry = table_words(2, [(0, 0, 0), (0, 1, 8), (1, 0, 8)])
+    # Rule 3's guard: the norm of row 0's gradient is row 1's number.
+    for x in (below, bits(1e-24), above, bits(-1e-24), 0, bits(nan), bits(inf), bits(1e160)):
+        for rule, number in [(3, 0), (4, bits(0.5)), (4, bits(-0.0)), (2, bits(0.5))]:
+            yield f"step {words(rule, number)} {link} {words(1, [bits(0.25), x])}"
+    # Momentum whose new row is 0: its second norm has no guard.
+    yield f"step {words(4, bits(0.5))} {link} {words(1, doubles(3, -1))}"
+    # Momentum 0.0 and -0.0 are rule 3: an infinite old row does not come through.
+    for number in (0, bits(-0.0), 1):
+        yield f"step {words(4, number)} {link} {words(2, doubles(inf, nan, 0.6, 0.8))}"
+        yield f"step {words(4, number)} {link} {words(3, doubles(0.1, 0.2, 0.3, 0.7, 0.11, 0.13))}"
+    # Four running sums against one.
+    for rank in range(1, 33):
+        shape = [1e8 if k % 5 == 2 else 1.0 + k / 7 for k in range(2 * rank)]
+        for rule, number in [(3, 0), (4, bits(0.9)), (2, bits(1e-3)), (0, bits(1e-3)), (1, bits(1e-3))]:
+            yield f"step {words(rule, number)} {link} {words(rank, doubles(*shape))}"
+    for rule in (0, 1, 2):
+        for number in (0.0, -0.0, nan, inf, 1e-300, 0.5):
+            for rows in ((0, 0, 0, 0), (1, 0, 0, 1), (1, 0, -1, 0), (0, 0, 1, 0)):
+                yield f"step {words(rule, bits(number))} {link} {words(2, doubles(*rows))}"
+                yield f"step {words(rule, bits(number))} {bare} {words(2, doubles(*rows))}"
+    # A stored zero times an infinite number.
+    for name in ("multiply", "grad", "dual", "multipliers", "check", "obj"):
+        for table in (link, bare, zero_entry):
+            yield f"{name} {table} {words(1, doubles(inf, 1))}"
+            yield f"{name} {table} {words(2, doubles(0.1, 0.2, 0.3, 0.7))}"
+    for rule in range(5):
+        yield f"step {words(rule, bits(0.5))} {zero_entry} {words(1, doubles(inf, 1))}"
+    # (2·q)·dot against 2·(q·dot), where the products are subnormal.
+    eighth = table_words(2, [(0, 1, 1), (1, 0, 1)])
+    yield f"obj {eighth} {words(1, doubles(1, 1.5e-323))}"
+
+
+def rounding_edges(link):
+    nan, inf = float("nan"), float("inf")
+    rows = doubles(1, 0, 0, 1)
+    for draw in ((0, 0), (1, 0), (0, -1), (nan, 1), (inf, 1), (1e-170, 0), (1e200, 1), (-0.0, 5e-324)):
+        yield "round " + words(2, 2, rows, doubles(*draw))
+    yield "round " + words(1, 3, doubles(nan, inf, -inf), doubles(1))
+    yield f"rounded {link} {words(2, rows, 2, doubles(1, 1, -1, -1))}"
+    yield f"rounded {link} {words(2, rows, 3, doubles(1, 1, 1, -1, -1, 1))}"
+    yield f"rounded {link} {words(2, rows, 1, doubles(nan, 0))}"
+    for most in (0, 1):
+        for rank in (1, 2):
+            x = doubles(0.0, -0.0, nan, -5e-324)
+            more = doubles(*range(4 * rank)) if most and rank > 1 else []
+            yield "start " + words(2, most, 4, rank, x + more)
+    for kind in (0, 1):
+        yield "start " + words(kind, 1, 2, 2, doubles(0, 0, 3, 4))
+
+
+def beam_edges():
+    ring = [(i, j, 8) for i in range(5) for j in range(5) if (i - j) % 5 in (1, 4)]
+    full = [(i, j, 1 if i != j else 3) for i in range(4) for j in range(4)]
+    lone = [(0, 0, -7)]
+    for width in (0, 1, 2, 3, 128):
+        for m, table in ((5, ring), (4, full), (1, lone), (1, [])):
+            for bit in (0, 1):
+                yield f"beam {table_words(m, table)} {words(width, [bit] * m)}"
+
+
 # ---- scripts --------------------------------------------------------------------------------
 
 
@@ -937,6 +1078,8 @@ def lines(kind, count, seed):
         return leaf_lines(rng, REDUCED, count)
     if kind == "leaf":
         return leaf_lines(rng, list(LEAVES), count)
+    if kind == "leaf-edges":
+        return iter(list(leaf_edges())[:count])
     if kind.startswith("leaf-") and kind[5:] in LEAVES:
         return leaf_lines(rng, [kind[5:]], count)
     if kind == "run":

@@ -3,11 +3,11 @@
 use crate::draws::lent;
 use crate::job::{self, Job, Settings};
 use crate::maxcut_oracle::entrywise_lower_bound;
-use crate::search::search;
 use crate::sdp_solver::{
     eval_qubo_objective, qubo_binary_from_sign_solution, solve_maxcut_sdp, SolveOptions,
     SolveResult, SolveStatus, WarmStart,
 };
+use crate::search::search;
 use crate::step_rules::StepRule;
 use crate::table::{choice_bytes, eighths, linear, sign_matrix, Table};
 use crate::words::bits;

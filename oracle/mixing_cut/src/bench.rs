@@ -18,14 +18,9 @@ const BATCHES: usize = 25;
 const USAGE: &str = "usage: oracle bench sweep RULE RANK CALLS | beam SEED CALLS \
                      | answer CALLS (job on standard input)";
 
-pub fn bench(
-    what: &[&str],
-    read: impl Fn() -> Result<Vec<u8>, String>,
-) -> Result<String, String> {
+pub fn bench(what: &[&str], read: impl Fn() -> Result<Vec<u8>, String>) -> Result<String, String> {
     match what {
-        ["sweep", rule, rank, calls] => {
-            sweeps(argument(rule)?, argument(rank)?, argument(calls)?)
-        }
+        ["sweep", rule, rank, calls] => sweeps(argument(rule)?, argument(rank)?, argument(calls)?),
         ["beam", seed, calls] => beam(argument(seed)?, argument(calls)?),
         ["answer", calls] => answers(&read()?, argument(calls)?),
         _ => Err(USAGE.to_string()),

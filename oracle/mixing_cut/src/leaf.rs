@@ -9,7 +9,7 @@ use crate::maxcut_oracle::{
     obj_rounded,
 };
 use crate::plain::measure;
-use crate::refusals::{bad_places, bad_rule, magnitude};
+use crate::refusals::{bad_places, bad_rule, magnitude, MOST_ORIGINAL_SIZE};
 use crate::sdp_project::project;
 use crate::sdp_solver::inside_solver::{prepare_initial_factor, separate_diagonal};
 use crate::sdp_solver::{
@@ -17,9 +17,7 @@ use crate::sdp_solver::{
 };
 use crate::search::search;
 use crate::step_rules::apply_step;
-use crate::table::{
-    choice_bytes, eighths, linear, sign_bytes, sign_matrix, signs, Entry, Table,
-};
+use crate::table::{choice_bytes, eighths, linear, sign_bytes, sign_matrix, signs, Entry, Table};
 use crate::words::{In, Out};
 use ndarray::{Array1, Array2};
 use ndarray_linalg::Norm;
@@ -109,16 +107,6 @@ fn matrix_and_factor(words: &mut In) -> Result<(CsMat<f64>, Array2<f64>), String
     Ok((q, factor))
 }
 
-/// Count, then row, column and eighths of each entry.
-fn put_table(out: &mut Out, table: &Table) {
-    out.count(table.entries.len());
-    for entry in &table.entries {
-        out.count(entry.row);
-        out.count(entry.col);
-        out.whole(entry.value);
-    }
-}
-
 fn sqrt(words: &mut In, out: &mut Out) -> Done {
     out.double(words.double()?.sqrt());
     Ok(())
@@ -133,7 +121,7 @@ fn signtable(words: &mut In, out: &mut Out) -> Done {
     let h = table(words)?;
     let c = words.wholes()?;
     want(c.len() == h.size, "one c for each wagon")?;
-    put_table(out, &Table::of_matrix(&sign_matrix(&h, &c)));
+    Table::of_matrix(&sign_matrix(&h, &c)).put(out);
     Ok(())
 }
 
@@ -189,7 +177,7 @@ fn work(words: &mut In, out: &mut Out) -> Done {
     let (work, diagonal) = separate_diagonal(&table.matrix(8.0));
     let work = Table::of_matrix(&work);
     assert_eq!(work, set_aside(&table), "01's sentence and separate_diagonal");
-    put_table(out, &work);
+    work.put(out);
     out.doubles(diagonal.iter());
     Ok(())
 }
@@ -328,6 +316,7 @@ fn rounded(words: &mut In, out: &mut Out) -> Done {
 fn map_and_fixed(words: &mut In, size: usize) -> Result<(Vec<usize>, Vec<usize>), String> {
     let map = words.counts()?;
     let fixed = words.counts()?;
+    want(size <= MOST_ORIGINAL_SIZE, "the original size is too large")?;
     want(map.iter().chain(&fixed).all(|&i| i < size), "an index is out of range")?;
     let mut sorted = map.clone();
     sorted.sort_unstable();
@@ -340,7 +329,7 @@ fn submatrix(words: &mut In, out: &mut Out) -> Done {
     let (map, fixed) = map_and_fixed(words, q.rows())?;
     let fixed = fixed.into_iter().map(|index| (index, 0.0)).collect();
     let problem = ReducedProblem::from_principal_submatrix(&q, map, fixed);
-    put_table(out, &Table::of_matrix(&problem.reduced_q));
+    Table::of_matrix(&problem.reduced_q).put(out);
     Ok(())
 }
 

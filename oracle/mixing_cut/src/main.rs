@@ -10,6 +10,7 @@ mod draws;
 mod job;
 mod leaf;
 mod leaf_numbers;
+mod lent;
 mod plain;
 mod problem;
 mod refusals;

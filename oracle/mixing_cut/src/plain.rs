@@ -108,7 +108,7 @@ pub fn sweep_once(
     let due = run.sweeps == 1
         || run.sweeps == run.minimum
         || run.sweeps == run.most
-        || run.sweeps % 20 == 0;
+        || run.sweeps.is_multiple_of(20);
     let check = due.then(|| check(run, work, &factor));
     if let Some(check) = &check {
         run.last_objective = check.objective;

@@ -138,13 +138,16 @@ pub fn print(what: &[&str]) -> Result<String, String> {
     match what {
         ["hall"] => {
             let (h, c) = hall();
-            put_table(&mut out, &h);
+            out.count(h.size);
+            h.put(&mut out);
             out.count(c.len());
             c.iter().for_each(|&value| out.whole(value));
         }
         ["table"] => {
             let (h, c) = hall();
-            put_table(&mut out, &Table::of_matrix(&sign_matrix(&h, &c)));
+            let q = Table::of_matrix(&sign_matrix(&h, &c));
+            out.count(q.size);
+            q.put(&mut out);
         }
         ["factor", rank, seed] => {
             out.doubles(factor(argument(rank)?, argument(seed)?).iter());
@@ -158,14 +161,4 @@ pub fn print(what: &[&str]) -> Result<String, String> {
         _ => return Err(USAGE.to_string()),
     }
     Ok(out.text() + "\n")
-}
-
-fn put_table(out: &mut Out, table: &Table) {
-    out.count(table.size);
-    out.count(table.entries.len());
-    for entry in &table.entries {
-        out.count(entry.row);
-        out.count(entry.col);
-        out.whole(entry.value);
-    }
 }

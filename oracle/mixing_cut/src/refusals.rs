@@ -57,8 +57,5 @@ pub fn bad_draw_count(count: usize) -> bool {
 
 /// The first number of a list whose condition holds, or 0.
 pub fn first(conditions: &[(u8, &dyn Fn() -> bool)]) -> u8 {
-    conditions
-        .iter()
-        .find(|(_, holds)| holds())
-        .map_or(0, |&(number, _)| number)
+    conditions.iter().find(|(_, holds)| holds()).map_or(0, |&(number, _)| number)
 }

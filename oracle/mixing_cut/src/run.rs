@@ -2,13 +2,14 @@
 //! own; sweeps, checks, rounding and search are the Rust's, through `plain`.
 
 use crate::job::Settings;
+use crate::lent::LentTable;
 use crate::plain::{self, Finish, Run, Stage};
 use crate::refusals::{
     bad_draw_count, bad_places, bad_rule, first, too_large, unmirrored, MOST_ENTRIES, MOST_RANK,
     MOST_WAGONS, MOST_WIDTH,
 };
 use crate::sdp_solver::inside_solver::separate_diagonal;
-use crate::table::{sign_matrix, Entry, Table};
+use crate::table::{sign_matrix, Table};
 use crate::words::{In, Out};
 use ndarray::Array2;
 use sprs::CsMat;
@@ -18,30 +19,16 @@ pub struct Script {
     state: Option<(Run, Vec<f64>)>,
 }
 
-/// A call's table as it is lent: numbers, and slices that may be too short or too long.
+/// A call's table: n, the entries of H, c.
 struct Lent {
     n: usize,
-    count: usize,
-    rows: Vec<usize>,
-    cols: Vec<usize>,
-    values: Vec<i64>,
+    h: LentTable,
     c: Vec<i64>,
 }
 
 impl Lent {
     fn read(words: &mut In) -> Result<Self, String> {
-        Ok(Self {
-            n: words.count()?,
-            count: words.count()?,
-            rows: words.counts()?,
-            cols: words.counts()?,
-            values: words.wholes()?,
-            c: words.wholes()?,
-        })
-    }
-
-    fn bad_count(&self) -> bool {
-        self.count > MOST_ENTRIES
+        Ok(Self { n: words.count()?, h: LentTable::read(words, MOST_ENTRIES)?, c: words.wholes()? })
     }
 
     fn bad_n(&self) -> bool {
@@ -50,35 +37,27 @@ impl Lent {
 
     /// 31 for the table's slices; a length that rests on a refused number isn't tested.
     fn short(&self) -> bool {
-        let lengths = [self.rows.len(), self.cols.len(), self.values.len()];
-        let table = !self.bad_count() && lengths.iter().any(|&length| length < self.count);
-        table || (!self.bad_n() && self.c.len() < self.n)
-    }
-
-    /// The first `count` entries; asked only once the slices are known to hold them.
-    fn entries(&self) -> Vec<Entry> {
-        let entry = |k| Entry { row: self.rows[k], col: self.cols[k], value: self.values[k] };
-        (0..self.count).map(entry).collect()
+        self.h.short(&[]) || (!self.bad_n() && self.c.len() < self.n)
     }
 
     fn number13(&self) -> bool {
-        self.bad_n() || self.bad_count()
+        self.bad_n() || self.h.bad_count()
     }
 
     fn number14(&self) -> bool {
-        bad_places(self.n, &self.entries())
+        bad_places(self.n, &self.h.entries())
     }
 
     fn number15(&self) -> bool {
-        unmirrored(&self.entries())
+        unmirrored(&self.h.entries())
     }
 
     fn number16(&self) -> bool {
-        too_large(&self.entries(), &self.c[..self.n])
+        too_large(&self.h.entries(), &self.c[..self.n])
     }
 
     fn sign_matrix(&self) -> CsMat<f64> {
-        let h = Table { size: self.n, entries: self.entries() };
+        let h = Table { size: self.n, entries: self.h.entries() };
         sign_matrix(&h, &self.c[..self.n])
     }
 }
@@ -220,7 +199,8 @@ fn number(words: &mut In) -> Result<u32, String> {
 
 /// The factor's numbers as a matrix; a forged record may come with too few.
 fn factor_of(run: &Run, kept: &[f64]) -> Result<Array2<f64>, String> {
-    let numbers = kept.get(..run.size * run.rank).ok_or("the record line brought too few numbers")?;
+    let numbers =
+        kept.get(..run.size * run.rank).ok_or("the record line brought too few numbers")?;
     Ok(Array2::from_rows((run.size, run.rank), numbers.to_vec()))
 }
 

@@ -38,10 +38,8 @@ pub fn by_levels(q: &CsMat<f64>, width: usize, start: &Array1<f64>) -> Searched 
                 best = child.clone();
             }
         }
-        let mut next: Vec<_> = level
-            .iter()
-            .flat_map(|(_, x)| get_improving_children(x, q))
-            .collect();
+        let mut next: Vec<_> =
+            level.iter().flat_map(|(_, x)| get_improving_children(x, q)).collect();
         next.sort_by(|a, b| a.0.partial_cmp(&b.0).expect("objectives are numbers"));
         next.truncate(width);
         level = next;

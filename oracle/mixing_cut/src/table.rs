@@ -1,6 +1,7 @@
 //! Tables as lists of entries, and the matrices that the Rust takes.
 
 use crate::sdp_solver::{absorb_linear_terms_into_hessian, qubo_hessian_to_sign_matrix};
+use crate::words::Out;
 use ndarray::Array1;
 use sprs::CsMat;
 
@@ -39,12 +40,19 @@ impl Table {
         Self { size: q.rows(), entries: q.iter().map(entry).collect() }
     }
 
+    /// Prints count, then row, column and value of each entry.
+    pub fn put(&self, out: &mut Out) {
+        out.count(self.entries.len());
+        for entry in &self.entries {
+            out.count(entry.row);
+            out.count(entry.col);
+            out.whole(entry.value);
+        }
+    }
+
     /// Diagonal entries less the absolute values of all others: 01's floor, of a table in eighths.
     pub fn floor(&self) -> i64 {
-        self.entries
-            .iter()
-            .map(|e| if e.row == e.col { e.value } else { -e.value.abs() })
-            .sum()
+        self.entries.iter().map(|e| if e.row == e.col { e.value } else { -e.value.abs() }).sum()
     }
 }
 

@@ -125,11 +125,7 @@ fn assert_same(job: &Job, run: &Run, factor: &Array2<f64>, finished: &Finish) {
     assert_eq!(run.rank, result.rank, "rank");
     assert_eq!(run.status, status_number(result.status), "status");
     assert_eq!(run.sweeps as usize, result.iterations, "sweeps");
-    assert_eq!(
-        all_bits(factor.iter()),
-        all_bits(result.factor_matrix.iter()),
-        "factor"
-    );
+    assert_eq!(all_bits(factor.iter()), all_bits(result.factor_matrix.iter()), "factor");
     assert_eq!(
         bits(finished.relaxed_objective),
         bits(result.relaxed_objective),

@@ -34,7 +34,7 @@ pub fn unhex(text: &str) -> Result<Vec<u8>, String> {
         .filter(|c| !c.is_ascii_whitespace())
         .map(|c| c.to_digit(16).ok_or(format!("{c:?} is no hexadecimal digit")))
         .collect::<Result<_, _>>()?;
-    if digits.len() % 2 != 0 {
+    if !digits.len().is_multiple_of(2) {
         return Err("an odd number of hexadecimal digits".to_string());
     }
     Ok(digits.chunks(2).map(|d| (d[0] * 16 + d[1]) as u8).collect())

@@ -10,6 +10,7 @@ pub trait Norm {
     fn norm_l2(&self) -> f64;
 }
 
+#[inline]
 fn norm_l2<'a>(values: impl Iterator<Item = &'a f64>) -> f64 {
     let mut sum = 0.0;
     for value in values {
@@ -19,12 +20,14 @@ fn norm_l2<'a>(values: impl Iterator<Item = &'a f64>) -> f64 {
 }
 
 impl Norm for Array1<f64> {
+    #[inline]
     fn norm_l2(&self) -> f64 {
         norm_l2(self.iter())
     }
 }
 
 impl Norm for Array2<f64> {
+    #[inline]
     fn norm_l2(&self) -> f64 {
         norm_l2(self.iter())
     }
@@ -38,6 +41,7 @@ pub mod norm {
     }
 
     /// Divides each element of a row by the row's norm, whatever that norm is.
+    #[inline]
     pub fn normalize(mut m: Array2<f64>, axis: NormalizeAxis) -> (Array2<f64>, Vec<f64>) {
         let NormalizeAxis::Row = axis;
         let mut norms = Vec::with_capacity(m.nrows());
@@ -69,6 +73,7 @@ pub trait AllocatedArray {
 }
 
 impl AllocatedArray for Array2<f64> {
+    #[inline]
     fn square_layout(&self) -> Result<MatrixLayout, LinalgError> {
         if self.nrows() == self.ncols() {
             Ok(MatrixLayout)
@@ -89,6 +94,7 @@ pub trait Lapack: Sized {
 
 impl Lapack for f64 {
     /// Always an error: the dual bound is left behind.
+    #[inline]
     fn eigh(_: bool, _: MatrixLayout, _: UPLO, _: &mut [f64]) -> Result<Vec<f64>, LinalgError> {
         Err(LinalgError)
     }

@@ -29,6 +29,7 @@ pub struct TriMat<N> {
 
 impl<N> CsVecView<'_, N> {
     /// Column and value of each entry.
+    #[inline]
     pub fn iter(&self) -> impl Iterator<Item = (usize, &N)> + '_ {
         self.columns.iter().copied().zip(self.values)
     }
@@ -36,6 +37,7 @@ impl<N> CsVecView<'_, N> {
 
 impl<N: Clone> CsMat<N> {
     /// Row starts, columns and values; rows out of order are an error.
+    #[inline]
     pub fn new(
         shape: (usize, usize),
         starts: Vec<usize>,
@@ -54,53 +56,61 @@ impl<N: Clone> CsMat<N> {
         Self { shape, starts, columns, values }
     }
 
+    #[inline]
     pub fn shape(&self) -> (usize, usize) {
         self.shape
     }
 
+    #[inline]
     pub fn rows(&self) -> usize {
         self.shape.0
     }
 
+    #[inline]
     pub fn cols(&self) -> usize {
         self.shape.1
     }
 
     /// Stored entries, zeros included.
+    #[inline]
     pub fn nnz(&self) -> usize {
         self.values.len()
     }
 
+    #[inline]
     pub fn is_csr(&self) -> bool {
         true
     }
 
+    #[inline]
     pub fn to_csr(&self) -> Self {
         self.clone()
     }
 
+    #[inline]
     pub fn get(&self, i: usize, j: usize) -> Option<&N> {
         let range = self.starts[i]..self.starts[i + 1];
         let at = self.columns[range.clone()].binary_search(&j).ok()?;
         Some(&self.values[range.start + at])
     }
 
+    #[inline]
     fn row(&self, i: usize) -> CsVecView<'_, N> {
         let range = self.starts[i]..self.starts[i + 1];
-        CsVecView {
-            columns: &self.columns[range.clone()],
-            values: &self.values[range],
-        }
+        CsVecView { columns: &self.columns[range.clone()], values: &self.values[range] }
     }
 
+    #[inline]
     pub fn outer_view(&self, i: usize) -> Option<CsVecView<'_, N>> {
         (i < self.shape.0).then(|| self.row(i))
     }
 
+    #[inline]
     pub fn outer_iterator(&self) -> impl Iterator<Item = CsVecView<'_, N>> + '_ {
         (0..self.shape.0).map(|i| self.row(i))
     }
 
+    #[inline]
     pub fn iter(&self) -> Entries<'_, N> {
         Entries { matrix: self, row: 0, at: 0 }
     }
@@ -116,6 +126,7 @@ pub struct Entries<'a, N> {
 impl<'a, N> Iterator for Entries<'a, N> {
     type Item = (&'a N, (usize, usize));
 
+    #[inline]
     fn next(&mut self) -> Option<Self::Item> {
         let value = self.matrix.values.get(self.at)?;
         while self.matrix.starts[self.row + 1] <= self.at {
@@ -131,12 +142,14 @@ impl<'a, N: Clone> IntoIterator for &'a CsMat<N> {
     type Item = (&'a N, (usize, usize));
     type IntoIter = Entries<'a, N>;
 
+    #[inline]
     fn into_iter(self) -> Entries<'a, N> {
         self.iter()
     }
 }
 
 impl CsMat<f64> {
+    #[inline]
     pub fn to_dense(&self) -> Array2<f64> {
         let mut dense = Array2::<f64>::zeros(self.shape);
         for (&value, (i, j)) in self {
@@ -147,16 +160,19 @@ impl CsMat<f64> {
 }
 
 impl TriMat<f64> {
+    #[inline]
     pub fn new(shape: (usize, usize)) -> Self {
         Self { shape, triplets: Vec::new() }
     }
 
+    #[inline]
     pub fn add_triplet(&mut self, i: usize, j: usize, value: f64) {
         assert!(i < self.shape.0 && j < self.shape.1, "triplet out of range");
         self.triplets.push((i, j, value));
     }
 
     /// Sums what stands at one place, from 0.0 in the order in which it came.
+    #[inline]
     pub fn to_csr(&self) -> CsMat<f64> {
         let mut triplets = self.triplets.clone();
         triplets.sort_by_key(|&(i, j, _)| (i, j));
@@ -183,6 +199,7 @@ impl TriMat<f64> {
 impl Mul<&Array1<f64>> for &CsMat<f64> {
     type Output = Array1<f64>;
 
+    #[inline]
     fn mul(self, x: &Array1<f64>) -> Array1<f64> {
         assert_eq!(self.cols(), x.len(), "shapes disagree");
         let mut out = Array1::<f64>::zeros(self.rows());
@@ -200,6 +217,7 @@ impl Mul<&Array1<f64>> for &CsMat<f64> {
 impl Mul<&Array2<f64>> for &CsMat<f64> {
     type Output = Array2<f64>;
 
+    #[inline]
     fn mul(self, factor: &Array2<f64>) -> Array2<f64> {
         assert_eq!(self.cols(), factor.nrows(), "shapes disagree");
         let rank = factor.ncols();

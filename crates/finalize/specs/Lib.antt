@@ -1,0 +1,4 @@
+pub mod Limits
+pub mod Finalize
+pub mod Demand3
+pub mod Contracts

@@ -1,0 +1,1 @@
+// What a run gives at its finish.

@@ -1,0 +1,54 @@
+use borrow.Author.Needs.{needs}
+use Rattle.reduced.proofs.lift_solution.clear.Statement.{statement}
+use Rattle.reduced.proofs.lift_solution.clear.Tie as tie
+use Rattle.laws.proofs.MapFirst.{fill-none, fill-more, fill-all}
+use Rattle.laws.specs.Lists.{fill}
+use Rattle.reduced.specs.Lift.{zero64}
+use lib.ListN.{length}
+use mathlib.Core.Path.{_≡_, refl}
+use Prim.Native.Nat.{_≤_, _-_}
+
+abbrev Inv-loop : tie.InvT-loop
+Inv-loop size lifted₀ k₀ lifted k = (k ≤ size) × (length lifted ≡ length lifted₀) × (lifted ≡ fill (λ _. zero64) k lifted₀)
+
+abbrev μ-loop : tie.MeasureT-loop
+μ-loop size lifted₀ k₀ lifted k = size - k
+
+loop-holds : tie.Need-loop-holds Inv-loop μ-loop
+loop-holds c = (search needs, refl, fill-none _ _)
+
+mul-lifted : tie.Need-mul-lifted Inv-loop μ-loop
+mul-lifted c = search needs
+
+slice-write-lifted : tie.Need-slice-write-lifted Inv-loop μ-loop
+slice-write-lifted c = search needs
+
+add-k : tie.Need-add-k Inv-loop μ-loop
+add-k c = search needs
+
+loop-less : tie.Need-loop-less Inv-loop μ-loop
+loop-less c = search needs
+
+loop-again : tie.Need-loop-again Inv-loop μ-loop
+loop-again c = (search needs, search needs, fill-more _ _ _ (c .before .loop .inv .2) refl)
+
+same-length : tie.Need-same-length Inv-loop μ-loop
+same-length c = search needs
+
+returns : tie.Need-returns Inv-loop μ-loop
+returns c = fill-all _ _ _ _ (c .before .loop .inv .2) (c .before .loop .inv .0) (c .loop-test .left)
+
+pub clear-spec : {M : Type 1} → statement M
+clear-spec =
+    tie.close
+    (tie.spec
+    Inv-loop
+    μ-loop
+    loop-holds
+    mul-lifted
+    slice-write-lifted
+    add-k
+    loop-less
+    loop-again
+    same-length
+    returns)

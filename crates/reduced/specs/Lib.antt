@@ -1,0 +1,4 @@
+pub mod Limits
+pub mod Indices
+pub mod Submatrix
+pub mod Lift

@@ -1,0 +1,40 @@
+-- `lift_solution` (000; 01, "Reduced").
+use Prim.Native.Nat.{ℕ}
+use mathlib.Core.Path.{_≡_}
+use mathlib.Core.Bool.{Bool, false}
+use mathlib.Core.List.{List, [], _∷_}
+use lib.ListN.{length, getD}
+use lib.Dec.{ltb}
+use lib.Ieee.{Float, nan, binary64, ofBits}
+use Rattle.laws.specs.Lists.{elem, fill}
+use Rattle.laws.specs.Refusal.{_if_, first, anyOf, short}
+use Rattle.reduced.specs.Limits.{mostSize}
+use Rattle.reduced.specs.Indices.{indexRefused, putEach}
+
+-- 0.0, and an element of a slice of doubles; past its end, which no accepted call reads, the code's reading has NaN
+abbrev pub zero64 : Float
+zero64 = ofBits binary64 0
+
+abbrev pub elemF : List Float → ℕ → Float
+elemF l i = getD l i nan
+
+-- 0.0 below the original size, then the fixed values at their indices, then the reduced solution at the mapped indices; the tail stays
+unfoldable pub liftedOf : ℕ → List ℕ → List ℕ → List Float → List Float → List Float → List Float
+liftedOf size map fixed values solution lifted =
+    putEach (elem map) (elemF solution) (length map) (putEach (elem fixed) (elemF values) (length fixed) (fill (λ _. zero64) size lifted))
+
+-- 31: a value for each fixed index, a number for each mapped one, and as many places as the original size, which may itself be refused
+unfoldable pub liftShort : ℕ → ℕ → List ℕ → List ℕ → ℕ → ℕ → ℕ → Bool
+liftShort most size map fixed values solution lifted =
+    anyOf (short false (length fixed) values ∷ short false (length map) solution ∷ short (ltb most size) size lifted ∷ [])
+
+-- the number, from the lengths of the slices of doubles
+unfoldable pub liftNumber : ℕ → ℕ → List ℕ → List ℕ → ℕ → ℕ → ℕ → ℕ
+liftNumber most size map fixed values solution lifted =
+    first (31 if liftShort most size map fixed values solution lifted ∷ 20 if indexRefused most size map fixed ∷ [])
+
+-- the call, from its arguments to its number and the lent slice at exit
+pub record Lifts (size : ℕ) (map fixed : List ℕ) (values solution lifted : List Float) (number : ℕ) (lifted′ : List Float) : Type 0 where
+  pub numbered : number ≡ liftNumber mostSize size map fixed (length values) (length solution) (length lifted)
+  pub refused : (number ≡ 0 → ⊥) → lifted′ ≡ lifted
+  pub accepted : number ≡ 0 → lifted′ ≡ liftedOf size map fixed values solution lifted

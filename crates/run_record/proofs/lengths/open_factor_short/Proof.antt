@@ -1,0 +1,55 @@
+use borrow.Author.Needs.{needs}
+use Rattle.run_record.proofs.lengths.open_factor_short.Statement.{statement}
+use Rattle.run_record.proofs.lengths.open_factor_short.Tie as tie
+use mathlib.Core.Path.{_≡_, sym, _∙_}
+use Prim.Native.Nat.{_≤_, _+_}
+use native.Mathlib.Omega.{arith}
+use native.Mathlib.Nat.{mul-le-mul}
+use borrow.Author.Tests.{lt-ltb, le-ltb}
+use Rattle.laws.proofs.Any.{any-here, any-skip, any-none}
+use Rattle.run_record.proofs.Short.{untested, tests}
+use Rattle.run_record.specs.Numbers.{openFactorShort}
+use Rattle.run_record.proofs.Ranked.{resolved-small}
+
+returns : tie.Need-returns
+unfolding openFactorShort
+returns c = untested _ _ _ (any-here _ _ (lt-ltb _ _ (c .if1 .taken)))
+
+open-rank-refused-requires : tie.Need-open-rank-refused-requires
+open-rank-refused-requires c κs = search needs
+
+returns-2 : tie.Need-returns-2
+unfolding openFactorShort
+returns-2 c = untested _ _ _ (any-skip _ _ (le-ltb _ _ (c .before .before .if1 .left)) ∙ any-here _ _ (sym (c .before .open-rank-refused .ensures) ∙ c .if2 .taken))
+
+add-resolved-rank : tie.Need-add-resolved-rank
+add-resolved-rank c = search needs
+
+resolved-rank-requires : tie.Need-resolved-rank-requires
+resolved-rank-requires c κs = search needs
+
+add-result : tie.Need-add-result
+add-result c = search needs
+
+mul-result : tie.Need-mul-result
+mul-result c = 
+    let m : c .before .before .before .before .args .n + 1 ≤ 128 = omega arith in
+    let r : c .resolved-rank .result ≤ 32 = rw (c .resolved-rank .ensures) (resolved-small _ (c .before .before .before .before .args .start) _ m (sym (c .before .before .open-rank-refused .ensures) ∙ c .before .if2 .left)) in
+    omega (arith, mul-le-mul m r)
+
+returns-3 : tie.Need-returns-3
+unfolding openFactorShort
+returns-3 c = rw (c .resolved-rank .ensures) (tests _ _ _ (any-skip _ _ (le-ltb _ _ (c .before .before .before .if1 .left)) ∙ any-skip _ _ (sym (c .before .before .open-rank-refused .ensures) ∙ c .before .if2 .left) ∙ any-none))
+
+pub open-factor-short-spec : {M : Type 1} → statement M
+open-factor-short-spec =
+    tie.close
+    (tie.spec
+    returns
+    open-rank-refused-requires
+    returns-2
+    add-resolved-rank
+    resolved-rank-requires
+    add-result
+    mul-result
+    returns-3)

@@ -1,0 +1,4 @@
+pub mod Limits
+pub mod CostTable
+pub mod Numbers
+pub mod Lengths

@@ -1,0 +1,160 @@
+-- The refusal numbers of open, sweep and finish: for each call the first of its numbers, in 01's order, whose condition holds. Assumes nothing.
+use Prim.Native.Nat.{ℕ, _+_, _*_}
+use mathlib.Core.Bool.{Bool, true, false, not, _&&_, _||_, cond}
+use mathlib.Core.List.{List, [], _∷_}
+use lib.ListN.{length}
+use lib.Dec.{ltb, eqb}
+use lib.Ieee.{Float, le, lt}
+use Rattle.step_rules.specs.declared.StepRule.{StepRule}
+use Rattle.step_rules.specs.declared.StepRule.the-variants.{Grad, GradAdv, Coord, CoordNoStep, CoordMomentum}
+use Rattle.run_record.specs.declared.Stage.{Stage}
+use Rattle.run_record.specs.declared.Stage.the-variants.{Open, Stopped}
+use Rattle.run_record.specs.declared.Run.{Run}
+use Rattle.laws.specs.Refusal.{first, _if_, anyOf, short}
+use Rattle.ieee.specs.Floats.{zero64, one64}
+use Rattle.tables.specs.Limits.{mostWagons, mostEntries, mostMagnitude}
+use Rattle.tables.specs.Check.{hallNumber, shortTable}
+use Rattle.tables.specs.Rank.{defaultRank}
+use Rattle.run_record.specs.Limits.{mostRank, mostWidth, mostDraws, finishWorkspace}
+use Rattle.run_record.specs.CostTable.{CostTable, quadratic, linear}
+
+abbrev pub isStopped : Stage → Bool
+isStopped Open = false
+isStopped Stopped = true
+
+-- 31: the table's slices; entries rest on the count, c on n
+unfoldable pub tableShort : CostTable → Bool
+tableShort t =
+    anyOf
+    (shortTable mostEntries (t .count) (length (t .rows)) (length (t .cols)) (length (t .values))
+    ∷ short (ltb mostWagons (t .n)) (t .n) (length (t .c))
+    ∷ [])
+
+-- the factor's length rests on n, and on the record's size and rank
+unfoldable pub factorRefused : ℕ → ℕ → ℕ → Bool
+factorRefused n size rank = anyOf (ltb mostWagons n ∷ not (eqb size (n + 1)) ∷ eqb rank 0 ∷ ltb mostRank rank ∷ [])
+
+unfoldable pub factorShort : ℕ → ℕ → ℕ → ℕ → Bool
+factorShort n size rank lent = short (factorRefused n size rank) (size * rank) lent
+
+-- 33: run record and table disagree in size, and what else a record can't be
+unfoldable pub recordRefused : Run → ℕ → Bool
+recordRefused run n =
+    anyOf
+    (not (eqb (run .size) (n + 1))
+    ∷ eqb (run .rank) 0
+    ∷ ltb mostRank (run .rank)
+    ∷ ltb (run .most) (run .sweeps)
+    ∷ (not (isStopped (run .stage)) && eqb (run .sweeps) (run .most))
+    ∷ ltb 2 (run .status)
+    ∷ (not (isStopped (run .stage)) && not (eqb (run .status) 0))
+    ∷ [])
+
+-- 13 to 16, of the table given
+abbrev pub tableNumber : CostTable → ℕ
+tableNumber t = hallNumber mostWagons mostEntries mostMagnitude (t .n) (quadratic t) (linear t)
+
+-- 18: momentum is finite, 0 ≤ beta < 1; a NaN is in no order
+abbrev pub badBeta : Float → Bool
+badBeta beta = not (le zero64 beta && lt beta one64)
+
+abbrev pub badMomentum : StepRule → Bool
+badMomentum (Grad step) = false
+badMomentum (GradAdv step) = false
+badMomentum (Coord step) = false
+badMomentum CoordNoStep = false
+badMomentum (CoordMomentum beta) = badBeta beta
+
+-- the sweep call, lent so many numbers of factor; it is lent no workspace
+unfoldable pub sweepShort : Run → CostTable → ℕ → Bool
+sweepShort run t factor = anyOf (tableShort t ∷ factorShort (t .n) (run .size) (run .rank) factor ∷ [])
+
+unfoldable pub sweepNumber : Run → CostTable → ℕ → ℕ
+sweepNumber run t factor =
+    first
+    (31 if sweepShort run t factor
+    ∷ 32 if isStopped (run .stage)
+    ∷ 33 if recordRefused run (t .n)
+    ∷ tableNumber t
+    ∷ 18 if badMomentum (run .rule)
+    ∷ [])
+
+-- the finish call: draws rest on their count and on the record's rank, b and the multipliers on n
+unfoldable pub drawsRefused : ℕ → Bool
+drawsRefused draws = eqb draws 0 || ltb mostDraws draws
+
+unfoldable pub drawsShort : ℕ → ℕ → ℕ → Bool
+drawsShort rank drawCount draws = short (anyOf (drawsRefused drawCount ∷ eqb rank 0 ∷ ltb mostRank rank ∷ [])) (drawCount * rank) draws
+
+unfoldable pub choiceShort : ℕ → ℕ → ℕ → Bool
+choiceShort n b dual = anyOf (short (ltb mostWagons n) n b ∷ short (ltb mostWagons n) (n + 1) dual ∷ [])
+
+-- how long the slices are that a finish is lent
+pub record FinishLengths : Type 0 where
+  pub draws : ℕ
+  pub factor : ℕ
+  pub b : ℕ
+  pub dual : ℕ
+  pub workspace : ℕ
+
+unfoldable pub finishShort : Run → CostTable → ℕ → FinishLengths → Bool
+finishShort run t drawCount lent =
+    anyOf
+    (tableShort t
+    ∷ drawsShort (run .rank) drawCount (lent .draws)
+    ∷ factorShort (t .n) (run .size) (run .rank) (lent .factor)
+    ∷ choiceShort (t .n) (lent .b) (lent .dual)
+    ∷ ltb (lent .workspace) finishWorkspace
+    ∷ [])
+
+-- 19: the width or the draws
+unfoldable pub widthRefused : ℕ → ℕ → Bool
+widthRefused width drawCount = ltb mostWidth width || drawsRefused drawCount
+
+unfoldable pub finishNumber : Run → CostTable → ℕ → ℕ → FinishLengths → ℕ
+finishNumber run t width drawCount lent =
+    first
+    (31 if finishShort run t drawCount lent
+    ∷ 32 if not (isStopped (run .stage))
+    ∷ 33 if recordRefused run (t .n)
+    ∷ tableNumber t
+    ∷ 18 if badMomentum (run .rule)
+    ∷ 19 if widthRefused width drawCount
+    ∷ [])
+
+-- the open call: the factor rests on n and rank; the start's numbers on these and on the start's kind
+abbrev pub resolvedRank : ℕ → ℕ → ℕ
+resolvedRank rank m = cond (eqb rank 0) (defaultRank m) rank
+
+unfoldable pub openRankRefused : ℕ → ℕ → Bool
+openRankRefused rank start = ltb mostRank rank || (eqb rank 0 && eqb start 1)
+
+-- kinds 0 and 1: m·rank; kind 2: m signs, then m·rank draws if most > 0 and rank > 1
+unfoldable pub startLength : ℕ → ℕ → ℕ → ℕ → ℕ
+startLength start m rank most =
+    cond (eqb start 2) (m + cond (ltb 0 most && ltb 1 rank) (m * rank) 0) (m * rank)
+
+unfoldable pub startShort : ℕ → ℕ → ℕ → ℕ → ℕ → Bool
+startShort n rank most start numbers =
+    short (anyOf (ltb mostWagons n ∷ openRankRefused rank start ∷ ltb 2 start ∷ [])) (startLength start (n + 1) (resolvedRank rank (n + 1)) most) numbers
+
+unfoldable pub openFactorShort : ℕ → ℕ → ℕ → ℕ → Bool
+openFactorShort n rank start factor = short (anyOf (ltb mostWagons n ∷ openRankRefused rank start ∷ [])) ((n + 1) * resolvedRank rank (n + 1)) factor
+
+unfoldable pub openShort : CostTable → ℕ → ℕ → ℕ → ℕ → ℕ → Bool
+openShort t rank most start numbers factor =
+    anyOf (tableShort t ∷ startShort (t .n) rank most start numbers ∷ openFactorShort (t .n) rank start factor ∷ [])
+
+-- 18 of a rule's code with its number
+unfoldable pub ruleRefused : ℕ → Float → Bool
+ruleRefused rule number = ltb 4 rule || (eqb rule 4 && badBeta number)
+
+unfoldable pub openNumber : CostTable → ℕ → ℕ → Float → ℕ → ℕ → ℕ → ℕ → ℕ
+openNumber t rank rule number most start numbers factor =
+    first
+    (31 if openShort t rank most start numbers factor
+    ∷ tableNumber t
+    ∷ 17 if openRankRefused rank start
+    ∷ 18 if ruleRefused rule number
+    ∷ 19 if ltb 2 start
+    ∷ [])

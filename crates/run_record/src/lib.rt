@@ -1,0 +1,54 @@
+// The run record, and the numbers that open, sweep and finish answer, judged before anything is written (01, "Run",
+// "Numbers from the state").
+pub mod lengths;
+pub mod numbers;
+
+ghost use mathlib.Core.Path.{_≡_};
+ghost use mathlib.Core.Bool.{not, _&&_};
+ghost use Rattle.run_record.specs.Numbers.{isStopped};
+use step_rules::StepRule;
+
+// 01's limits of a run and of a finish.
+pub const MOST_RANK: usize = 32;
+
+pub const MOST_WIDTH: usize = 128;
+
+pub const MOST_DRAWS: usize = 1000;
+
+// The bytes of workspace that a finish asks.
+pub const FINISH_WORKSPACE: usize = 32768;
+
+pub enum Stage {
+    Open,
+    Stopped,
+}
+
+// The run record of 01: most and minimum are the sweep limits; status is 0 until a check stops the run with 1 or 2.
+pub struct Run {
+    pub size: usize,
+    pub rank: usize,
+    pub rule: StepRule,
+    pub sweeps: u32,
+    pub last_objective: f64,
+    pub objective_tolerance: f64,
+    pub stationarity_tolerance: f64,
+    pub most: u32,
+    pub minimum: u32,
+    pub stage: Stage,
+    pub status: u8,
+}
+
+pub fn is_stopped(stage: Stage) -> bool
+    ensures { λ r. ⌜ r ≡ isStopped stage ⌝ }
+{
+    match stage {
+        Stage::Open => false,
+        Stage::Stopped => true,
+    }
+}
+
+fn open_and(stage: Stage, test: bool) -> bool
+    ensures { λ r. ⌜ r ≡ (not (isStopped stage) && test) ⌝ }
+{
+    if is_stopped(stage) { false } else { test }
+}

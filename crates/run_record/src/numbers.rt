@@ -1,0 +1,210 @@
+// The number that each call answers: the first in 01's order whose condition holds, 0 where none does.
+ghost use mathlib.Core.Path.{_≡_};
+ghost use mathlib.Core.Bool.{false};
+ghost use Rattle.run_record.specs.CostTable.{costTable};
+ghost use Rattle.run_record.specs.Lengths.{lengthsOf};
+ghost use Rattle.run_record.specs.Numbers.{tableShort, recordRefused, tableNumber, badBeta, badMomentum, sweepNumber, drawsRefused, widthRefused, finishNumber, ruleRefused, openNumber};
+use super::is_stopped;
+use super::lengths::finish_short;
+use super::lengths::open_rank_refused;
+use super::lengths::open_short;
+use super::lengths::sweep_short;
+use super::lengths::FinishSlices;
+use super::open_and;
+use super::Run;
+use super::MOST_DRAWS;
+use super::MOST_RANK;
+use super::MOST_WIDTH;
+use step_rules::StepRule;
+use tables::limits;
+
+fn record_refused(run: Run, n: usize) -> bool
+    ensures { λ r. ⌜ r ≡ recordRefused run n ⌝ }
+{
+    let size = run.size;
+    if size == 0 {
+        return true;
+    }
+    if size - 1 != n {
+        return true;
+    }
+    if run.rank == 0 {
+        return true;
+    }
+    if MOST_RANK < run.rank {
+        return true;
+    }
+    if run.most < run.sweeps {
+        return true;
+    }
+    let stage = run.stage;
+    if open_and(stage, run.sweeps == run.most) {
+        return true;
+    }
+    if 2 < run.status {
+        return true;
+    }
+    open_and(stage, run.status != 0)
+}
+
+// 13 to 16, of a table whose slices are long enough.
+fn table_number(n: usize, count: usize, rows: &[u16], cols: &[u16], values: &[i64], c: &[i64]) -> u8
+    requires { ⌜ tableShort (costTable n count (now rows) (now cols) (now values) (now c)) ≡ false ⌝ }
+    ensures { λ r. ⌜ r ≡ tableNumber (costTable n count (now (rows .entry)) (now (cols .entry)) (now (values .entry)) (now (c .entry))) ⌝ }
+{
+    tables::check::hall_number(limits::MOST_WAGONS, limits::MOST_ENTRIES, limits::MOST_MAGNITUDE, n, count, rows, cols, values, c)
+}
+
+fn bad_beta(beta: f64) -> bool
+    ensures { λ r. ⌜ r ≡ badBeta beta ⌝ }
+{
+    if 0.0 <= beta { !(beta < 1.0) } else { true }
+}
+
+fn bad_momentum(rule: StepRule) -> bool
+    ensures { λ r. ⌜ r ≡ badMomentum rule ⌝ }
+{
+    match rule {
+        StepRule::Grad(_) => false,
+        StepRule::GradAdv(_) => false,
+        StepRule::Coord(_) => false,
+        StepRule::CoordNoStep => false,
+        StepRule::CoordMomentum(beta) => bad_beta(beta),
+    }
+}
+
+pub fn sweep_number(
+    run: Run,
+    n: usize,
+    count: usize,
+    rows: &[u16],
+    cols: &[u16],
+    values: &[i64],
+    c: &[i64],
+    factor: usize,
+) -> u8
+    ensures { λ r. ⌜ r ≡ sweepNumber run (costTable n count (now (rows .entry)) (now (cols .entry)) (now (values .entry)) (now (c .entry))) factor ⌝ }
+{
+    if sweep_short(run, n, count, rows, cols, values, c, factor) {
+        return 31;
+    }
+    let stage = run.stage;
+    if is_stopped(stage) {
+        return 32;
+    }
+    if record_refused(run, n) {
+        return 33;
+    }
+    let table = table_number(n, count, rows, cols, values, c);
+    if table != 0 {
+        return table;
+    }
+    let rule = run.rule;
+    if bad_momentum(rule) {
+        return 18;
+    }
+    0
+}
+
+fn draws_refused(draw_count: usize) -> bool
+    ensures { λ r. ⌜ r ≡ drawsRefused «draw_count» ⌝ }
+{
+    if draw_count == 0 {
+        return true;
+    }
+    MOST_DRAWS < draw_count
+}
+
+fn width_refused(width: usize, draw_count: usize) -> bool
+    ensures { λ r. ⌜ r ≡ widthRefused width «draw_count» ⌝ }
+{
+    if MOST_WIDTH < width {
+        return true;
+    }
+    draws_refused(draw_count)
+}
+
+// The number that a finish answers.
+pub fn finish_number(
+    run: Run,
+    n: usize,
+    count: usize,
+    rows: &[u16],
+    cols: &[u16],
+    values: &[i64],
+    c: &[i64],
+    width: usize,
+    draw_count: usize,
+    lent: FinishSlices,
+) -> u8
+    ensures { λ r. ⌜ r ≡ finishNumber run (costTable n count (now (rows .entry)) (now (cols .entry)) (now (values .entry)) (now (c .entry))) width «draw_count» (lengthsOf lent) ⌝ }
+{
+    if finish_short(run, n, count, rows, cols, values, c, draw_count, lent) {
+        return 31;
+    }
+    let stage = run.stage;
+    if !is_stopped(stage) {
+        return 32;
+    }
+    if record_refused(run, n) {
+        return 33;
+    }
+    let table = table_number(n, count, rows, cols, values, c);
+    if table != 0 {
+        return table;
+    }
+    let rule = run.rule;
+    if bad_momentum(rule) {
+        return 18;
+    }
+    if width_refused(width, draw_count) {
+        return 19;
+    }
+    0
+}
+
+fn rule_refused(rule: u8, number: f64) -> bool
+    ensures { λ r. ⌜ r ≡ ruleRefused rule number ⌝ }
+{
+    if 4 < rule {
+        return true;
+    }
+    if rule == 4 { bad_beta(number) } else { false }
+}
+
+// The number that an open answers.
+pub fn open_number(
+    n: usize,
+    count: usize,
+    rows: &[u16],
+    cols: &[u16],
+    values: &[i64],
+    c: &[i64],
+    rank: usize,
+    rule: u8,
+    number: f64,
+    most: u32,
+    start: u8,
+    numbers: usize,
+    factor: usize,
+) -> u8
+    ensures { λ r. ⌜ r ≡ openNumber (costTable n count (now (rows .entry)) (now (cols .entry)) (now (values .entry)) (now (c .entry))) rank rule number most start numbers factor ⌝ }
+{
+    if open_short(n, count, rows, cols, values, c, rank, most, start, numbers, factor) {
+        return 31;
+    }
+    let table = table_number(n, count, rows, cols, values, c);
+    if table != 0 {
+        return table;
+    }
+    if open_rank_refused(rank, start) {
+        return 17;
+    }
+    if rule_refused(rule, number) {
+        return 18;
+    }
+    if 2 < start {
+        return 19;
+    }
+    0
+}

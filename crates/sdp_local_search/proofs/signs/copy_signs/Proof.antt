@@ -1,0 +1,77 @@
+use borrow.Author.Needs.{needs}
+use Rattle.sdp_local_search.proofs.signs.copy_signs.Statement.{statement}
+use Rattle.sdp_local_search.proofs.signs.copy_signs.Tie as tie
+use Prim.Native.Nat.{_≤_, _-_}
+use mathlib.Core.Path.{_≡_, refl, _∙_}
+use native.Mathlib.Omega.{arith}
+use lib.ListN.{length, length-set}
+use Rattle.laws.specs.Lists.{elem, over, tabulate}
+use Rattle.laws.proofs.Made.{tabulate-next, tabulate-all}
+use Rattle.sdp_local_search.specs.BeamSearch.{signByte, signBytes}
+use Prim.Native.Nat.{ℕ}
+use mathlib.Core.List.{List}
+use mathlib.Core.Path.{ap}
+use lib.ListN.{set}
+use denote.Ref.{now}
+
+abbrev Inv-loop : tie.InvT-loop
+Inv-loop start kept₀ i₀ kept i = (i ≤ length kept₀) × (kept ≡ over (tabulate (λ j. signByte (elem start j)) i) kept₀) × (length kept ≡ length kept₀)
+
+abbrev μ-loop : tie.MeasureT-loop
+μ-loop start kept₀ i₀ kept i = length kept₀ - i
+
+loop-holds : tie.Need-loop-holds Inv-loop μ-loop
+unfolding tabulate
+loop-holds c = (omega arith, refl, refl)
+
+shared-slice-read-sign-byte : tie.Need-shared-slice-read-sign-byte Inv-loop μ-loop
+shared-slice-read-sign-byte c = omega arith
+
+sign-byte-requires : tie.Need-sign-byte-requires Inv-loop μ-loop
+sign-byte-requires c κs = search needs
+
+slice-write-kept : tie.Need-slice-write-kept Inv-loop μ-loop
+slice-write-kept c = omega arith
+
+add-i : tie.Need-add-i Inv-loop μ-loop
+add-i c = omega arith
+
+loop-less : tie.Need-loop-less Inv-loop μ-loop
+loop-less c = omega arith
+
+loop-again : tie.Need-loop-again Inv-loop μ-loop
+loop-again c = 
+    let a = c .before .before .before .before .before .before .args in
+    let l = c .before .before .before .loop in
+    let h : l .i ≤ length (l .kept) = omega arith in (
+      omega arith,
+      ap (λ (v : ℕ). set (l .kept) (l .i) v) (c .sign-byte .ensures) ∙ tabulate-next (λ j. signByte (elem (now (a .start)) j)) (l .i) (now (a .kept)) (l .kept) 0 (omega arith) (l .inv .1),
+      simp length-set (l .inv .2),
+    )
+
+same-length : tie.Need-same-length Inv-loop μ-loop
+same-length c = c .before .loop .inv .2
+
+returns : tie.Need-returns Inv-loop μ-loop
+unfolding signBytes
+returns c = 
+    let a = c .before .before .before .before .args in
+    let l = c .before .loop in
+    let all : l .i ≡ length (now (a .kept)) = omega arith in
+    l .inv .1 ∙ ap (λ (n : ℕ). over (tabulate (λ j. signByte (elem (now (a .start)) j)) n) (now (a .kept))) all ∙ tabulate-all (λ j. signByte (elem (now (a .start)) j)) (length (now (a .kept))) (now (a .kept)) refl
+
+pub copy-signs-spec : {M : Type 1} → statement M
+copy-signs-spec =
+    tie.close
+    (tie.spec
+    Inv-loop
+    μ-loop
+    loop-holds
+    shared-slice-read-sign-byte
+    sign-byte-requires
+    slice-write-kept
+    add-i
+    loop-less
+    loop-again
+    same-length
+    returns)

@@ -1,0 +1,3 @@
+pub mod BeamSearch
+pub mod Accepted
+pub mod Call
