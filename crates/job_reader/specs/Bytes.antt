@@ -4,7 +4,10 @@ use mathlib.Core.Bool.{cond}
 use mathlib.Core.List.{List}
 use lib.ListN.{length, getD}
 use lib.Dec.{leb}
+use lib.IntN.{ℤ}
+use lib.Ieee.{Float}
 use denote.Ref.{now}
+use Rattle.ieee.specs.Floats.{signedOf, doubleOf}
 use Rattle.job_reader.specs.declared.JobReader.{JobReader}
 use Rattle.job_reader.specs.declared.Field.{Field}
 use Rattle.job_reader.specs.declared.Field.the-variants.{Value, Short}
@@ -13,6 +16,13 @@ use Rattle.job_reader.specs.declared.Field.the-variants.{Value, Short}
 unfoldable pub bigEndian : List ℕ → ℕ → ℕ → ℕ
 bigEndian s at zero = 0
 bigEndian s at (suc n) = bigEndian s at n * 256 + getD s (at + n) 0
+
+-- a signed number of 8 bytes, and a double of 8 bytes
+abbrev pub signedAt : List ℕ → ℕ → ℤ
+signedAt s at = signedOf (bigEndian s at 8)
+
+abbrev pub doubleAt : List ℕ → ℕ → Float
+doubleAt s at = doubleOf (bigEndian s at 8)
 
 -- the field of so many bytes at `at`
 abbrev pub fieldAt : List ℕ → ℕ → ℕ → Field

@@ -2,9 +2,11 @@
 // and call `field_at`, which works on a slice and a number. `read_field` makes a reader and reads with it; its parameters
 // are plain, so that whoever calls it needs no proof by hand.
 ghost use mathlib.Core.Path.{_≡_};
-ghost use Prim.Native.Nat.{_+_, _≤_};
+ghost use Prim.Native.Nat.{_+_, _≤_, _<_, _^_};
 ghost use lib.ListN.{length};
 ghost use Rattle.job_reader.specs.Bytes.{bigEndian, fieldAt, placeAfter, movedOn};
+
+pub mod fields;
 
 pub struct JobReader<'a> {
     pub bytes: &'a [u8],
@@ -27,7 +29,7 @@ fn wide(b: u8) -> u64
 // The big-endian number of the `width` bytes from `at`.
 pub fn big_endian(bytes: &[u8], at: usize, width: usize) -> u64
     requires { ⌜ (width ≤ 8) × (at + width ≤ length (now bytes)) ⌝ }
-    ensures { λ r. ⌜ r ≡ bigEndian (now (bytes .entry)) at width ⌝ }
+    ensures { λ r. ⌜ (r ≡ bigEndian (now (bytes .entry)) at width) × (r < 256 ^ width) ⌝ }
 {
     let mut value: u64 = 0;
     let mut i = 0;
