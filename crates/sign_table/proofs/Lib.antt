@@ -5,6 +5,7 @@ pub mod Writing
 pub mod Bounds
 pub mod Built
 pub mod Kept
+pub mod Sizes
 pub mod Theorems
 pub mod Slices
-pub mod Halls
+pub mod Examples

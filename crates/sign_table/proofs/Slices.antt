@@ -16,7 +16,7 @@ use Rattle.tables.specs.Cost.{costEighths, decoded, choiceAt}
 use Rattle.tables.specs.Check.{Hall, Accepted}
 use Rattle.sign_table.specs.SignTable.{rowsOf, colsOf, valuesOf, listed, signOf, signPlaces, signTable}
 use Rattle.sign_table.specs.Walk.{Wrote, Room}
-use Rattle.sign_table.proofs.Theorems.{house-sign-table, objective-cost, floor-le-choice}
+use Rattle.sign_table.proofs.Theorems.{sign-table-accepted, objective-cost, floor-le-choice}
 
 -- two tables of m entries that agree on them
 pub record Same (m : ℕ) (r r′ k k′ : ℕ → ℕ) (v v′ : ℕ → ℤ) : Type 0 where
@@ -61,11 +61,11 @@ written-same {q} {ps} {rows} {cols} {values} w room =
       values = λ k h. rw (w .values-are) (read (valuesOf q ps) values (pos 0) k (omega (arith, length-map ps (λ p. q (p .0) (p .1)), room .values-room)) (omega (arith, length-map ps (λ p. q (p .0) (p .1)))));
     }
 
-module _ {n : ℕ} {h : Table} {c : ℕ → ℤ} (ok : Hall 127 4096 (2 ^ 40) n h c) {rows cols : List ℕ} {values : List ℤ} {rows′ cols′ : List ℕ} {values′ : List ℤ}
+module _ {most capacity limit n : ℕ} {h : Table} {c : ℕ → ℤ} (ok : Hall most capacity limit n h c) {rows cols : List ℕ} {values : List ℤ} {rows′ cols′ : List ℕ} {values′ : List ℤ}
     (w : Wrote (signOf n h c) (signPlaces n h c) 0 rows cols values rows′ cols′ values′) (room : Room 0 (length (signPlaces n h c)) rows cols values) where
-  -- the table that was built passes every check of a sign table: rising, mirrored, at most 4,478 entries, at most 2^42
-  pub built-accepted : Accepted 128 4478 (2 ^ 42) (suc n) (tableOf (length (signPlaces n h c)) rows′ cols′ values′)
-  built-accepted = same-accepted (written-same w room) (house-sign-table ok)
+  -- the table that was built passes every check of a sign table
+  pub built-accepted : Accepted (most + 1) (capacity + 3 * most + 1) (4 * limit) (suc n) (tableOf (length (signPlaces n h c)) rows′ cols′ values′)
+  built-accepted = same-accepted (written-same w room) (sign-table-accepted ok)
 
   -- its objective at signs is eight times the cost of what they decode to
   pub built-objective : (signs : List ℕ) → objectiveOf (tableOf (length (signPlaces n h c)) rows′ cols′ values′) (signAt signs) ≡ costEighths n (valueAt h) c (decoded n signs)

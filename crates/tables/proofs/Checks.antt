@@ -1,25 +1,27 @@
 -- What the checks show: the mirror search, and that nothing is refused exactly where the table is as it should be.
 use Prim.Native.Nat.{ℕ, zero, suc, _+_, _-_, _*_, _^_, _<_, _≤_, min}
 use mathlib.Core.Path.{_≡_, refl, sym, ap, _∙_}
-use mathlib.Core.Bool.{Bool, true, false, cond, not, _||_, _&&_}
+use mathlib.Core.Bool.{Bool, true, false, cond, not, _&&_}
+use mathlib.Core.List.{List, [], _∷_}
 use mathlib.Core.Logic.{_⊎_, inl, inr}
 use native.Mathlib.Omega.{arith}
 use native.Mathlib.Numerals.{add-one}
 use native.Mathlib.Nat.{eq-or-lt-of-le, le-of-suc-le-suc}
 use native.Mathlib.Decide.{ℕ-discrete, decLt}
 use borrow.Author.Tests.{eq-eqb, ne-eqb, eqb-true, eqb-false, ltb-true, ltb-false, leb-false, lt-ltb, le-ltb, lt-leb, not-false}
-use lib.Dec.{eqb, ltb}
+use lib.ListN.{length}
+use lib.Dec.{eqb, leb, ltb}
 use lib.IntN.{ℤ, pos, negsuc, natAbs}
 use lib.Signed.{mag}
 use mir.Syntax.{w64}
 use mir.Val.{ofZ}
 use Rattle.laws.specs.Sum.{total}
 use Rattle.laws.specs.Lists.{anyBelow}
-use Rattle.laws.specs.Refusal.{_if_, orElse, firstOf}
-use Rattle.laws.proofs.Refusal.{both, neither, clear, unrefused, each, none-of}
-use Rattle.laws.proofs.Any.{below-none, below-only, below-true, below-at}
-use Rattle.tables.specs.Table.{Table, InRange, Before, Rising, Mirrored, magnitudeOf}
-use Rattle.tables.specs.Check.{sizeRefusal, before, entryRefusal, orderRefusal, placeOf, Placed, eqZ, isMirror, mirrorRefusal, magnitudeRefusal, costsMagnitude, hallRefusal, tableRefusal, Hall, Accepted}
+use Rattle.laws.specs.Refusal.{_if_, first, anyOf, short}
+use Rattle.laws.proofs.Refusal.{clear, first-head, first-rest, first-skip, first-end}
+use Rattle.laws.proofs.Any.{any-head, any-rest, any-not, any-none, below-none, below-only, below-true, below-false, below-at}
+use Rattle.tables.specs.Table.{Table, Lent, tableOf, InRange, Before, Rising, Mirrored, magnitudeOf}
+use Rattle.tables.specs.Check.{badSize, before, badEntry, badOrder, placeOf, Placed, eqZ, isMirror, unmirrored, hallMagnitude, hallNumber, tableNumber, shortTable, Hall, Accepted}
 use Rattle.tables.proofs.Mirrors.{rises}
 
 unequal : false ≡ true → ⊥
@@ -114,6 +116,20 @@ pub capped-more : (f : ℕ → ℕ) (i cap : ℕ) {sum x : ℕ} → sum ≡ min 
 unfolding total
 capped-more f i cap {sum} {x} s v = rw add-one (omega arith)
 
+-- a capped sum is above the limit exactly where the sum is
+same-test : (limit a b : ℕ) → (limit < b → limit < a) → (b ≤ limit → a ≤ limit) → ltb limit a ≡ ltb limit b
+same-test limit a b up down = go (decLt limit b)
+  where
+    go : Dec (limit < b) → ltb limit a ≡ ltb limit b
+    go (yes h) = lt-ltb limit a (up h) ∙ sym (lt-ltb limit b h)
+    go (no h) = let le : b ≤ limit = omega arith in le-ltb limit a (down le) ∙ sym (le-ltb limit b le)
+
+pub capped-test : (limit x : ℕ) {a : ℕ} → a ≡ min x (limit + 1) → ltb limit a ≡ ltb limit x
+capped-test limit x {a} e = same-test limit a x (λ h. omega arith) (λ h. omega arith)
+
+pub capped-tests : (limit x y : ℕ) {a b : ℕ} → a ≡ min x (limit + 1) → b ≡ min y (limit + 1) → ltb limit (a + 2 * b) ≡ ltb limit (x + 2 * y)
+capped-tests limit x y {a} {b} e f = same-test limit (a + 2 * b) (x + 2 * y) (λ h. omega arith) (λ h. omega arith)
+
 -- ---- 14: in range and in order
 
 before-true : (i j k l : ℕ) → before i j k l ≡ true → Before i j k l
@@ -131,36 +147,45 @@ unfolding before
 before-is i j k l (inl h) = rw (lt-ltb i k h)
 before-is i j k l (inr (e, h)) = rw (le-ltb i k (omega arith), eq-eqb i k e) (lt-ltb j l h)
 
--- entry k, in range, beside the entry before
-pub entry-order : (m : ℕ) (row column : ℕ → ℕ) (k : ℕ) {r : ℕ} → row k < m → column k < m → 0 < k → r ≡ 14 if (not (before (row (k - 1)) (column (k - 1)) (row k) (column k)))
-    → r ≡ entryRefusal m row column k
-unfolding orElse
-entry-order m row column k r q h e = rw (lt-leb m (row k) r, lt-leb m (column k) q, lt-ltb 0 k h) e
+-- the test against the entry before, which the first entry has none of
+pub entry-after : (k : ℕ) (b : Bool) → 0 < k → (ltb 0 k && b) ≡ b
+entry-after k b h = rw (lt-ltb 0 k h)
+
+pub entry-first : (k : ℕ) (b : Bool) → k ≤ 0 → (ltb 0 k && b) ≡ false
+entry-first k b h = rw (le-ltb 0 k h)
+
+-- a loop over the entries that has found nothing
+pub below-next : (p : ℕ → Bool) (k : ℕ) → anyBelow k p ≡ false → p k ≡ false → anyBelow (k + 1) p ≡ false
+unfolding anyBelow
+below-next p k e f = rw (add-one, f) e
+
+pub below-end : (p : ℕ → Bool) (k n : ℕ) → anyBelow k p ≡ false → k ≤ n → n ≤ k → false ≡ anyBelow n p
+below-end p k n e up down = let same : n ≡ k = omega arith in rw same (sym e)
 
 module _ (m : ℕ) (t : Table) where
-  entry-parts : orderRefusal m (t .row) (t .column) (t .count) ≡ 0 → (k : ℕ) → k < t .count
+  -- what is known of entry k
+  entry-parts : badOrder m (t .row) (t .column) (t .count) ≡ false → (k : ℕ) → k < t .count
       → (t .row k < m) × (t .column k < m) × ((ltb 0 k && not (before (t .row (k - 1)) (t .column (k - 1)) (t .row k) (t .column k))) ≡ false)
-  unfolding orderRefusal
+  unfolding badOrder badEntry
   entry-parts ok k l =
-      let (low, more) = both _ _ (each (entryRefusal m (t .row) (t .column)) (t .count) ok k l) in
-      let (high, order) = both _ _ more in
-      (leb-false _ _ (clear _ _ low), leb-false _ _ (clear _ _ high), clear _ _ order)
+      let here = below-false _ (t .count) ok k l in
+      let later = any-rest _ _ here in
+      (leb-false _ _ (any-head _ _ here), leb-false _ _ (any-head _ _ later), any-head _ _ (any-rest _ _ later))
 
-  pub order-range : orderRefusal m (t .row) (t .column) (t .count) ≡ 0 → InRange m t
+  pub order-range : badOrder m (t .row) (t .column) (t .count) ≡ false → InRange m t
   order-range ok = record { rows-in = λ k l. entry-parts ok k l .0; cols-in = λ k l. entry-parts ok k l .1 }
 
-  pub order-rising : orderRefusal m (t .row) (t .column) (t .count) ≡ 0 → Rising t
+  pub order-rising : badOrder m (t .row) (t .column) (t .count) ≡ false → Rising t
   order-rising ok = record { rise = λ k l. before-true _ _ _ _ (rest k (entry-parts ok (suc k) l .2)) }
     where
       rest : (k : ℕ) → (ltb 0 (suc k) && not (before (t .row (suc k - 1)) (t .column (suc k - 1)) (t .row (suc k)) (t .column (suc k)))) ≡ false
           → before (t .row k) (t .column k) (t .row (suc k)) (t .column (suc k)) ≡ true
       rest k e = let back : suc k - 1 ≡ k = omega arith in not-false _ (rw (lt-ltb 0 (suc k) (omega arith), back) at e)
 
-  pub order-passes : InRange m t → Rising t → orderRefusal m (t .row) (t .column) (t .count) ≡ 0
-  unfolding orderRefusal
-  order-passes r ri = none-of _ (t .count) (λ k l.
-      neither _ _ (unrefused _ _ (lt-leb _ _ (r .rows-in k l)))
-      (neither _ _ (unrefused _ _ (lt-leb _ _ (r .cols-in k l))) (unrefused _ _ (after k l))))
+  pub order-passes : InRange m t → Rising t → badOrder m (t .row) (t .column) (t .count) ≡ false
+  unfolding badOrder badEntry
+  order-passes r ri = below-none _ (t .count) (λ k l.
+      any-not _ _ (lt-leb _ _ (r .rows-in k l)) (any-not _ _ (lt-leb _ _ (r .cols-in k l)) (any-not _ _ (after k l) any-none)))
     where
       after : (k : ℕ) → k < t .count → (ltb 0 k && not (before (t .row (k - 1)) (t .column (k - 1)) (t .row k) (t .column k))) ≡ false
       after zero l = refl
@@ -185,55 +210,56 @@ and-true : (a b : Bool) → (a && b) ≡ true → (a ≡ true) × (b ≡ true)
 and-true true b e = (refl, e)
 and-true false b e = absurd (unequal e)
 
-pub mirror-mirrored : (t : Table) → mirrorRefusal t ≡ 0 → Mirrored t
-unfolding mirrorRefusal
+pub mirror-mirrored : (t : Table) → unmirrored t ≡ false → Mirrored t
+unfolding unmirrored
 mirror-mirrored t ok = record {
   image = λ k h.
-      let (l, below, is) = below-true (isMirror t k) (t .count) (not-false _ (clear _ _ (each _ (t .count) ok k h))) in
+      let (l, below, is) = below-true (isMirror t k) (t .count) (not-false _ (below-false _ (t .count) ok k h)) in
       let (place, value) = and-true _ _ is in
       let (row, column) = and-true _ _ place in
       (l, below, eqb-true _ _ row, eqb-true _ _ column, eqZ-true _ _ value);
 }
 
-pub mirror-passes : (t : Table) → Mirrored t → mirrorRefusal t ≡ 0
-unfolding mirrorRefusal
-mirror-passes t mi = none-of _ (t .count) (λ k h.
+pub mirror-passes : (t : Table) → Mirrored t → unmirrored t ≡ false
+unfolding unmirrored
+mirror-passes t mi = below-none _ (t .count) (λ k h.
     let (l, below, row, column, value) = mi .image k h in
     let there : isMirror t k l ≡ true = simp (eq-eqb _ _ row, eq-eqb _ _ column, value, eqZ-refl (t .value k)) in
-    unrefused _ _ (ap not (below-at (isMirror t k) (t .count) l below there)))
+    ap not (below-at (isMirror t k) (t .count) l below there))
 
--- ---- 13 and 16, and the whole
+-- ---- 13, and the whole
 
-or-false : (a b : Bool) → (a || b) ≡ false → (a ≡ false) × (b ≡ false)
-or-false true b e = absurd (unequal (sym e))
-or-false false b e = (refl, e)
-
-size-parts : (least most mostEntries size count : ℕ) → sizeRefusal least most mostEntries size count ≡ 0 → (least ≤ size) × (size ≤ most) × (count ≤ mostEntries)
-unfolding sizeRefusal
+pub size-parts : (least most mostEntries size count : ℕ) → badSize least most mostEntries size count ≡ false → (least ≤ size) × (size ≤ most) × (count ≤ mostEntries)
+unfolding badSize
 size-parts least most mostEntries size count e =
-    let (a, more) = or-false _ _ (clear _ _ e) in
-    let (b, d) = or-false _ _ more in
-    (ltb-false _ _ a, ltb-false _ _ b, ltb-false _ _ d)
+    let later = any-rest _ _ e in
+    (ltb-false _ _ (any-head _ _ e), ltb-false _ _ (any-head _ _ later), ltb-false _ _ (any-head _ _ (any-rest _ _ later)))
 
-size-passes : (least most mostEntries size count : ℕ) → least ≤ size → size ≤ most → count ≤ mostEntries → sizeRefusal least most mostEntries size count ≡ 0
-unfolding sizeRefusal
+pub size-passes : (least most mostEntries size count : ℕ) → least ≤ size → size ≤ most → count ≤ mostEntries → badSize least most mostEntries size count ≡ false
+unfolding badSize
 size-passes least most mostEntries size count a b d =
-    rw (le-ltb size least a, le-ltb most size b, le-ltb mostEntries count d)
+    any-not _ _ (le-ltb size least a) (any-not _ _ (le-ltb most size b) (any-not _ _ (le-ltb mostEntries count d) any-none))
 
--- what the first passes show to the later ones
-pub size-low : {least most mostEntries size count r : ℕ} → r ≡ sizeRefusal least most mostEntries size count → r ≡ 0 → (least ≤ size) × (size ≤ most) × (count ≤ mostEntries)
-size-low e z = size-parts _ _ _ _ _ (sym e ∙ z)
+pub order-placed : (m : ℕ) (t : Table) → m ≤ 65536 → badOrder m (t .row) (t .column) (t .count) ≡ false → Placed (t .row) (t .column) (t .count)
+order-placed m t small ok = placed small (order-range m t ok) (order-rising m t ok)
 
-pub order-placed : (m : ℕ) (t : Table) {r : ℕ} → m ≤ 65536 → r ≡ orderRefusal m (t .row) (t .column) (t .count) → r ≡ 0 → Placed (t .row) (t .column) (t .count)
-order-placed m t small e z = placed small (order-range m t (sym e ∙ z)) (order-rising m t (sym e ∙ z))
+-- four numbers in a row: none of them, and where none is
+four : (a b d e : Bool) → first (13 if a ∷ 14 if b ∷ 15 if d ∷ 16 if e ∷ []) ≡ 0 → (a ≡ false) × (b ≡ false) × (d ≡ false) × (e ≡ false)
+four a b d e ok =
+    let ok₁ = first-rest (13 if a) (14 if b ∷ 15 if d ∷ 16 if e ∷ []) ok in
+    let ok₂ = first-rest (14 if b) (15 if d ∷ 16 if e ∷ []) ok₁ in
+    let ok₃ = first-rest (15 if d) (16 if e ∷ []) ok₂ in
+    (clear a 12 (first-head _ _ ok), clear b 13 (first-head _ _ ok₁), clear d 14 (first-head _ _ ok₂), clear e 15 (first-head _ _ ok₃))
 
--- nothing is refused exactly where (H, c) is a hall
-pub hall-accepted : {mostWagons mostEntries limit n : ℕ} {h : Table} {c : ℕ → ℤ} → hallRefusal mostWagons mostEntries limit n h c ≡ 0 → Hall mostWagons mostEntries limit n h c
-unfolding hallRefusal
+no-four : (a b d e : Bool) → a ≡ false → b ≡ false → d ≡ false → e ≡ false → first (13 if a ∷ 14 if b ∷ 15 if d ∷ 16 if e ∷ []) ≡ 0
+no-four a b d e p q r s =
+    first-skip 13 a _ p ∙ first-skip 14 b _ q ∙ first-skip 15 d _ r ∙ first-skip 16 e _ s ∙ first-end
+
+-- no number applies exactly where (H, c) is a hall
+pub hall-accepted : {mostWagons mostEntries limit n : ℕ} {h : Table} {c : ℕ → ℤ} → hallNumber mostWagons mostEntries limit n h c ≡ 0 → Hall mostWagons mostEntries limit n h c
+unfolding hallNumber
 hall-accepted {n = n} {h = h} ok =
-    let (size, rest) = both _ _ ok in
-    let (order, more) = both _ _ rest in
-    let (mirror, magnitude) = both _ _ more in
+    let (size, order, mirror, magnitude) = four _ _ _ _ ok in
     let s = size-parts _ _ _ _ _ size in
     record {
       wagons = s .1;
@@ -241,23 +267,20 @@ hall-accepted {n = n} {h = h} ok =
       in-range = order-range n h order;
       rising = order-rising n h order;
       mirrored = mirror-mirrored h mirror;
-      magnitude = ltb-false _ _ (clear _ _ magnitude);
+      magnitude = ltb-false _ _ magnitude;
     }
 
-pub hall-passes : {mostWagons mostEntries limit n : ℕ} {h : Table} {c : ℕ → ℤ} → Hall mostWagons mostEntries limit n h c → hallRefusal mostWagons mostEntries limit n h c ≡ 0
-unfolding hallRefusal
+pub hall-passes : {mostWagons mostEntries limit n : ℕ} {h : Table} {c : ℕ → ℤ} → Hall mostWagons mostEntries limit n h c → hallNumber mostWagons mostEntries limit n h c ≡ 0
+unfolding hallNumber
 hall-passes {n = n} {h = h} ok =
-    neither _ _ (size-passes _ _ _ _ _ (omega arith) (ok .wagons) (ok .entries))
-    (neither _ _ (order-passes n h (ok .in-range) (ok .rising))
-    (neither _ _ (mirror-passes h (ok .mirrored)) (unrefused _ _ (le-ltb _ _ (ok .magnitude)))))
+    no-four _ _ _ _ (size-passes _ _ _ _ _ (omega arith) (ok .wagons) (ok .entries))
+    (order-passes n h (ok .in-range) (ok .rising)) (mirror-passes h (ok .mirrored)) (le-ltb _ _ (ok .magnitude))
 
 -- and a sign table
-pub table-accepted : {mostSigns mostEntries limit m : ℕ} {t : Table} → tableRefusal mostSigns mostEntries limit m t ≡ 0 → Accepted mostSigns mostEntries limit m t
-unfolding tableRefusal
+pub table-accepted : {mostSigns mostEntries limit m : ℕ} {t : Table} → tableNumber mostSigns mostEntries limit m t ≡ 0 → Accepted mostSigns mostEntries limit m t
+unfolding tableNumber
 table-accepted {m = m} {t = t} ok =
-    let (size, rest) = both _ _ ok in
-    let (order, more) = both _ _ rest in
-    let (mirror, magnitude) = both _ _ more in
+    let (size, order, mirror, magnitude) = four _ _ _ _ ok in
     let s = size-parts _ _ _ _ _ size in
     record {
       some = s .0;
@@ -266,12 +289,29 @@ table-accepted {m = m} {t = t} ok =
       in-range = order-range m t order;
       rising = order-rising m t order;
       mirrored = mirror-mirrored t mirror;
-      magnitude = ltb-false _ _ (clear _ _ magnitude);
+      magnitude = ltb-false _ _ magnitude;
     }
 
-pub table-passes : {mostSigns mostEntries limit m : ℕ} {t : Table} → Accepted mostSigns mostEntries limit m t → tableRefusal mostSigns mostEntries limit m t ≡ 0
-unfolding tableRefusal
+pub table-passes : {mostSigns mostEntries limit m : ℕ} {t : Table} → Accepted mostSigns mostEntries limit m t → tableNumber mostSigns mostEntries limit m t ≡ 0
+unfolding tableNumber
 table-passes {m = m} {t = t} ok =
-    neither _ _ (size-passes _ _ _ _ _ (ok .some) (ok .signs) (ok .entries))
-    (neither _ _ (order-passes m t (ok .in-range) (ok .rising))
-    (neither _ _ (mirror-passes t (ok .mirrored)) (unrefused _ _ (le-ltb _ _ (ok .magnitude)))))
+    no-four _ _ _ _ (size-passes _ _ _ _ _ (ok .some) (ok .signs) (ok .entries))
+    (order-passes m t (ok .in-range) (ok .rising)) (mirror-passes t (ok .mirrored)) (le-ltb _ _ (ok .magnitude))
+
+-- ---- 31: slices that are not short are long enough, where the count stands
+
+pub long-enough : {refused : Bool} {needed lent : ℕ} → short refused needed lent ≡ false → refused ≡ false → needed ≤ lent
+unfolding short
+long-enough {refused} {needed} {lent} ok e = ltb-false _ _ (rw e at ok)
+
+pub table-lent : {mostEntries count : ℕ} {rows cols : List ℕ} {values : List ℤ} → shortTable mostEntries count (length rows) (length cols) (length values) ≡ false
+    → count ≤ mostEntries → Lent count rows cols values
+unfolding shortTable
+table-lent {mostEntries} {count} ok h =
+    let few : ltb mostEntries count ≡ false = le-ltb mostEntries count h in
+    let later = any-rest _ _ ok in
+    record {
+      rows-there = long-enough (any-head _ _ ok) few;
+      cols-there = long-enough (any-head _ _ later) few;
+      values-there = long-enough (any-head _ _ (any-rest _ _ later)) few;
+    }

@@ -1,44 +1,40 @@
-// The numbers 13, 14 and 16 of a table, and the first of all four. Each is a pass of its own and writes nothing.
-use crate::mirror::mirror_refusal;
+// The numbers 13, 14 and 16 of a table, the first of 13 to 16, and 31 of its slices. Each is a pass of its own and writes nothing.
+use crate::mirror::unmirrored;
 ghost use mathlib.Core.Path.{_≡_};
 ghost use Prim.Native.Nat.{ℕ, _+_, _*_, _≤_, _<_, _^_, min};
-ghost use mathlib.Core.Bool.{not};
 ghost use lib.ListN.{length};
+ghost use lib.Dec.{ltb};
 ghost use lib.IntN.{natAbs};
 ghost use Rattle.laws.specs.Sum.{total};
 ghost use Rattle.laws.specs.Lists.{elem, elemZ};
-ghost use Rattle.laws.specs.Refusal.{_if_};
+ghost use Rattle.laws.specs.Refusal.{short};
 ghost use Rattle.tables.specs.Table.{tableOf, Lent, magnitudeOf};
-ghost use Rattle.tables.specs.Check.{sizeRefusal, before, entryRefusal, orderRefusal, magnitudeRefusal, costsMagnitude, hallRefusal, tableRefusal};
+ghost use Rattle.tables.specs.Check.{badSize, before, badEntry, badOrder, hallNumber, tableNumber, shortTable};
 
-pub fn size_refusal(least: usize, most: usize, capacity: usize, size: usize, count: usize) -> u8
-    ensures { λ r. ⌜ r ≡ sizeRefusal least most capacity size count ⌝ }
+// 13: a size or an entry count out of its limits.
+pub fn bad_size(least: usize, most: usize, capacity: usize, size: usize, count: usize) -> bool
+    ensures { λ r. ⌜ r ≡ badSize least most capacity size count ⌝ }
 {
     if size < least {
-        return 13;
+        return true;
     }
     if most < size {
-        return 13;
+        return true;
     }
-    if capacity < count {
-        return 13;
-    }
-    0
+    capacity < count
 }
 
-// 14 where (i, j) does not stand before (k, l).
-fn place_refusal(i: u16, j: u16, k: u16, l: u16) -> u8
-    ensures { λ r. ⌜ r ≡ 14 if (not (before i j k l)) ⌝ }
+// Whether (i, j) stands before (k, l).
+fn before(i: u16, j: u16, k: u16, l: u16) -> bool
+    ensures { λ r. ⌜ r ≡ before i j k l ⌝ }
 {
     if i < k {
-        return 0;
+        return true;
     }
     if i == k {
-        if j < l {
-            return 0;
-        }
+        return j < l;
     }
-    14
+    false
 }
 
 pub fn wide(x: u16) -> usize
@@ -47,36 +43,36 @@ pub fn wide(x: u16) -> usize
     x as usize
 }
 
-// Entry k: out of range, or not after the entry before.
-fn entry_refusal(m: usize, rows: &[u16], cols: &[u16], k: usize) -> u8
+// Entry k is out of range, or not after the entry before.
+fn bad_entry(size: usize, rows: &[u16], cols: &[u16], k: usize) -> bool
     requires { ⌜ (k < length (now rows)) × (k < length (now cols)) ⌝ }
-    ensures { λ r. ⌜ r ≡ entryRefusal m (elem (now (rows .entry))) (elem (now (cols .entry))) k ⌝ }
+    ensures { λ r. ⌜ r ≡ badEntry size (elem (now (rows .entry))) (elem (now (cols .entry))) k ⌝ }
 {
-    if m <= wide(rows[k]) {
-        return 14;
+    if size <= wide(rows[k]) {
+        return true;
     }
-    if m <= wide(cols[k]) {
-        return 14;
+    if size <= wide(cols[k]) {
+        return true;
     }
     if 0 < k {
-        return place_refusal(rows[k - 1], cols[k - 1], rows[k], cols[k]);
+        return !before(rows[k - 1], cols[k - 1], rows[k], cols[k]);
     }
-    0
+    false
 }
 
-pub fn order_refusal(m: usize, count: usize, rows: &[u16], cols: &[u16]) -> u8
+// 14: an entry out of range or order.
+pub fn bad_order(size: usize, count: usize, rows: &[u16], cols: &[u16]) -> bool
     requires { ⌜ (count ≤ length (now rows)) × (count ≤ length (now cols)) ⌝ }
-    ensures { λ r. ⌜ r ≡ orderRefusal m (elem (now (rows .entry))) (elem (now (cols .entry))) count ⌝ }
+    ensures { λ r. ⌜ r ≡ badOrder size (elem (now (rows .entry))) (elem (now (cols .entry))) count ⌝ }
 {
     let mut k = 0;
     while k < count {
-        let refusal = entry_refusal(m, rows, cols, k);
-        if refusal != 0 {
-            return refusal;
+        if bad_entry(size, rows, cols, k) {
+            return true;
         }
         k += 1;
     }
-    0
+    false
 }
 
 // The absolute value of any i64, the least one too.
@@ -113,32 +109,26 @@ pub fn magnitudes_capped(cap: u64, count: usize, values: &[i64]) -> u64
     sum
 }
 
-// 16 for a sign table.
-pub fn magnitude_refusal(limit: u64, count: usize, values: &[i64]) -> u8
+// 16 for a sign table: its magnitude is above the limit.
+pub fn too_large(limit: u64, count: usize, values: &[i64]) -> bool
     requires { ⌜ (count ≤ length (now values)) × (limit < 2 ^ 60) ⌝ }
-    ensures { λ r. ⌜ r ≡ magnitudeRefusal limit (total count (λ k. natAbs (elemZ (now (values .entry)) k))) ⌝ }
+    ensures { λ r. ⌜ r ≡ ltb limit (total count (λ k. natAbs (elemZ (now (values .entry)) k))) ⌝ }
 {
-    if limit < magnitudes_capped(limit + 1, count, values) {
-        return 16;
-    }
-    0
+    limit < magnitudes_capped(limit + 1, count, values)
 }
 
 // 16 for (H, c).
-pub fn hall_magnitude_refusal(limit: u64, n: usize, count: usize, values: &[i64], c: &[i64]) -> u8
+pub fn hall_too_large(limit: u64, n: usize, count: usize, values: &[i64], c: &[i64]) -> bool
     requires { ⌜ (count ≤ length (now values)) × (n ≤ length (now c)) × (limit < 2 ^ 60) ⌝ }
-    ensures { λ r. ⌜ r ≡ magnitudeRefusal limit (total count (λ k. natAbs (elemZ (now (values .entry)) k)) + 2 * costsMagnitude n (elemZ (now (c .entry)))) ⌝ }
+    ensures { λ r. ⌜ r ≡ ltb limit (total count (λ k. natAbs (elemZ (now (values .entry)) k)) + 2 * total n (λ i. natAbs (elemZ (now (c .entry)) i))) ⌝ }
 {
     let entries = magnitudes_capped(limit + 1, count, values);
     let costs = magnitudes_capped(limit + 1, n, c);
-    if limit < entries + 2 * costs {
-        return 16;
-    }
-    0
+    limit < entries + 2 * costs
 }
 
-// The first number of (H, c).
-pub fn hall_refusal(
+// The first number of (H, c), or 0.
+pub fn hall_number(
     most: usize,
     capacity: usize,
     limit: u64,
@@ -150,25 +140,25 @@ pub fn hall_refusal(
     c: &[i64],
 ) -> u8
     requires { ⌜ (count ≤ capacity → Lent count (now rows) (now cols) (now values)) × (n ≤ most → n ≤ length (now c)) × (most ≤ 65536) × (limit < 2 ^ 60) ⌝ }
-    ensures { λ r. ⌜ r ≡ hallRefusal most capacity limit n (tableOf count (now (rows .entry)) (now (cols .entry)) (now (values .entry))) (elemZ (now (c .entry))) ⌝ }
+    ensures { λ r. ⌜ r ≡ hallNumber most capacity limit n (tableOf count (now (rows .entry)) (now (cols .entry)) (now (values .entry))) (elemZ (now (c .entry))) ⌝ }
 {
-    let size = size_refusal(0, most, capacity, n, count);
-    if size != 0 {
-        return size;
+    if bad_size(0, most, capacity, n, count) {
+        return 13;
     }
-    let order = order_refusal(n, count, rows, cols);
-    if order != 0 {
-        return order;
+    if bad_order(n, count, rows, cols) {
+        return 14;
     }
-    let mirror = mirror_refusal(count, rows, cols, values);
-    if mirror != 0 {
-        return mirror;
+    if unmirrored(count, rows, cols, values) {
+        return 15;
     }
-    hall_magnitude_refusal(limit, n, count, values, c)
+    if hall_too_large(limit, n, count, values, c) {
+        return 16;
+    }
+    0
 }
 
-// The first number of a sign table given directly.
-pub fn table_refusal(
+// The first number of a sign table given directly, or 0.
+pub fn table_number(
     most: usize,
     capacity: usize,
     limit: u64,
@@ -179,19 +169,42 @@ pub fn table_refusal(
     values: &[i64],
 ) -> u8
     requires { ⌜ (count ≤ capacity → Lent count (now rows) (now cols) (now values)) × (most ≤ 65536) × (limit < 2 ^ 60) ⌝ }
-    ensures { λ r. ⌜ r ≡ tableRefusal most capacity limit m (tableOf count (now (rows .entry)) (now (cols .entry)) (now (values .entry))) ⌝ }
+    ensures { λ r. ⌜ r ≡ tableNumber most capacity limit m (tableOf count (now (rows .entry)) (now (cols .entry)) (now (values .entry))) ⌝ }
 {
-    let size = size_refusal(1, most, capacity, m, count);
-    if size != 0 {
-        return size;
+    if bad_size(1, most, capacity, m, count) {
+        return 13;
     }
-    let order = order_refusal(m, count, rows, cols);
-    if order != 0 {
-        return order;
+    if bad_order(m, count, rows, cols) {
+        return 14;
     }
-    let mirror = mirror_refusal(count, rows, cols, values);
-    if mirror != 0 {
-        return mirror;
+    if unmirrored(count, rows, cols, values) {
+        return 15;
     }
-    magnitude_refusal(limit, count, values)
+    if too_large(limit, count, values) {
+        return 16;
+    }
+    0
+}
+
+// 31: a lent slice is shorter than needed, where what is needed rests on no refused number.
+pub fn too_short(refused: bool, needed: usize, lent: usize) -> bool
+    ensures { λ r. ⌜ r ≡ short refused needed lent ⌝ }
+{
+    if refused {
+        return false;
+    }
+    lent < needed
+}
+
+// 31 for the slices of a table.
+pub fn short_table(capacity: usize, count: usize, rows: &[u16], cols: &[u16], values: &[i64]) -> bool
+    ensures { λ r. ⌜ r ≡ shortTable capacity count (length (now (rows .entry))) (length (now (cols .entry))) (length (now (values .entry))) ⌝ }
+{
+    if too_short(capacity < count, count, rows.len()) {
+        return true;
+    }
+    if too_short(capacity < count, count, cols.len()) {
+        return true;
+    }
+    too_short(capacity < count, count, values.len())
 }

@@ -1,4 +1,4 @@
-use Rattle.sign_table.proofs.Theorems.{sign-count}
+use Rattle.sign_table.proofs.Sizes.{sign-count}
 use Rattle.sign_table.proofs.Built.{all-count, all-wrote, total-back, room-less, room-on}
 use Rattle.tables.specs.Table.{tableOf}
 use Rattle.laws.specs.Lists.{elemZ}

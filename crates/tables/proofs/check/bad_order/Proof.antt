@@ -1,0 +1,55 @@
+use borrow.Author.Needs.{needs}
+use Rattle.tables.proofs.check.bad_order.Statement.{statement}
+use Rattle.tables.proofs.check.bad_order.Tie as tie
+use mathlib.Core.Path.{_≡_, refl, sym, _∙_}
+use mathlib.Core.Bool.{true, false}
+use Prim.Native.Nat.{_≤_, _-_}
+use native.Mathlib.Omega.{arith}
+use Rattle.laws.specs.Lists.{elem, anyBelow}
+use Rattle.laws.proofs.Any.{below-at}
+use Rattle.tables.specs.Check.{badEntry, badOrder}
+use Rattle.tables.proofs.Checks.{below-next, below-end}
+
+abbrev Inv-loop : tie.InvT-loop
+Inv-loop size count rows cols k₀ k = (k ≤ count) × (anyBelow k (badEntry size (elem rows) (elem cols)) ≡ false)
+
+abbrev μ-loop : tie.MeasureT-loop
+μ-loop size count rows cols k₀ k = count - k
+
+loop-holds : tie.Need-loop-holds Inv-loop μ-loop
+unfolding anyBelow
+loop-holds c = (omega arith, refl)
+
+bad-entry-requires : tie.Need-bad-entry-requires Inv-loop μ-loop
+bad-entry-requires c κs = search needs
+
+returns : tie.Need-returns Inv-loop μ-loop
+unfolding badOrder
+returns c = sym (below-at _ _ _ (c .before .before .loop-test .taken) (sym (c .before .bad-entry .ensures) ∙ c .if1 .taken))
+
+add-k : tie.Need-add-k Inv-loop μ-loop
+add-k c = search needs
+
+loop-less : tie.Need-loop-less Inv-loop μ-loop
+loop-less c = search needs
+
+loop-again : tie.Need-loop-again Inv-loop μ-loop
+loop-again c = (omega arith, below-next _ _ (c .before .before .before .loop .inv .1) (sym (c .before .bad-entry .ensures) ∙ c .if1 .left))
+
+returns-2 : tie.Need-returns-2 Inv-loop μ-loop
+unfolding badOrder
+returns-2 c = below-end _ _ _ (c .before .loop .inv .1) (c .before .loop .inv .0) (c .loop-test .left)
+
+pub bad-order-spec : {M : Type 1} → statement M
+bad-order-spec =
+    tie.close
+    (tie.spec
+    Inv-loop
+    μ-loop
+    loop-holds
+    bad-entry-requires
+    returns
+    add-k
+    loop-less
+    loop-again
+    returns-2)
