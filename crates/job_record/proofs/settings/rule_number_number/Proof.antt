@@ -1,0 +1,49 @@
+use borrow.Author.Needs.{needs}
+use borrow.Author.Needs.{needs}
+use Rattle.job_record.proofs.settings.rule_number_number.Statement.{statement}
+use Rattle.job_record.proofs.settings.rule_number_number.Tie as tie
+
+add-if1 : tie.Need-add-if1
+add-if1 c = search needs
+
+returns : tie.Need-returns
+returns c = ?
+
+add-u8-at : tie.Need-add-u8-at
+add-u8-at c = search needs
+
+u8-at-requires : tie.Need-u8-at-requires
+u8-at-requires c κs = search needs
+
+add-f64-at : tie.Need-add-f64-at
+add-f64-at c = search needs
+
+f64-at-requires : tie.Need-f64-at-requires
+f64-at-requires c κs = search needs
+
+is-momentum-requires : tie.Need-is-momentum-requires
+is-momentum-requires c κs = search needs
+
+returns-2 : tie.Need-returns-2
+returns-2 c = ?
+
+returns-3 : tie.Need-returns-3
+returns-3 c = ?
+
+returns-4 : tie.Need-returns-4
+returns-4 c = ?
+
+pub rule-number-number-spec : {M : Type 1} → statement M
+rule-number-number-spec =
+    tie.close
+    (tie.spec
+    add-if1
+    returns
+    add-u8-at
+    u8-at-requires
+    add-f64-at
+    f64-at-requires
+    is-momentum-requires
+    returns-2
+    returns-3
+    returns-4)

@@ -1,0 +1,5 @@
+// The job record: its number, its fields, and its tables read into slices.
+pub mod arrays;
+pub mod limits;
+pub mod number;
+pub mod settings;
