@@ -1,15 +1,24 @@
 use borrow.Author.Needs.{needs}
 use Rattle.job_record.proofs.arrays.read_entries.Statement.{statement}
 use Rattle.job_record.proofs.arrays.read_entries.Tie as tie
+use Prim.Native.Nat.{_≤_, _-_}
+use mathlib.Core.Path.{_≡_, refl, _∙_}
+use native.Mathlib.Omega.{arith}
+use lib.ListN.{length, length-set}
+use mir.Syntax.{w64}
+use mir.ValLaws.{toZ-ofZ}
+use Rattle.laws.specs.Lists.{fill}
+use Rattle.laws.proofs.MapFirst.{fill-none, fill-more, fill-all}
+use Rattle.job_record.specs.Fields.{row, column, value}
 
 abbrev Inv-loop : tie.InvT-loop
-Inv-loop job count rows₀ cols₀ values₀ i₀ rows cols values i = ?
+Inv-loop job count rows₀ cols₀ values₀ i₀ rows cols values i = (i ≤ count) × (rows ≡ fill (row job) i rows₀) × (cols ≡ fill (column job) i cols₀) × (values ≡ fill (value job) i values₀) × (length rows ≡ length rows₀) × (length cols ≡ length cols₀) × (length values ≡ length values₀)
 
 abbrev μ-loop : tie.MeasureT-loop
-μ-loop job count rows₀ cols₀ values₀ i₀ rows cols values i = ?
+μ-loop job count rows₀ cols₀ values₀ i₀ rows cols values i = count - i
 
 loop-holds : tie.Need-loop-holds Inv-loop μ-loop
-loop-holds c = search needs
+loop-holds c = (omega arith, fill-none _ _, fill-none _ _, fill-none _ _, refl, refl, refl)
 
 mul-at : tie.Need-mul-at Inv-loop μ-loop
 mul-at c = search needs
@@ -63,7 +72,15 @@ loop-less : tie.Need-loop-less Inv-loop μ-loop
 loop-less c = search needs
 
 loop-again : tie.Need-loop-again Inv-loop μ-loop
-loop-again c = ?
+loop-again c = let inv = c .before .before .before .before .loop .inv in (
+      omega arith,
+      fill-more _ _ _ (inv .1) (c .before .before .u8-at .ensures),
+      fill-more _ _ _ (inv .2) (c .before .u8-at2 .ensures),
+      fill-more _ _ _ (inv .3) (toZ-ofZ w64 _ (record { sfits = c .i64-at .ok }) ∙ c .i64-at .ensures),
+      simp length-set (inv .4),
+      simp length-set (inv .5),
+      simp length-set (inv .6),
+    )
 
 same-length : tie.Need-same-length Inv-loop μ-loop
 same-length c = search needs
@@ -75,7 +92,13 @@ same-length-3 : tie.Need-same-length-3 Inv-loop μ-loop
 same-length-3 c = search needs
 
 returns : tie.Need-returns Inv-loop μ-loop
-returns c = ?
+returns c = let inv = c .before .loop .inv in (
+      fill-all _ _ _ _ (inv .1) (inv .0) (c .loop-test .left),
+      (
+        fill-all _ _ _ _ (inv .2) (inv .0) (c .loop-test .left),
+        fill-all _ _ _ _ (inv .3) (inv .0) (c .loop-test .left),
+      ),
+    )
 
 pub read-entries-spec : {M : Type 1} → statement M
 read-entries-spec =
