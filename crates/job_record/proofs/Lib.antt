@@ -4,3 +4,4 @@ pub mod Ranks
 pub mod Same
 pub mod Entries
 pub mod Whole
+pub mod Accepted
