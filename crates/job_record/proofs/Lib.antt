@@ -5,3 +5,5 @@ pub mod Same
 pub mod Entries
 pub mod Whole
 pub mod Accepted
+pub mod Halls
+pub mod Examples
