@@ -18,22 +18,17 @@ use Rattle.job_record.specs.Number.{bounded, frameNumber, versionNumber,
 use Rattle.job_record.specs.Values.{settingsOf, drawsOf, jobOf, jobCost, jobRank, jobStartCount, jobStart, jobDrawn, jobDraw}
 use Rattle.job_record.specs.declared.job.Job.{Job}
 
-zeros : ℕ → List ℕ
-unfolding replicate
-zeros n = replicate n 0
-
 unfoldable pub example : List ℕ
-unfolding zeros
 example =
     (0 ∷ 0 ∷ 0 ∷ 92 ∷ 1 ∷ 1 ∷ 0 ∷ 1 ∷ [])
     ++ (0 ∷ 0 ∷ 0 ∷ 0 ∷ 0 ∷ 0 ∷ 0 ∷ 0 ∷ 0 ∷ 2 ∷ [])
     ++ (255 ∷ 255 ∷ 255 ∷ 255 ∷ 255 ∷ 255 ∷ 255 ∷ 253 ∷ [])
-    ++ (0 ∷ 3 ∷ []) ++ zeros 32 ++ (1 ∷ 2 ∷ [])
-    ++ (0x3f ∷ 0xf0 ∷ []) ++ zeros 6 ++ (0x3f ∷ 0xf0 ∷ []) ++ zeros 6
-    ++ (0 ∷ 1 ∷ []) ++ (0x3f ∷ 0xf0 ∷ []) ++ zeros 14
+    ++ (0 ∷ 3 ∷ []) ++ replicate 32 0 ++ (1 ∷ 2 ∷ [])
+    ++ (0x3f ∷ 0xf0 ∷ []) ++ replicate 6 0 ++ (0x3f ∷ 0xf0 ∷ []) ++ replicate 6 0
+    ++ (0 ∷ 1 ∷ []) ++ (0x3f ∷ 0xf0 ∷ []) ++ replicate 14 0
 
 pub example-accepted : jobNumber example ≡ 0
-unfolding example zeros bigEndian jobNumber headNumbers entriesNumbers costsNumbers runNumbers settingsNumbers drawsNumbers frameNumber versionNumber bounded entryNumber ruleNumberNumber orElse first firstOf anyOf anyBelow total before badEntry unmirrored rootFrom leastRoot defaultRank rankMeant startCount
+unfolding example bigEndian jobNumber headNumbers entriesNumbers costsNumbers runNumbers settingsNumbers drawsNumbers frameNumber versionNumber bounded entryNumber ruleNumberNumber orElse first firstOf anyOf anyBelow total before badEntry unmirrored rootFrom leastRoot defaultRank rankMeant startCount
 example-accepted = refl
 
 pub example-job : jobOf example
@@ -51,15 +46,15 @@ pub example-job : jobOf example
       start = 2;
       «draw_count» = 1;
     }
-unfolding example zeros bigEndian jobOf settingsOf drawsOf rootFrom leastRoot defaultRank rankMeant startCount
+unfolding example bigEndian jobOf settingsOf drawsOf rootFrom leastRoot defaultRank rankMeant startCount
 example-job = refl
 
 -- H and c; the rank that 0 means, the signs, and the draw
 pub example-hall : ((row example 0 ∷ column example 0 ∷ []) ≡ (0 ∷ 0 ∷ [])) × ((value example 0 ∷ jobCost example 0 ∷ []) ≡ (pos 2 ∷ negsuc 2 ∷ []))
-unfolding example zeros bigEndian
+unfolding example bigEndian
 example-hall = (refl, refl)
 
 pub example-numbers : ((jobRank example ∷ jobStartCount example ∷ jobDrawn example ∷ []) ≡ (2 ∷ 2 ∷ 2 ∷ []))
     × ((jobStart example 0 ∷ jobStart example 1 ∷ jobDraw example 0 ∷ jobDraw example 1 ∷ []) ≡ (one64 ∷ one64 ∷ one64 ∷ zero64 ∷ []))
-unfolding example zeros bigEndian settingsOf drawsOf rootFrom leastRoot defaultRank rankMeant startCount
+unfolding example bigEndian settingsOf drawsOf rootFrom leastRoot defaultRank rankMeant startCount
 example-numbers = (refl, refl)
