@@ -29,8 +29,8 @@ module _ (l : List ℕ) {m r : List ℕ} (at next : ℕ) (xs ys : List ℕ) wher
       let first : take next m ≡ take at l ++ xs = ap (take next) e ∙ take-at (take at l ++ xs) rest next front in
       let past : drop next m ≡ rest = ap (drop next) e ∙ drop-at (take at l ++ xs) rest next front in
       let later : drop (next + length ys) m ≡ drop (at + length (xs ++ ys)) l =
-          sym (drop-drop (length ys) next m) ∙ ap (drop (length ys)) past ∙ drop-drop (length ys) (at + length xs) l
-          ∙ ap (λ (k : ℕ). drop k l) (sums at (length xs) (length ys) (length (xs ++ ys)) (length-append xs ys)) in
+      sym (drop-drop (length ys) next m) ∙ ap (drop (length ys)) past ∙ drop-drop (length ys) (at + length xs) l
+      ∙ ap (λ (k : ℕ). drop k l) (sums at (length xs) (length ys) (length (xs ++ ys)) (length-append xs ys)) in
       f ∙ rw (first, later) (ap (λ (r : List ℕ). r ++ drop (at + length (xs ++ ys)) l) (append-assoc (take at l) xs ys))
     where
       sums : (a b c d : ℕ) → d ≡ b + c → a + b + c ≡ a + d
@@ -64,7 +64,7 @@ put-written (suc n) s at v h =
     let bytes : List ℕ = bytesOf n (v / 256) in
     let size : length bytes ≡ n = length-bytesOf n (v / 256) in
     let tail : drop (at + n) rest ≡ low ∷ drop (suc (at + n)) s =
-        drop-cons rest (at + n) 0 (simp length-set (omega arith)) ∙ rw (getD-set-same s (at + n) low 0 (omega arith), drop-set-lt (suc (at + n)) s (at + n) low (omega arith)) in
+    drop-cons rest (at + n) 0 (simp length-set (omega arith)) ∙ rw (getD-set-same s (at + n) low 0 (omega arith), drop-set-lt (suc (at + n)) s (at + n) low (omega arith)) in
     let more : at + length (bytes ++ (low ∷ [])) ≡ suc (at + n) = simp length-append (omega arith) in
     put-written n rest at (v / 256) long
     ∙ rw (size, take-set-le at s (at + n) low (omega arith), tail, more, ← append-assoc (take at s) bytes (low ∷ []))

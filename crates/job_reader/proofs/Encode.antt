@@ -37,6 +37,6 @@ read-bytes (suc n) v h =
     let fits : v / 256 < 256 ^ n = omega arith in
     let e : 0 + n ≡ n = omega arith in
     let high : bigEndian (bytesOf n (v / 256) ++ (v % 256 ∷ [])) 0 n ≡ v / 256 =
-        read-front (bytesOf n (v / 256)) (v % 256 ∷ []) 0 n (omega (arith, length-bytesOf n (v / 256))) ∙ read-bytes n (v / 256) fits in
+    read-front (bytesOf n (v / 256)) (v % 256 ∷ []) 0 n (omega (arith, length-bytesOf n (v / 256))) ∙ read-bytes n (v / 256) fits in
     let low : getD (bytesOf n (v / 256) ++ (v % 256 ∷ [])) (0 + n) 0 ≡ v % 256 = rw e (getD-at (bytesOf n (v / 256)) (v % 256) [] 0 n (length-bytesOf n (v / 256))) in
     omega (arith, high, low)

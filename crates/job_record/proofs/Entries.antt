@@ -109,5 +109,7 @@ module _ (s : List ℕ) (n count : ℕ) {c : List ℤ} (c₀ values : List ℤ) 
     (v : (i : ℕ) → i < count → elemZ values i ≡ value s i) where
   pub magnitude-is : total count (λ i. natAbs (elemZ values i)) + 2 * total n (λ i. natAbs (elemZ c i)) ≡ hallMagnitude n (entries s count) (signedFrom s (entryAt count))
   magnitude-is =
-      rw (total-same (λ i. natAbs (elemZ values i)) (λ i. natAbs (value s i)) count (λ i l. ap natAbs (v i l)),
-          total-same (λ i. natAbs (elemZ c i)) (λ i. natAbs (signedFrom s (entryAt count) i)) n (λ i l. rw (k, filled (signedFrom s (entryAt count)) c₀ (pos 0) n fk i l)))
+      rw (
+        total-same (λ i. natAbs (elemZ values i)) (λ i. natAbs (value s i)) count (λ i l. ap natAbs (v i l)),
+        total-same (λ i. natAbs (elemZ c i)) (λ i. natAbs (signedFrom s (entryAt count) i)) n (λ i l. rw (k, filled (signedFrom s (entryAt count)) c₀ (pos 0) n fk i l)),
+      )

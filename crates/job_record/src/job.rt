@@ -12,6 +12,8 @@ ghost use mathlib.Core.Path.{_≡_};
 ghost use Prim.Native.Nat.{ℕ, _+_, _*_, _≤_, _<_};
 ghost use lib.ListN.{length};
 ghost use Rattle.laws.specs.Lists.{fill};
+ghost use Rattle.tables.specs.Limits.{mostWagons, mostEntries};
+ghost use Rattle.job_record.specs.Limits.{mostBytes, mostRank, mostStart, mostDrawn};
 ghost use Rattle.job_record.specs.Fields.{row, column, value};
 ghost use Rattle.job_record.specs.Number.{jobNumber};
 ghost use Rattle.job_record.specs.Values.{settingsOf, drawsOf, jobOf, jobRank, jobStartCount, jobStart, jobDrawn, jobDraw, Stored};
@@ -43,7 +45,7 @@ fn settings_at(job: &[u8]) -> usize
 // The rank that the job's means.
 fn job_rank(job: &[u8]) -> usize
     requires { ⌜ jobNumber (now job) ≡ 0 ⌝ }
-    ensures { λ r. ⌜ (r ≡ jobRank (now (job .entry))) × (r ≤ 32) ⌝ }
+    ensures { λ r. ⌜ (r ≡ jobRank (now (job .entry))) × (r ≤ mostRank) ⌝ }
 {
     let at = settings_at(job);
     rank_meant(u8_at(job, 5) as usize + 1, u8_at(job, at) as usize)
@@ -52,17 +54,22 @@ fn job_rank(job: &[u8]) -> usize
 // How many doubles its start has.
 fn job_start_count(job: &[u8]) -> usize
     requires { ⌜ jobNumber (now job) ≡ 0 ⌝ }
-    ensures { λ r. ⌜ (r ≡ jobStartCount (now (job .entry))) × (r ≤ 4224) ⌝ }
+    ensures { λ r. ⌜ (r ≡ jobStartCount (now (job .entry))) × (r ≤ mostStart) ⌝ }
 {
     let at = settings_at(job);
     let rank = job_rank(job);
-    start_count(u8_at(job, at + 35), u8_at(job, 5) as usize + 1, rank, u32_at(job, at + 10))
+    start_count(
+        u8_at(job, at + 35),
+        u8_at(job, 5) as usize + 1,
+        rank,
+        u32_at(job, at + 10),
+    )
 }
 
 // Where the draw count stands.
 fn draws_at(job: &[u8]) -> usize
     requires { ⌜ jobNumber (now job) ≡ 0 ⌝ }
-    ensures { λ r. ⌜ (r ≡ drawsOf (now (job .entry))) × (r ≤ 65536) ⌝ }
+    ensures { λ r. ⌜ (r ≡ drawsOf (now (job .entry))) × (r ≤ mostBytes) ⌝ }
 {
     settings_at(job) + 36 + job_start_count(job) * 8
 }
@@ -92,7 +99,7 @@ pub fn job_of(job: &[u8]) -> Job
 
 // The start's doubles.
 fn read_start(job: &[u8], start: &mut [f64])
-    requires { ⌜ (jobNumber (now job) ≡ 0) × (4224 ≤ length (now start)) ⌝ }
+    requires { ⌜ (jobNumber (now job) ≡ 0) × (mostStart ≤ length (now start)) ⌝ }
     ensures { λ _. ⌜ now (start .exit) ≡ fill (jobStart (now (job .entry))) (jobStartCount (now (job .entry))) (now (start .entry)) ⌝ }
 {
     let at = settings_at(job) + 36;
@@ -102,7 +109,7 @@ fn read_start(job: &[u8], start: &mut [f64])
 
 // The draws.
 fn read_draws(job: &[u8], draws: &mut [f64])
-    requires { ⌜ (jobNumber (now job) ≡ 0) × (8192 ≤ length (now draws)) ⌝ }
+    requires { ⌜ (jobNumber (now job) ≡ 0) × (mostDrawn ≤ length (now draws)) ⌝ }
     ensures { λ _. ⌜ now (draws .exit) ≡ fill (jobDraw (now (job .entry))) (jobDrawn (now (job .entry))) (now (draws .entry)) ⌝ }
 {
     let at = draws_at(job);
@@ -120,8 +127,8 @@ pub fn read_job(
     start: &mut [f64],
     draws: &mut [f64],
 ) -> Job
-    requires { ⌜ (jobNumber (now job) ≡ 0) × (4096 ≤ length (now rows)) × (4096 ≤ length (now cols)) × (4096 ≤ length (now values)) × (127 ≤ length (now c))
-        × (4224 ≤ length (now start)) × (8192 ≤ length (now draws)) ⌝ }
+    requires { ⌜ (jobNumber (now job) ≡ 0) × (mostEntries ≤ length (now rows)) × (mostEntries ≤ length (now cols)) × (mostEntries ≤ length (now values)) × (mostWagons ≤ length (now c))
+        × (mostStart ≤ length (now start)) × (mostDrawn ≤ length (now draws)) ⌝ }
     ensures { λ r. ⌜ (r ≡ jobOf (now (job .entry)))
         × Stored (now (job .entry)) (now (rows .entry)) (now (cols .entry)) (now (values .entry)) (now (c .entry)) (now (start .entry)) (now (draws .entry))
         (now (rows .exit)) (now (cols .exit)) (now (values .exit)) (now (c .exit)) (now (start .exit)) (now (draws .exit)) ⌝ }

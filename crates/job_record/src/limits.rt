@@ -1,4 +1,8 @@
-// The limits of a job record.
+// The limits of a job record's fields, and as many doubles as any job has.
+pub const MOST_WAGONS: u64 = 127;
+
+pub const MOST_ENTRIES: u64 = 4096;
+
 pub const MOST_BYTES: usize = 65536;
 
 pub const MOST_RANK: u64 = 32;

@@ -2,6 +2,8 @@
 use crate::arrays::read_entries;
 use crate::arrays::read_signed;
 use crate::limits::MOST_BYTES;
+use crate::limits::MOST_ENTRIES;
+use crate::limits::MOST_WAGONS;
 use crate::settings::bounded;
 use crate::settings::run_number;
 use job_reader::fields::u8_at;
@@ -16,6 +18,7 @@ ghost use Prim.Native.Nat.{ℕ, _+_, _*_, _≤_, _<_};
 ghost use lib.ListN.{length};
 ghost use Rattle.laws.specs.Refusal.{first, orElse};
 ghost use Rattle.laws.specs.Lists.{elemZ};
+ghost use Rattle.tables.specs.Limits.{mostWagons, mostEntries};
 ghost use Rattle.job_record.specs.Fields.{entryAt, value};
 ghost use Rattle.job_record.specs.Number.{frameNumber, versionNumber, headNumbers, entriesNumbers, costsNumbers, jobNumber};
 
@@ -60,11 +63,11 @@ fn head_number(job: &[u8]) -> u8
     if version != 0 {
         return version;
     }
-    let n = bounded(job, 5, 1, 127, 13);
+    let n = bounded(job, 5, 1, MOST_WAGONS, 13);
     if n != 0 {
         return n;
     }
-    bounded(job, 6, 2, 4096, 13)
+    bounded(job, 6, 2, MOST_ENTRIES, 13)
 }
 
 // How many of the entries are there whole.
@@ -88,7 +91,7 @@ fn entries_number(
     cols: &mut [u16],
     values: &mut [i64],
 ) -> u8
-    requires { ⌜ (8 ≤ length (now job)) × (n ≤ 127) × (count ≤ length (now rows)) × (count ≤ length (now cols)) × (count ≤ length (now values)) ⌝ }
+    requires { ⌜ (8 ≤ length (now job)) × (n ≤ mostWagons) × (count ≤ length (now rows)) × (count ≤ length (now cols)) × (count ≤ length (now values)) ⌝ }
     ensures { λ r. ⌜ (r ≡ first (entriesNumbers (now (job .entry)) n count))
         × (r ≡ 0 → (k : ℕ) → k < count → elemZ (now (values .exit)) k ≡ value (now (job .entry)) k) ⌝ }
 {
@@ -108,14 +111,14 @@ fn entries_number(
 
 // c, then the magnitude of it and of the entries' values.
 fn costs_number(job: &[u8], n: usize, count: usize, values: &[i64]) -> u8
-    requires { ⌜ (n ≤ 127) × (count ≤ 4096) × (count ≤ length (now values)) × ((k : ℕ) → k < count → elemZ (now values) k ≡ value (now job) k) ⌝ }
+    requires { ⌜ (n ≤ mostWagons) × (count ≤ mostEntries) × (count ≤ length (now values)) × ((k : ℕ) → k < count → elemZ (now values) k ≡ value (now job) k) ⌝ }
     ensures { λ r. ⌜ r ≡ first (costsNumbers (now (job .entry)) n count) ⌝ }
 {
     let at = 8 + count * 10;
     if job.len() < at + n * 8 {
         return 11;
     }
-    let mut c = [0i64; 127];
+    let mut c = [0i64; tables::limits::MOST_WAGONS];
     read_signed(job, at, n, &mut c);
     if hall_too_large(MOST_MAGNITUDE, n, count, values, &c) {
         return 16;
@@ -125,12 +128,12 @@ fn costs_number(job: &[u8], n: usize, count: usize, values: &[i64]) -> u8
 
 // The entries and c.
 fn table_number(job: &[u8], n: usize, count: usize) -> u8
-    requires { ⌜ (8 ≤ length (now job)) × (n ≤ 127) × (count ≤ 4096) ⌝ }
+    requires { ⌜ (8 ≤ length (now job)) × (n ≤ mostWagons) × (count ≤ mostEntries) ⌝ }
     ensures { λ r. ⌜ r ≡ orElse (first (entriesNumbers (now (job .entry)) n count)) (first (costsNumbers (now (job .entry)) n count)) ⌝ }
 {
-    let mut rows = [0u16; 4096];
-    let mut cols = [0u16; 4096];
-    let mut values = [0i64; 4096];
+    let mut rows = [0u16; tables::limits::MOST_ENTRIES];
+    let mut cols = [0u16; tables::limits::MOST_ENTRIES];
+    let mut values = [0i64; tables::limits::MOST_ENTRIES];
     let entries = entries_number(job, n, count, &mut rows, &mut cols, &mut values);
     if entries != 0 {
         return entries;

@@ -15,6 +15,8 @@ ghost use mathlib.Core.Path.{_≡_};
 ghost use Prim.Native.Nat.{ℕ, _+_, _*_, _≤_, _<_};
 ghost use lib.ListN.{length};
 ghost use Rattle.laws.specs.Refusal.{first};
+ghost use Rattle.tables.specs.Limits.{mostWagons, mostSigns};
+ghost use Rattle.job_record.specs.Limits.{mostBytes, mostRank, mostStart};
 ghost use Rattle.job_record.specs.Fields.{rankMeant, startCount};
 ghost use Rattle.job_record.specs.Number.{bounded, isMomentum, ruleNumberNumber, settingsNumbers, drawsNumbers, runNumbers};
 
@@ -43,7 +45,7 @@ pub fn is_momentum(beta: f64) -> bool
 
 // The rule's number: 18 for a momentum out of range.
 fn rule_number_number(job: &[u8], at: usize) -> u8
-    requires { ⌜ at ≤ 65536 ⌝ }
+    requires { ⌜ at ≤ mostBytes ⌝ }
     ensures { λ r. ⌜ r ≡ ruleNumberNumber (now (job .entry)) at ⌝ }
 {
     if job.len() < at + 10 {
@@ -59,7 +61,7 @@ fn rule_number_number(job: &[u8], at: usize) -> u8
 
 // Rank, rule, its number, most, minimum, two tolerances, W, start.
 fn settings_number(job: &[u8], at: usize) -> u8
-    requires { ⌜ at ≤ 65536 ⌝ }
+    requires { ⌜ at ≤ mostBytes ⌝ }
     ensures { λ r. ⌜ r ≡ first (settingsNumbers (now (job .entry)) at) ⌝ }
 {
     let rank = bounded(job, at, 1, MOST_RANK, 17);
@@ -95,8 +97,8 @@ fn settings_number(job: &[u8], at: usize) -> u8
 
 // The rank that a given one means, for m signs.
 pub fn rank_meant(m: usize, given: usize) -> usize
-    requires { ⌜ (m ≤ 128) × (given ≤ 32) ⌝ }
-    ensures { λ r. ⌜ (r ≡ rankMeant m given) × (r ≤ 32) ⌝ }
+    requires { ⌜ (m ≤ mostSigns) × (given ≤ mostRank) ⌝ }
+    ensures { λ r. ⌜ (r ≡ rankMeant m given) × (r ≤ mostRank) ⌝ }
 {
     if given != 0 {
         return given;
@@ -106,8 +108,8 @@ pub fn rank_meant(m: usize, given: usize) -> usize
 
 // The doubles of a start.
 pub fn start_count(kind: u8, m: usize, rank: usize, most: u32) -> usize
-    requires { ⌜ (m ≤ 128) × (rank ≤ 32) ⌝ }
-    ensures { λ r. ⌜ (r ≡ startCount kind m rank most) × (r ≤ 4224) ⌝ }
+    requires { ⌜ (m ≤ mostSigns) × (rank ≤ mostRank) ⌝ }
+    ensures { λ r. ⌜ (r ≡ startCount kind m rank most) × (r ≤ mostStart) ⌝ }
 {
     if kind < 2 {
         return m * rank;
@@ -122,7 +124,7 @@ pub fn start_count(kind: u8, m: usize, rank: usize, most: u32) -> usize
 
 // The start's doubles up to `at`, the draw count there, the draws of rank doubles each, and nothing more.
 fn draws_number(job: &[u8], at: usize, rank: usize) -> u8
-    requires { ⌜ (at ≤ 1048576) × (rank ≤ 32) ⌝ }
+    requires { ⌜ (at ≤ 1048576) × (rank ≤ mostRank) ⌝ }
     ensures { λ r. ⌜ r ≡ first (drawsNumbers (now (job .entry)) at rank) ⌝ }
 {
     if job.len() < at {
@@ -148,7 +150,7 @@ fn draws_number(job: &[u8], at: usize, rank: usize) -> u8
 
 // The settings from `at` on, the start and the draws, for n wagons.
 pub fn run_number(job: &[u8], n: usize, at: usize) -> u8
-    requires { ⌜ (n ≤ 127) × (at ≤ 65536) ⌝ }
+    requires { ⌜ (n ≤ mostWagons) × (at ≤ mostBytes) ⌝ }
     ensures { λ r. ⌜ r ≡ first (runNumbers (now (job .entry)) n at) ⌝ }
 {
     let settings = settings_number(job, at);

@@ -33,10 +33,10 @@ loop-less c = search needs
 
 loop-again : tie.Need-loop-again Inv-loop μ-loop
 loop-again c = let l = c .before .loop in (
-      omega arith,
-      simp length-set (omega arith),
-      stored-turn (l .out) (c .before .before .args .at) (l .left) (l .i) (omega arith) ∙ l .inv .2,
-    )
+  omega arith,
+  simp length-set (omega arith),
+  stored-turn (l .out) (c .before .before .args .at) (l .left) (l .i) (omega arith) ∙ l .inv .2,
+)
 
 same-length : tie.Need-same-length Inv-loop μ-loop
 same-length c = search needs

@@ -73,14 +73,14 @@ loop-less c = search needs
 
 loop-again : tie.Need-loop-again Inv-loop μ-loop
 loop-again c = let inv = c .before .before .before .before .loop .inv in (
-      omega arith,
-      fill-more _ _ _ (inv .1) (c .before .before .u8-at .ensures),
-      fill-more _ _ _ (inv .2) (c .before .u8-at2 .ensures),
-      fill-more _ _ _ (inv .3) (toZ-ofZ w64 _ (record { sfits = c .i64-at .ok }) ∙ c .i64-at .ensures),
-      simp length-set (inv .4),
-      simp length-set (inv .5),
-      simp length-set (inv .6),
-    )
+  omega arith,
+  fill-more _ _ _ (inv .1) (c .before .before .u8-at .ensures),
+  fill-more _ _ _ (inv .2) (c .before .u8-at2 .ensures),
+  fill-more _ _ _ (inv .3) (toZ-ofZ w64 _ (record { sfits = c .i64-at .ok }) ∙ c .i64-at .ensures),
+  simp length-set (inv .4),
+  simp length-set (inv .5),
+  simp length-set (inv .6),
+)
 
 same-length : tie.Need-same-length Inv-loop μ-loop
 same-length c = search needs
@@ -93,12 +93,12 @@ same-length-3 c = search needs
 
 returns : tie.Need-returns Inv-loop μ-loop
 returns c = let inv = c .before .loop .inv in (
-      fill-all _ _ _ _ (inv .1) (inv .0) (c .loop-test .left),
-      (
-        fill-all _ _ _ _ (inv .2) (inv .0) (c .loop-test .left),
-        fill-all _ _ _ _ (inv .3) (inv .0) (c .loop-test .left),
-      ),
-    )
+  fill-all _ _ _ _ (inv .1) (inv .0) (c .loop-test .left),
+  (
+    fill-all _ _ _ _ (inv .2) (inv .0) (c .loop-test .left),
+    fill-all _ _ _ _ (inv .3) (inv .0) (c .loop-test .left),
+  ),
+)
 
 pub read-entries-spec : {M : Type 1} → statement M
 read-entries-spec =

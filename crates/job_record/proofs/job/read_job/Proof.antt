@@ -59,16 +59,16 @@ same-length-6 c = search needs
 
 returns : tie.Need-returns
 returns c = (
-      c .job-of .ensures,
-      record {
-        in-rows = c .before .before .before .before .before .before .before .before .before .before .before .before .before .before .before .before .before .read-entries .ensures .0 ∙ simp (c .before .before .before .before .before .before .before .before .before .before .before .before .before .before .before .before .before .before .before .before .before .before .u16-at .ensures);
-        in-cols = c .before .before .before .before .before .before .before .before .before .before .before .before .before .before .before .before .before .read-entries .ensures .1 .0 ∙ simp (c .before .before .before .before .before .before .before .before .before .before .before .before .before .before .before .before .before .before .before .before .before .before .u16-at .ensures);
-        in-values = c .before .before .before .before .before .before .before .before .before .before .before .before .before .before .before .before .before .read-entries .ensures .1 .1 ∙ simp (c .before .before .before .before .before .before .before .before .before .before .before .before .before .before .before .before .before .before .before .before .before .before .u16-at .ensures);
-        in-c = c .before .before .before .before .before .before .before .before .before .before .read-signed .ensures ∙ simp (c .before .before .before .before .before .before .before .before .before .before .before .before .before .before .before .before .before .before .before .before .before .before .u16-at .ensures, c .before .before .before .before .before .before .before .before .before .before .before .before .before .before .before .before .before .before .before .before .before .u8-at .ensures);
-        in-start = c .before .before .before .before .before .before .before .read-start .ensures;
-        in-draws = c .before .before .before .read-draws .ensures;
-      },
-    )
+  c .job-of .ensures,
+  record {
+    in-rows = c .before .before .before .before .before .before .before .before .before .before .before .before .before .before .before .before .before .read-entries .ensures .0 ∙ simp (c .before .before .before .before .before .before .before .before .before .before .before .before .before .before .before .before .before .before .before .before .before .before .u16-at .ensures);
+    in-cols = c .before .before .before .before .before .before .before .before .before .before .before .before .before .before .before .before .before .read-entries .ensures .1 .0 ∙ simp (c .before .before .before .before .before .before .before .before .before .before .before .before .before .before .before .before .before .before .before .before .before .before .u16-at .ensures);
+    in-values = c .before .before .before .before .before .before .before .before .before .before .before .before .before .before .before .before .before .read-entries .ensures .1 .1 ∙ simp (c .before .before .before .before .before .before .before .before .before .before .before .before .before .before .before .before .before .before .before .before .before .before .u16-at .ensures);
+    in-c = c .before .before .before .before .before .before .before .before .before .before .read-signed .ensures ∙ simp (c .before .before .before .before .before .before .before .before .before .before .before .before .before .before .before .before .before .before .before .before .before .before .u16-at .ensures, c .before .before .before .before .before .before .before .before .before .before .before .before .before .before .before .before .before .before .before .before .before .u8-at .ensures);
+    in-start = c .before .before .before .before .before .before .before .read-start .ensures;
+    in-draws = c .before .before .before .read-draws .ensures;
+  },
+)
 
 pub read-job-spec : {M : Type 1} → statement M
 read-job-spec =

@@ -42,9 +42,9 @@ returns-2 c = let a = c .before .before .before .before .before .before .before 
 
 unmirrored-requires : tie.Need-unmirrored-requires
 unmirrored-requires c κs = let a = c .before .before .before .before .before .before .before .before .before .before .before .before .before .before .before .before .before .before .before .before .before .args in let w = c .before .before .before .before .before .before .before .before .before .before .before .before .before .before .before .before .before .whole-entries in (
-      record { rows-there = omega (arith, c .before .before .before .before .before .before .before .before .before .before .before .before .before .before .before .before .before .before .before .before .before .pre); cols-there = omega (arith, c .before .before .before .before .before .before .before .before .before .before .before .before .before .before .before .before .before .before .before .before .before .pre); values-there = omega (arith, c .before .before .before .before .before .before .before .before .before .before .before .before .before .before .before .before .before .before .before .before .before .pre) },
-      placed (a .job .now) (a .n) (a .count) (w .result) (w .ensures .0) (w .ensures .1) (w .ensures .2) (a .rows .now) (a .cols .now) (a .values .now) (c .before .before .before .before .before .before .before .before .before .before .before .before .before .read-entries .ensures .0) (c .before .before .before .before .before .before .before .before .before .before .before .before .before .read-entries .ensures .1 .0) (c .before .before .before .before .before .before .before .before .before .before .before .before .before .read-entries .ensures .1 .1) (omega (arith, w .ensures .0, c .before .before .before .before .before .before .before .before .before .before .before .before .before .before .before .before .before .before .before .before .before .pre)) (omega (arith, w .ensures .0, c .before .before .before .before .before .before .before .before .before .before .before .before .before .before .before .before .before .before .before .before .before .pre)) (omega (arith, w .ensures .0, c .before .before .before .before .before .before .before .before .before .before .before .before .before .before .before .before .before .before .before .before .before .pre)) (c .before .before .before .before .before .bad-order .ensures) (c .before .before .before .before .if1 .left) (c .before .before .before .if2 .left) (omega (arith, c .before .before .before .before .before .before .before .before .before .before .before .before .before .before .before .before .before .before .before .before .before .pre)),
-    )
+  record { rows-there = omega (arith, c .before .before .before .before .before .before .before .before .before .before .before .before .before .before .before .before .before .before .before .before .before .pre); cols-there = omega (arith, c .before .before .before .before .before .before .before .before .before .before .before .before .before .before .before .before .before .before .before .before .before .pre); values-there = omega (arith, c .before .before .before .before .before .before .before .before .before .before .before .before .before .before .before .before .before .before .before .before .before .pre) },
+  placed (a .job .now) (a .n) (a .count) (w .result) (w .ensures .0) (w .ensures .1) (w .ensures .2) (a .rows .now) (a .cols .now) (a .values .now) (c .before .before .before .before .before .before .before .before .before .before .before .before .before .read-entries .ensures .0) (c .before .before .before .before .before .before .before .before .before .before .before .before .before .read-entries .ensures .1 .0) (c .before .before .before .before .before .before .before .before .before .before .before .before .before .read-entries .ensures .1 .1) (omega (arith, w .ensures .0, c .before .before .before .before .before .before .before .before .before .before .before .before .before .before .before .before .before .before .before .before .before .pre)) (omega (arith, w .ensures .0, c .before .before .before .before .before .before .before .before .before .before .before .before .before .before .before .before .before .before .before .before .before .pre)) (omega (arith, w .ensures .0, c .before .before .before .before .before .before .before .before .before .before .before .before .before .before .before .before .before .before .before .before .before .pre)) (c .before .before .before .before .before .bad-order .ensures) (c .before .before .before .before .if1 .left) (c .before .before .before .if2 .left) (omega (arith, c .before .before .before .before .before .before .before .before .before .before .before .before .before .before .before .before .before .before .before .before .before .pre)),
+)
 
 same-length-7 : tie.Need-same-length-7
 same-length-7 c = search needs
