@@ -186,6 +186,53 @@ def sign_tables(rng):
     return out
 
 
+def reduced_number(size, entries, mapped, fixed):
+    """The first of 13, 14 and 20 that holds, 0 where none does."""
+    if len(entries) > 4478:
+        return 13
+    if out_of_order(size, entries):
+        return 14
+    return 20 if size > 1024 or any(i >= size for i in mapped + fixed) or len(set(mapped)) < len(mapped) else 0
+
+
+def reduced_groups(rng):
+    subs, lifts = [], []
+    for _ in range(90):
+        size = rng.choice([0, 1, 2, 3, 5, 9, 30, 1024, 1025])
+        places = sorted({(rng.randrange(size), rng.randrange(size)) for _ in range(rng.randrange(40))} if size else [])
+        entries = [(i, j, rng.choice([0, rng.randrange(-(1 << 45), 1 << 45), rng.randrange(-9, 10)])) for i, j in places]
+        if rng.randrange(6) == 0:
+            entries = damaged(rng, size, [e for e in entries if abs(e[2]) < 1 << 44])
+            entries = [(i, j, v if abs(v) < 1 << 46 else 7) for i, j, v in entries]
+        pool = list(range(min(size, 60)))
+        rng.shuffle(pool)
+        mapped, fixed = pool[: rng.randrange(len(pool) + 1)], [rng.randrange(size) for _ in range(rng.randrange(5))] if size else []
+        if rng.randrange(8) == 0:
+            mapped = mapped + [rng.choice([size, mapped[0] if mapped else size])]
+        if rng.randrange(10) == 0:
+            fixed = fixed + [size]
+        subs.append((reduced_number(size, entries, mapped, fixed), table_words(size, entries) + slice_words(mapped) + slice_words(fixed)))
+        numbers = lambda n: [rng.getrandbits(64) if rng.randrange(4) == 0 else struct.unpack(">Q", struct.pack(">d", rng.choice([-1.0, 1.0, 0.0, -0.0])))[0] for _ in range(n)]
+        held, solution = numbers(len(fixed)), numbers(len(mapped))
+        refusal = reduced_number(size, [], mapped, fixed)
+        if size <= 1024 and rng.randrange(9) == 0 and mapped:
+            refusal, solution = 31, solution[1:]
+        lifts.append((refusal, [size] + slice_words(mapped) + slice_words(fixed) + slice_words(held) + slice_words(solution)))
+    return {"submat": answered("submatrix", subs) + extremes(rng), "lift": answered("lift", lifts)}
+
+
+def extremes(rng):
+    """Submatrices of values that no double holds, worked out here: the Rust compares values up to 2^53."""
+    cases = []
+    for size in (1, 2, 3, 7, 1024):
+        entries = [(i, j, rng.choice([(1 << 63) - 1, -(1 << 63), (1 << 53) + 1, -(1 << 53), 1 << 53, 0])) for i in range(min(size, 5)) for j in range(min(size, 5))]
+        mapped = rng.sample(range(min(size, 5)), rng.randrange(1, min(size, 5) + 1))
+        new = {old: k for k, old in enumerate(mapped)}
+        result = sorted((new[i], new[j], v) for i, j, v in entries if i in new and j in new)
+        cases.append((table_words(size, entries) + slice_words(mapped) + [0], [0] + table_words(0, result)[1:]))
+    return cases
+
+
 def answered(name, cases):
     """Cases (number, words): a refused one is expected as FF and its number, an accepted one as 0 and the oracle's answer."""
     accepted = iter(oracle(name, [words for refusal, words in cases if not refusal]))
@@ -228,7 +275,7 @@ def oracle(name, cases):
 def stored():
     """The text of both files."""
     rng = random.Random(20261115)
-    groups = {"sqrt": roots(rng), "eighth": eighths(rng), "bits": patterns(rng), "rank": ranks()} | table_groups(rng)
+    groups = {"sqrt": roots(rng), "eighth": eighths(rng), "bits": patterns(rng), "rank": ranks()} | table_groups(rng) | reduced_groups(rng)
     words = lambda x: " ".join(f"{w:X}" for w in (x if isinstance(x, list) else [x]))
     lines = [f"{name} {words(given)} = {words(expected)}\n" for name, cases in groups.items() for given, expected in cases]
     return {"stdin": "".join(lines), "stdout": "".join(f"{name}: {len(cases)} cases, 0 differ\n" for name, cases in groups.items())}
