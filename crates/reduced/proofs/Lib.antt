@@ -1,3 +1,4 @@
+mod Written
 pub mod Put
 pub mod Distinct
 pub mod Lifting
