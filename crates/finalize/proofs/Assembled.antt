@@ -1,29 +1,41 @@
 -- What the functions of a finish leave, put together. Assumes nothing.
---     taken           what was written from the start of a slice, cut from it
 --     chooses         the rounding, the search and the decoding
---     finalizes       the sign table's figures are those of (H, c)
---     written         the sign table stands at the front of the slices that it was written to
+--     works           all figures of a sign table
+--     finalizes       they are those of (H, c)
+--     written         the sign table of (H, c) stands at the front of the slices that it was written to
 use Prim.Native.Nat.{ℕ, zero, suc, _+_, _*_, _≤_, _<_}
 use native.Mathlib.Numerals.{add-one}
 use native.Mathlib.Omega.{arith}
 use mathlib.Core.List.{List, _++_}
-use mathlib.Core.Path.{_≡_, refl, sym, ap, subst, _∙_}
+use mathlib.Core.Path.{_≡_, refl, sym, ap, subst, subst₂, _∙_}
 use lib.IntN.{ℤ}
 use lib.Ieee.{Float}
 use lib.ListN.{length, take, drop, length-map}
-use lib.Seq.{sets, sets-eq, take-at}
+use lib.Seq.{sets, sets-eq, take-at, length-take-le}
+use mir.Syntax.{w64}
+use mir.Val.{toZ, ofZ}
+use mir.Facts.{toZ-ofZ}
 use Rattle.laws.specs.Lists.{over, fill, tabulate}
 use Rattle.laws.proofs.MapFirst.{fill-none, fill-more}
 use Rattle.laws.proofs.Made.{tabulate-next, length-tabulate}
-use Rattle.tables.specs.Table.{Table, tableOf}
+use Rattle.tables.specs.Limits.{mostWagons, mostEntries, mostMagnitude, mostSigns, mostSignEntries, mostSignMagnitude}
+use Rattle.tables.specs.Table.{Table, tableOf, Lent, floorOf}
+use Rattle.tables.specs.Check.{Hall, Accepted}
+use Rattle.tables.specs.Bound.{entrywise}
 use Rattle.tables.specs.Cost.{decodedByte}
 use Rattle.sign_table.specs.SignTable.{rowsOf, colsOf, valuesOf, signOf, signPlaces, signTable}
 use Rattle.sign_table.specs.Walk.{Wrote}
 use Rattle.rounding.specs.Rounding.{roundedSol, roundedObjective}
 use Rattle.sign_search.specs.Search.{objectiveIn, beamSearch}
-use Rattle.sign_search.specs.Contracts.{Found-by}
+use Rattle.sign_search.specs.Contracts.{Found-by, Sound, Room}
+use Rattle.sign_search.proofs.Lawful.{objective-fits}
+use Rattle.sign_search.proofs.Theorems.{accepted-mirrors}
+use Rattle.sign_table.proofs.Theorems.{house-sign-table}
+use Rattle.prepared_table.specs.Work.{diagonalSum}
+use Rattle.maxcut_oracle.specs.Table.{dualVariables}
 use Rattle.finalize.specs.Finalize.{choiceOf, floorEighths, floatBound, diagonalTotal, multipliersOf, roundedSigns, roundedCost, searched, searchedChoice, searchedCost, searchedRounds}
-use Rattle.finalize.specs.Contracts.{Chooses, Works, Finalizes}
+use Rattle.finalize.specs.Limits.{mostWidth, searchSpace}
+use Rattle.finalize.specs.Contracts.{Fits, SearchFits, Chooses, Works, Finalizes}
 
 module _ {A : Type 0} where
   fill-tabulate : (f : ℕ → A) (l : List A) (n : ℕ) → n ≤ length l → fill f n l ≡ over (tabulate f n) l
@@ -45,22 +57,52 @@ fill-choice : (n : ℕ) (signs b : List ℕ) → n ≤ length b → fill (decode
 unfolding choiceOf
 fill-choice n signs b h = fill-tabulate (decodedByte n signs) b n h
 
-module _ (t : Table) (n rank width drawCount : ℕ) (draws factor : List Float) (b b′ start answer : List ℕ) (rounded cost : ℤ) (rounds : ℕ) where
+module _ (t : Table) (n rank width drawCount : ℕ) (draws factor : List Float) (b b′ start answer : List ℕ) (rounded least cost : ℤ) (rounds : ℕ) where
   pub chooses : start ≡ roundedSol factor rank (n + 1) draws t drawCount → rounded ≡ roundedObjective factor rank (n + 1) draws t drawCount
-      → Found-by t width start cost rounds answer → b′ ≡ fill (decodedByte n answer) n b → n ≤ length b
+      → Found-by t width start least rounds answer → cost ≡ least → b′ ≡ fill (decodedByte n answer) n b → n ≤ length b
       → Chooses t n rank width drawCount draws factor b b′ rounded cost rounds
-  chooses s r f d room =
+  chooses s r f l d room =
       let s′ : start ≡ roundedSol factor rank (suc n) draws t drawCount = s ∙ ap (λ (m : ℕ). roundedSol factor rank m draws t drawCount) (add-one n) in
       let found : answer ≡ beamSearch t width (roundedSol factor rank (suc n) draws t drawCount) .answer =
-          f .answer-is ∙ ap (λ (x : List ℕ). beamSearch t width x .answer) s′ in
+      f .answer-is ∙ ap (λ (x : List ℕ). beamSearch t width x .answer) s′ in
       record {
         rounded-is = r ∙ ap (λ (m : ℕ). roundedObjective factor rank m draws t drawCount) (add-one n) ∙ rounded-objective factor rank (suc n) draws t drawCount;
-        cost-is = f .least-is ∙ ap (objectiveIn t) found;
+        cost-is = l ∙ f .least-is ∙ ap (objectiveIn t) found;
         rounds-are = f .rounds-are ∙ ap (λ (x : List ℕ). beamSearch t width x .rounds) s′;
         choice-is = d ∙ fill-choice n answer b room ∙ ap (λ (x : List ℕ). over (choiceOf n x) b) found;
       }
 
--- the figures of the sign table are those of (H, c)
+-- ---- what the search asks of an accepted sign table
+
+module _ {m : ℕ} {t : Table} (ok : Accepted mostSigns mostSignEntries mostSignMagnitude m t) where
+  pub sound : {len : ℕ} → len ≡ m → Sound len t
+  sound e = rw e (record { mirrors = accepted-mirrors ok; small = ok .magnitude })
+
+  pub room : {len width space : ℕ} → len ≡ m → width ≤ mostWidth → searchSpace ≤ space → Room 128 len width space
+  room e w s = rw e (record { signs-few = ok .signs; width-few = w; level-room = s })
+
+  -- an objective is an i64
+  pub objective-held : (x : List ℕ) {z : ℤ} → z ≡ objectiveIn t x → toZ w64 (ofZ w64 z) ≡ z
+  objective-held x e = toZ-ofZ (rw e (objective-fits (accepted-mirrors ok) (ok .magnitude) x))
+
+-- ---- the figures of a sign table, and of (H, c)
+
+module _ {t : Table} {n rank width drawCount : ℕ} {draws factor : List Float} {b b′ : List ℕ} {multipliers multipliers′ : List Float}
+    {diagonal bound : Float} {floor rounded cost : ℤ} {rounds : ℕ} where
+  pub works : Accepted mostSigns mostSignEntries mostSignMagnitude (suc n) t → Chooses t n rank width drawCount draws factor b b′ rounded cost rounds
+      → diagonal ≡ diagonalSum t (n + 1) → bound ≡ entrywise t → floor ≡ floorOf t → multipliers′ ≡ over (dualVariables t (n + 1) rank factor) multipliers
+      → Works t n rank width drawCount draws factor b b′ multipliers multipliers′ diagonal bound floor (toZ w64 (ofZ w64 rounded)) (toZ w64 (ofZ w64 cost)) rounds
+  works ok ch d u f m =
+      subst₂ (λ (x y : ℤ). Works t n rank width drawCount draws factor b b′ multipliers multipliers′ diagonal bound floor x y rounds)
+      (sym (objective-held ok _ (ch .rounded-is))) (sym (objective-held ok _ (ch .cost-is)))
+      (record {
+        chooses = ch;
+        diagonal-is = d ∙ ap (diagonalSum t) (add-one n);
+        bound-is = u;
+        floor-is = f;
+        multipliers-are = m ∙ ap (λ (k : ℕ). over (dualVariables t k rank factor) multipliers) (add-one n);
+      })
+
 module _ (n : ℕ) (h : Table) (c : ℕ → ℤ) (rank width drawCount : ℕ) (draws factor : List Float) {b b′ : List ℕ} {multipliers multipliers′ : List Float}
     {diagonal bound : Float} {floor rounded cost : ℤ} {rounds : ℕ} where
   of-signs : Works (signTable n h c) n rank width drawCount draws factor b b′ multipliers multipliers′ diagonal bound floor rounded cost rounds
@@ -77,10 +119,10 @@ module _ (n : ℕ) (h : Table) (c : ℕ → ℤ) (rank width drawCount : ℕ) (d
     multipliers-are = w .multipliers-are;
   }
 
-  pub finalizes : (entries : ℕ) (rows cols : List ℕ) (values : List ℤ) → tableOf entries rows cols values ≡ signTable n h c
-      → Works (tableOf entries rows cols values) n rank width drawCount draws factor b b′ multipliers multipliers′ diagonal bound floor rounded cost rounds
+  pub finalizes : {t : Table} → t ≡ signTable n h c
+      → Works t n rank width drawCount draws factor b b′ multipliers multipliers′ diagonal bound floor rounded cost rounds
       → Finalizes n h c rank width drawCount draws factor b b′ multipliers multipliers′ diagonal bound floor rounded cost rounds
-  finalizes entries rows cols values e w =
+  finalizes e w =
       of-signs (subst (λ (t : Table). Works t n rank width drawCount draws factor b b′ multipliers multipliers′ diagonal bound floor rounded cost rounds) e w)
 
 -- the table that stands at the front of the slices that `sign_matrix` wrote
@@ -90,7 +132,56 @@ pub written : (n : ℕ) (h : Table) (c : ℕ → ℤ) {rows cols rows′ cols′
     → tableOf entries (take entries rows′) (take entries cols′) (take entries values′) ≡ signTable n h c
 written n h c {rows} {cols} {values = values} entries w e r k v =
     let ps = signPlaces n h c in
-    rw (w .rows-are, w .cols-are, w .values-are,
-    taken (rowsOf ps) rows entries (e ∙ sym (length-map ps (λ p. p .0))) r,
-    taken (colsOf ps) cols entries (e ∙ sym (length-map ps (λ p. p .1))) k,
-    taken (valuesOf (signOf n h c) ps) values entries (e ∙ sym (length-map ps (λ p. signOf n h c (p .0) (p .1)))) v, e)
+    rw (
+      w .rows-are,
+      w .cols-are,
+      w .values-are,
+      taken (rowsOf ps) rows entries (e ∙ sym (length-map ps (λ p. p .0))) r,
+      taken (colsOf ps) cols entries (e ∙ sym (length-map ps (λ p. p .1))) k,
+      taken (valuesOf (signOf n h c) ps) values entries (e ∙ sym (length-map ps (λ p. signOf n h c (p .0) (p .1)))) v,
+      e,
+    )
+
+module _ (n : ℕ) (h : Table) (c : ℕ → ℤ) (hall : Hall mostWagons mostEntries mostMagnitude n h c) where
+  pub entries-few : length (signPlaces n h c) ≤ mostSignEntries
+  entries-few = house-sign-table hall .entries
+
+  pub accepted-written : {t : Table} → t ≡ signTable n h c → Accepted mostSigns mostSignEntries mostSignMagnitude (suc n) t
+  accepted-written e = rw e (house-sign-table hall)
+
+pub lent-parts : {entries : ℕ} (rows cols : List ℕ) (values : List ℤ) → entries ≤ length rows → entries ≤ length cols → entries ≤ length values
+    → Lent entries (take entries rows) (take entries cols) (take entries values)
+lent-parts {entries} rows cols values r k v =
+    record {
+      rows-there = omega (arith, length-take-le entries rows r);
+      cols-there = omega (arith, length-take-le entries cols k);
+      values-there = omega (arith, length-take-le entries values v);
+    }
+
+module _ (n rank width drawCount draws factor b multipliers workspace : ℕ) (fits : Fits n rank width drawCount draws factor b multipliers workspace) where
+  -- a factor that is cut to its rows
+  pub cut-fits : (part : ℕ) → part ≡ suc n * rank → Fits n rank width drawCount draws part b multipliers workspace
+  cut-fits part e =
+      record {
+        rank-some = fits .rank-some;
+        rank-few = fits .rank-few;
+        width-few = fits .width-few;
+        draws-some = fits .draws-some;
+        draws-few = fits .draws-few;
+        draws-room = fits .draws-room;
+        factor-room = omega (arith, e);
+        b-room = fits .b-room;
+        multipliers-room = fits .multipliers-room;
+        space-room = fits .space-room;
+      }
+
+  pub search-fits : SearchFits n rank width drawCount draws factor b workspace
+  search-fits =
+      record {
+        width-few = fits .width-few;
+        draws-some = fits .draws-some;
+        draws-room = fits .draws-room;
+        factor-room = fits .factor-room;
+        b-room = fits .b-room;
+        space-room = fits .space-room;
+      }

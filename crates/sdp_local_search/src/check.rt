@@ -1,5 +1,5 @@
 // The numbers of the call: 31, 13 to 16, 19. Nothing is written.
-use tables::check::table_refusal;
+use tables::check::table_number;
 ghost use mathlib.Core.Path.{_≡_};
 ghost use lib.ListN.{length};
 ghost use lib.Dec.{ltb};
@@ -87,7 +87,7 @@ pub fn search_refusal(
     ) {
         return 31;
     }
-    let table = table_refusal(
+    let table = table_number(
         MOST_SIGNS,
         MOST_ENTRIES,
         MOST_MAGNITUDE,

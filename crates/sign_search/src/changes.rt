@@ -24,7 +24,7 @@ pub fn clear(changes: &mut [i64], m: usize)
 }
 
 // A value times a sign's byte.
-fn signed(value: i64, x: u8) -> i64
+pub fn signed(value: i64, x: u8) -> i64
     requires { ⌜ natAbs value ≤ 2 ^ 42 ⌝ }
     ensures { λ r. ⌜ r ≡ value *ℤ sign x ⌝ }
 {

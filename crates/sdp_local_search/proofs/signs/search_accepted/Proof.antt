@@ -6,7 +6,8 @@ use mathlib.Core.Path.{_≡_, _∙_}
 use denote.Ref.{now}
 use Rattle.tables.specs.Table.{tableOf}
 use Rattle.sdp_local_search.specs.BeamSearch.{signBytes}
-use Rattle.sdp_local_search.proofs.Calls.{part-size, found-into}
+use Rattle.sign_search.proofs.ExpandLaws.{part-size}
+use Rattle.sdp_local_search.proofs.Calls.{found-into}
 
 sub-search-from : tie.Need-sub-search-from
 sub-search-from c = search needs
