@@ -11,3 +11,4 @@ pub mod Made
 -- refusals
 pub mod Any
 pub mod Refusal
+pub mod Following

@@ -2,7 +2,9 @@
 // of cases, how many there were and how many differed. docs/REPLAY.md says how the list was made.
 mod cases;
 mod leaves;
+mod table_cases;
 mod text;
+mod typed;
 
 ghost use mathlib.Core.Path.{_≡_};
 ghost use lib.ListN.{length};

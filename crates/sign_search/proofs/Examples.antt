@@ -11,8 +11,8 @@ use Rattle.tables.specs.Table.{Table, tableOf, floorOf}
 use Rattle.tables.specs.Flip as Flip
 use Rattle.tables.specs.Cost as Cost
 use Rattle.tables.specs.Cost.{decodedByte}
-use Rattle.tables.specs.Stored as Stored
-use Rattle.tables.specs.Stored.{signTable}
+use Rattle.sign_table.specs.SignTable as SignTable
+use Rattle.sign_table.specs.SignTable.{signTable}
 use Rattle.local_search.specs.LocalSearch as LocalSearch
 use Rattle.local_search.specs.LocalSearch.{Found}
 use Rattle.local_search.specs.Level as Level
@@ -28,8 +28,8 @@ worked n h c W start =
 -- H_01 = H_10 = 3, c = −1, −1, from +++ at width 1: choice 1, 0; −8 eighths; floor −12; rounds 1
 pub two-wagons : worked 2 (tableOf 2 (0 ∷ 1 ∷ []) (1 ∷ 0 ∷ []) (pos 3 ∷ pos 3 ∷ [])) (negsuc 0 ∷ negsuc 0 ∷ []) 1 (0 ∷ 0 ∷ 0 ∷ [])
     ≡ (record { answer = 1 ∷ 0 ∷ 0 ∷ []; rounds = 1 }, negsuc 7, negsuc 11)
-unfolding beamSearch heightIn objectiveIn changeIn Sum.sum Sum.sum₂ Table.share Table.least Table.valueAt Table.storedAt Flip.flipChange Cost.absorbed Cost.signValue Stored.rowPlaces
-    Stored.places Stored.signKept Stored.signPlaces Lists.anyBelow LocalSearch.insert LocalSearch.insertAll LocalSearch.stableSort LocalSearch.best LocalSearch.concat
+unfolding beamSearch heightIn objectiveIn changeIn Sum.sum Sum.sum₂ Table.share Table.least Table.valueAt Table.storedAt Flip.flipChange SignTable.absorbed SignTable.signValue SignTable.rowPlaces
+    SignTable.places SignTable.signKept SignTable.signPlaces Lists.anyBelow LocalSearch.insert LocalSearch.insertAll LocalSearch.stableSort LocalSearch.best LocalSearch.concat
     LocalSearch.childrenOf LocalSearch.nextLevel LocalSearch.levels LocalSearch.foundIn LocalSearch.searched Level.flipByte Level.flipSign SignSearch.improving SignSearch.signSearch
 two-wagons = refl
 
@@ -39,14 +39,14 @@ two-wagons-choice = refl
 
 -- n 1, H_00 = 2, c_0 = −3, the record example: choice 1; −16 eighths; floor −16; rounds 1
 pub one-wagon : worked 1 (tableOf 1 (0 ∷ []) (0 ∷ []) (pos 2 ∷ [])) (negsuc 2 ∷ []) 1 (0 ∷ 0 ∷ []) ≡ (record { answer = 1 ∷ 0 ∷ []; rounds = 1 }, negsuc 15, negsuc 15)
-unfolding beamSearch heightIn objectiveIn changeIn Sum.sum Sum.sum₂ Table.share Table.least Table.valueAt Table.storedAt Flip.flipChange Cost.absorbed Cost.signValue Stored.rowPlaces
-    Stored.places Stored.signKept Stored.signPlaces Lists.anyBelow LocalSearch.insert LocalSearch.insertAll LocalSearch.stableSort LocalSearch.best LocalSearch.concat
+unfolding beamSearch heightIn objectiveIn changeIn Sum.sum Sum.sum₂ Table.share Table.least Table.valueAt Table.storedAt Flip.flipChange SignTable.absorbed SignTable.signValue SignTable.rowPlaces
+    SignTable.places SignTable.signKept SignTable.signPlaces Lists.anyBelow LocalSearch.insert LocalSearch.insertAll LocalSearch.stableSort LocalSearch.best LocalSearch.concat
     LocalSearch.childrenOf LocalSearch.nextLevel LocalSearch.levels LocalSearch.foundIn LocalSearch.searched Level.flipByte Level.flipSign SignSearch.improving SignSearch.signSearch
 one-wagon = refl
 
 -- n 0: one stored zero; objective, floor and rounds 0
 pub no-wagon : worked 0 (tableOf 0 [] [] []) [] 1 (0 ∷ []) ≡ (record { answer = 0 ∷ []; rounds = 0 }, pos 0, pos 0)
-unfolding beamSearch heightIn objectiveIn changeIn Sum.sum Sum.sum₂ Table.share Table.least Table.valueAt Table.storedAt Flip.flipChange Cost.absorbed Cost.signValue Stored.rowPlaces
-    Stored.places Stored.signKept Stored.signPlaces Lists.anyBelow LocalSearch.insert LocalSearch.insertAll LocalSearch.stableSort LocalSearch.best LocalSearch.concat
+unfolding beamSearch heightIn objectiveIn changeIn Sum.sum Sum.sum₂ Table.share Table.least Table.valueAt Table.storedAt Flip.flipChange SignTable.absorbed SignTable.signValue SignTable.rowPlaces
+    SignTable.places SignTable.signKept SignTable.signPlaces Lists.anyBelow LocalSearch.insert LocalSearch.insertAll LocalSearch.stableSort LocalSearch.best LocalSearch.concat
     LocalSearch.childrenOf LocalSearch.nextLevel LocalSearch.levels LocalSearch.foundIn LocalSearch.searched Level.flipByte Level.flipSign SignSearch.improving SignSearch.signSearch
 no-wagon = refl

@@ -17,8 +17,9 @@ use Rattle.laws.proofs.Sums.{sum-ext, sum₂-ext}
 use Rattle.tables.specs.Table.{Table, valueAt, sameSign, floorOf}
 use Rattle.tables.specs.Cost.{costEighths, decoded, decodedByte}
 use Rattle.tables.specs.Check.{Hall}
-use Rattle.tables.specs.Stored.{signTable}
-use Rattle.tables.proofs.Theorems.{objective-cost, sign-range, sign-rising, sign-mirrored}
+use Rattle.sign_table.specs.SignTable.{signTable}
+use Rattle.sign_table.proofs.Theorems.{objective-cost}
+use Rattle.sign_table.proofs.Sizes.{sign-range, sign-rising, sign-mirrored}
 use Rattle.local_search.specs.Level.{flipByte, flipSign}
 use Rattle.sign_search.specs.Search.{objectiveIn, Mirrors, beamSearch}
 use Rattle.sign_search.specs.Choices.{oneMoved, allMoved}

@@ -1,0 +1,4 @@
+pub mod Written
+pub mod Sizes
+pub mod Examples
+pub mod RoundTrip

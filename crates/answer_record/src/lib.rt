@@ -1,0 +1,3 @@
+// The answer record: written over the front of a slice, and read back.
+pub mod answer;
+pub mod put;

@@ -1,0 +1,13 @@
+-- What the calls answer and lend out.
+use mathlib.Core.Path.{_≡_}
+use mathlib.Core.List.{List}
+use Prim.Native.Nat.{ℕ}
+use lib.IntN.{ℤ}
+use Rattle.laws.specs.Lists.{over}
+use Rattle.table_calls.specs.declared.Eighths.{Eighths}
+use Rattle.table_calls.specs.Answer.{eighthsAnswer, kept}
+
+-- `compute_rounded_sol`: the objective in eighths or the number, and the signs in the first places of `out`, which a refusal leaves
+pub record Rounds (number : ℕ) (objective : ℤ) (signs out : List ℕ) (answer : Eighths) (out′ : List ℕ) : Type 0 where
+  pub answers : answer ≡ eighthsAnswer number objective
+  pub signs-are : out′ ≡ kept number out (over signs out)

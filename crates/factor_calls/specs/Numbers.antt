@@ -1,0 +1,60 @@
+-- The first number of `compute_rounded_sol` on a sign table given directly (01, "Numbers from the state" and "Numbers from the input"), or 0:
+-- 31, 13 to 16, 17, 19. A length that rests on a number which is itself refused isn't tested.
+use mathlib.Core.Bool.{Bool, _&&_}
+use mathlib.Core.List.{List, [], _∷_}
+use Prim.Native.Nat.{ℕ, zero, suc, _*_}
+use lib.Dec.{ltb, eqb}
+use lib.ListN.{length}
+use lib.IntN.{ℤ}
+use Rattle.laws.specs.Refusal.{_if_, first, anyOf, short}
+use Rattle.tables.specs.Limits.{mostSignEntries}
+use Rattle.tables.specs.Check.{shortTable}
+use Rattle.tables.specs.Rank.{defaultRank}
+use Rattle.run_record.specs.Limits.{mostRank, mostDraws}
+use Rattle.table_calls.specs.Numbers.{badSigns, signTableNumber}
+
+-- the rank as given; 0 means the default rank of m
+unfoldable pub rankMeant : ℕ → ℕ → ℕ
+rankMeant m zero = defaultRank m
+rankMeant m (suc r) = suc r
+
+-- 17
+abbrev pub badRank : ℕ → Bool
+badRank rank = ltb mostRank rank
+
+-- 19: draws not 1 to 1,000
+unfoldable pub badDraws : ℕ → Bool
+badDraws k = anyOf (ltb k 1 ∷ ltb mostDraws k ∷ [])
+
+-- 31 of a factor of m rows, which rests on m and the rank
+unfoldable pub factorRefused : ℕ → ℕ → Bool
+factorRefused m rank = anyOf (badSigns m ∷ badRank rank ∷ [])
+
+unfoldable pub factorShort : ℕ → ℕ → ℕ → Bool
+factorShort m rank lent = short (factorRefused m rank) (m * rankMeant m rank) lent
+
+-- 31 of k draws, which rest on their count and the rank, and on m where the rank is its default
+unfoldable pub drawsRefused : ℕ → ℕ → ℕ → Bool
+drawsRefused m rank k = anyOf (badDraws k ∷ badRank rank ∷ (eqb rank 0 && badSigns m) ∷ [])
+
+unfoldable pub drawsShort : ℕ → ℕ → ℕ → ℕ → Bool
+drawsShort m rank k lent = short (drawsRefused m rank k) (k * rankMeant m rank) lent
+
+-- lengths: of the table's slices, of factor, draws and the signs to be lent out
+unfoldable pub roundedShort : ℕ → ℕ → ℕ → ℕ → ℕ → ℕ → ℕ → ℕ → ℕ → ℕ → Bool
+roundedShort m count rows cols values rank factor k draws out =
+    anyOf
+    (shortTable mostSignEntries count rows cols values
+    ∷ factorShort m rank factor
+    ∷ drawsShort m rank k draws
+    ∷ short (badSigns m) m out
+    ∷ [])
+
+unfoldable pub roundedNumber : ℕ → ℕ → List ℕ → List ℕ → List ℤ → ℕ → ℕ → ℕ → ℕ → ℕ → ℕ
+roundedNumber m count rows cols values rank factor k draws out =
+    first
+    (31 if roundedShort m count (length rows) (length cols) (length values) rank factor k draws out
+    ∷ signTableNumber m count rows cols values
+    ∷ 17 if badRank rank
+    ∷ 19 if badDraws k
+    ∷ [])

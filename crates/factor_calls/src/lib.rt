@@ -1,0 +1,107 @@
+// The calls on a sign table given directly that take a factor. None has a `requires`: what can't be used is refused by its number, and a
+// refusal writes nothing.
+mod numbers;
+use numbers::{rank_meant, rounded_number};
+use run_record::MOST_RANK;
+use table_calls::Eighths;
+use tables::limits::MOST_SIGNS;
+ghost use mathlib.Core.Path.{_≡_};
+ghost use Prim.Native.Nat.{_*_, _≤_, _^_};
+ghost use lib.ListN.{length};
+ghost use Rattle.laws.specs.Lists.{over};
+ghost use Rattle.tables.specs.Limits.{mostSigns};
+ghost use Rattle.tables.specs.Table.{tableOf, Lent, InRange, magnitudeOf};
+ghost use Rattle.run_record.specs.Limits.{mostRank};
+ghost use Rattle.rounding.specs.Rounding.{roundedSol, roundedObjective};
+ghost use Rattle.factor_calls.specs.Numbers.{rankMeant, roundedNumber};
+ghost use Rattle.factor_calls.specs.Answers.{Rounds};
+
+// Room for a direction.
+fn direction_room() -> [f64; MOST_RANK]
+    ensures { λ r. ⌜ 32 ≡ length r ⌝ }
+{
+    [0.0; MOST_RANK]
+}
+
+// Room for signs.
+fn signs_room() -> [u8; MOST_SIGNS]
+    ensures { λ r. ⌜ 128 ≡ length r ⌝ }
+{
+    [0; MOST_SIGNS]
+}
+
+// The rounding of accepted arguments, with room for a draw's direction and its signs.
+fn round(
+    m: usize,
+    count: usize,
+    rows: &[u16],
+    cols: &[u16],
+    values: &[i64],
+    rank: usize,
+    factor: &[f64],
+    draw_count: usize,
+    draws: &[f64],
+    out: &mut [u8],
+) -> i64
+    requires { ⌜ Lent count (now rows) (now cols) (now values) × InRange m (tableOf count (now rows) (now cols) (now values))
+        × (magnitudeOf (tableOf count (now rows) (now cols) (now values)) ≤ 2 ^ 42) ⌝ }
+    requires { ⌜ (m * rank ≤ length (now factor)) × («draw_count» * rank ≤ length (now draws)) × (1 ≤ «draw_count») × (m ≤ length (now out)) × (m ≤ mostSigns) × (rank ≤ mostRank) ⌝ }
+    ensures { λ r. ⌜ r ≡ roundedObjective (now (factor .entry)) rank m (now (draws .entry)) (tableOf count (now (rows .entry)) (now (cols .entry)) (now (values .entry))) «draw_count» ⌝ }
+    ensures { λ _. ⌜ now (out .exit) ≡ over (roundedSol (now (factor .entry)) rank m (now (draws .entry)) (tableOf count (now (rows .entry)) (now (cols .entry)) (now (values .entry))) «draw_count») (now (out .entry)) ⌝ }
+{
+    let mut direction = direction_room();
+    let mut signs = signs_room();
+    rounding::compute_rounded_sol(
+        count,
+        rows,
+        cols,
+        values,
+        factor,
+        rank,
+        m,
+        draw_count,
+        draws,
+        &mut direction[..rank],
+        &mut signs[..m],
+        &mut out[..m],
+    )
+}
+
+// The first draw of least objective: its signs in the first places of `out`, and the objective in eighths. A rank of 0 means the default
+// rank of m.
+pub fn compute_rounded_sol(
+    m: usize,
+    count: usize,
+    rows: &[u16],
+    cols: &[u16],
+    values: &[i64],
+    rank: usize,
+    factor: &[f64],
+    draw_count: usize,
+    draws: &[f64],
+    out: &mut [u8],
+) -> Eighths
+    ensures { λ r. ⌜ Rounds (roundedNumber m count (now (rows .entry)) (now (cols .entry)) (now (values .entry)) rank (length (now (factor .entry))) «draw_count» (length (now (draws .entry))) (length (now (out .entry))))
+        (roundedObjective (now (factor .entry)) (rankMeant m rank) m (now (draws .entry)) (tableOf count (now (rows .entry)) (now (cols .entry)) (now (values .entry))) «draw_count»)
+        (roundedSol (now (factor .entry)) (rankMeant m rank) m (now (draws .entry)) (tableOf count (now (rows .entry)) (now (cols .entry)) (now (values .entry))) «draw_count»)
+        (now (out .entry)) r (now (out .exit)) ⌝ }
+{
+    let number = rounded_number(
+        m,
+        count,
+        rows,
+        cols,
+        values,
+        rank,
+        factor.len(),
+        draw_count,
+        draws.len(),
+        out.len(),
+    );
+    if number != 0 {
+        return Eighths::Refused(number);
+    }
+    let meant = rank_meant(m, rank);
+    let objective = round(m, count, rows, cols, values, meant, factor, draw_count, draws, out);
+    Eighths::Value(objective)
+}

@@ -1,0 +1,156 @@
+// The numbers of the calls, in 01's order: 31, 13 to 16, 17, 19.
+use run_record::{MOST_DRAWS, MOST_RANK};
+use tables::check::{short_table, table_number, too_short, wide};
+use tables::limits::{MOST_SIGN_ENTRIES, MOST_SIGN_MAGNITUDE, MOST_SIGNS};
+use tables::rank::default_sdp_rank;
+ghost use mathlib.Core.Path.{_≡_};
+ghost use Prim.Native.Nat.{_≤_};
+ghost use lib.ListN.{length};
+ghost use Rattle.tables.specs.Limits.{mostSigns};
+ghost use Rattle.run_record.specs.Limits.{mostRank};
+ghost use Rattle.table_calls.specs.Numbers.{badSigns};
+ghost use Rattle.factor_calls.specs.Numbers.{rankMeant, badRank, badDraws, factorShort, drawsRefused, drawsShort, roundedShort, roundedNumber};
+
+// 13 of m.
+fn bad_signs(m: usize) -> bool
+    ensures { λ r. ⌜ r ≡ badSigns m ⌝ }
+{
+    if m < 1 {
+        return true;
+    }
+    MOST_SIGNS < m
+}
+
+// 17.
+fn bad_rank(rank: usize) -> bool
+    ensures { λ r. ⌜ r ≡ badRank rank ⌝ }
+{
+    MOST_RANK < rank
+}
+
+// 19.
+fn bad_draws(k: usize) -> bool
+    ensures { λ r. ⌜ r ≡ badDraws k ⌝ }
+{
+    if k < 1 {
+        return true;
+    }
+    MOST_DRAWS < k
+}
+
+// The rank as given; 0 means the default rank of m.
+pub fn rank_meant(m: usize, rank: usize) -> usize
+    requires { ⌜ (rank ≡ 0 → m ≤ mostSigns) × (rank ≤ mostRank) ⌝ }
+    ensures { λ r. ⌜ (r ≡ rankMeant m rank) × (r ≤ mostRank) ⌝ }
+{
+    if rank == 0 {
+        return wide(default_sdp_rank(m as u16));
+    }
+    rank
+}
+
+// 31 of a factor of m rows.
+fn factor_short(m: usize, rank: usize, lent: usize) -> bool
+    ensures { λ r. ⌜ r ≡ factorShort m rank lent ⌝ }
+{
+    if bad_signs(m) {
+        return false;
+    }
+    if bad_rank(rank) {
+        return false;
+    }
+    lent < m * rank_meant(m, rank)
+}
+
+// What k draws' length rests on is refused.
+fn draws_refused(m: usize, rank: usize, k: usize) -> bool
+    ensures { λ r. ⌜ r ≡ drawsRefused m rank k ⌝ }
+{
+    if bad_draws(k) {
+        return true;
+    }
+    if bad_rank(rank) {
+        return true;
+    }
+    if rank == 0 {
+        return bad_signs(m);
+    }
+    false
+}
+
+// 31 of k draws.
+fn draws_short(m: usize, rank: usize, k: usize, lent: usize) -> bool
+    ensures { λ r. ⌜ r ≡ drawsShort m rank k lent ⌝ }
+{
+    if draws_refused(m, rank, k) {
+        return false;
+    }
+    lent < k * rank_meant(m, rank)
+}
+
+// 31 of `compute_rounded_sol`, whose last slices have these lengths.
+fn rounded_short(
+    m: usize,
+    count: usize,
+    rows: &[u16],
+    cols: &[u16],
+    values: &[i64],
+    rank: usize,
+    factor: usize,
+    k: usize,
+    draws: usize,
+    out: usize,
+) -> bool
+    ensures { λ r. ⌜ r ≡ roundedShort m count (length (now (rows .entry))) (length (now (cols .entry))) (length (now (values .entry))) rank factor k draws out ⌝ }
+{
+    if short_table(MOST_SIGN_ENTRIES, count, rows, cols, values) {
+        return true;
+    }
+    if factor_short(m, rank, factor) {
+        return true;
+    }
+    if draws_short(m, rank, k, draws) {
+        return true;
+    }
+    too_short(bad_signs(m), m, out)
+}
+
+// The first number of `compute_rounded_sol`, or 0.
+pub fn rounded_number(
+    m: usize,
+    count: usize,
+    rows: &[u16],
+    cols: &[u16],
+    values: &[i64],
+    rank: usize,
+    factor: usize,
+    k: usize,
+    draws: usize,
+    out: usize,
+) -> u8
+    ensures { λ r. ⌜ r ≡ roundedNumber m count (now (rows .entry)) (now (cols .entry)) (now (values .entry)) rank factor k draws out ⌝ }
+{
+    if rounded_short(m, count, rows, cols, values, rank, factor, k, draws, out) {
+        return 31;
+    }
+    let number = table_number(
+        MOST_SIGNS,
+        MOST_SIGN_ENTRIES,
+        MOST_SIGN_MAGNITUDE,
+        m,
+        count,
+        rows,
+        cols,
+        values,
+    );
+    if number != 0 {
+        return number;
+    }
+    if bad_rank(rank) {
+        return 17;
+    }
+    if bad_draws(k) {
+        return 19;
+    }
+    0
+}

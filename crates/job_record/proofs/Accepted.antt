@@ -1,0 +1,46 @@
+-- What an accepted record holds.
+use Prim.Native.Nat.{ℕ, zero, suc, _+_, _*_, _<_, _≤_}
+use mathlib.Core.Path.{_≡_, refl, sym, ap, _∙_}
+use mathlib.Core.List.{List, [], _∷_}
+use native.Mathlib.Omega.{arith}
+use borrow.Author.Tests.{ltb-false}
+use lib.ListN.{length}
+use Rattle.laws.specs.Refusal.{first}
+use Rattle.laws.proofs.Refusal.{clear, first-head}
+use Rattle.tables.specs.Limits.{mostWagons, mostEntries}
+use Rattle.job_reader.specs.Bytes.{bigEndian}
+use Rattle.job_record.specs.Limits.{mostBytes}
+use Rattle.job_record.specs.Fields.{wagons, entryCount, entryAt, rankAt, settingsAfter}
+use Rattle.job_record.specs.Number.{costsNumbers, jobNumber}
+use Rattle.job_record.specs.Values.{settingsOf, drawsOf, jobRank, jobStartCount, jobDrawn}
+use Rattle.job_record.proofs.Sections.{Settings, Draws, head, run}
+use Rattle.job_record.proofs.Whole.{passed}
+
+pub record Fields (s : List ℕ) : Type 0 where
+  pub small : length s ≤ mostBytes
+  pub there : 8 ≤ length s
+  pub few : wagons s ≤ mostWagons
+  pub short : entryCount s ≤ mostEntries
+  pub entries-end : entryAt (entryCount s) + wagons s * 8 ≡ settingsOf s
+  pub settings : Settings s (settingsOf s)
+  pub start-end : settingsOf s + 36 + jobStartCount s * 8 ≡ drawsOf s
+  pub draws : Draws s (drawsOf s) (jobRank s)
+  pub draws-end : drawsOf s + 2 + jobDrawn s * 8 ≡ length s
+
+pub fields : (s : List ℕ) → jobNumber s ≡ 0 → Fields s
+unfolding settingsOf drawsOf
+fields s e =
+    let p = passed s e in
+    let h = head s (p .head) in
+    let (settings, draws) = run s (wagons s) (settingsAfter (wagons s) (entryCount s)) (p .run) in
+    record {
+      small = h .small;
+      there = h .there;
+      few = h .few;
+      short = h .short;
+      entries-end = refl;
+      settings = settings;
+      start-end = refl;
+      draws = draws;
+      draws-end = draws .end;
+    }

@@ -1,0 +1,9 @@
+pub mod Bounded
+pub mod Sections
+pub mod Ranks
+pub mod Same
+pub mod Entries
+pub mod Whole
+pub mod Accepted
+pub mod Halls
+pub mod Examples

@@ -1,0 +1,94 @@
+use borrow.Author.Needs.{needs}
+use borrow.Author.Needs.{needs}
+use Rattle.job_record.proofs.job.read_job.Statement.{statement}
+use Rattle.job_record.proofs.job.read_job.Tie as tie
+use mathlib.Core.Path.{_≡_, sym, _∙_}
+use native.Mathlib.Omega.{arith}
+use Rattle.job_record.proofs.Accepted.{fields}
+
+u16-at-requires : tie.Need-u16-at-requires
+u16-at-requires c κs = omega (arith, fields (c .before .before .before .before .before .args .job .now) (c .before .before .before .before .before .pre .0) .there)
+
+cast-count : tie.Need-cast-count
+cast-count c = search needs
+
+u8-at-requires : tie.Need-u8-at-requires
+u8-at-requires c κs = omega (arith, fields (c .before .before .before .before .before .before .args .job .now) (c .before .before .before .before .before .before .pre .0) .there)
+
+cast-n : tie.Need-cast-n
+cast-n c = search needs
+
+mul-costs : tie.Need-mul-costs
+mul-costs c = search needs
+
+add-costs : tie.Need-add-costs
+add-costs c = search needs
+
+read-entries-requires : tie.Need-read-entries-requires
+read-entries-requires c κs = let f = fields (c .before .before .before .before .before .before .before .before .before .before .args .job .now) (c .before .before .before .before .before .before .before .before .before .before .pre .0) in (omega (arith, f .entries-end, f .settings .there, c .before .before .before .before .u16-at .ensures), omega (arith, f .short, c .before .before .before .before .u16-at .ensures, c .before .before .before .before .before .before .before .before .before .before .pre .1), omega (arith, f .short, c .before .before .before .before .u16-at .ensures, c .before .before .before .before .before .before .before .before .before .before .pre .2), omega (arith, f .short, c .before .before .before .before .u16-at .ensures, c .before .before .before .before .before .before .before .before .before .before .pre .3))
+
+read-signed-requires : tie.Need-read-signed-requires
+read-signed-requires c κs = let f = fields (c .before .before .before .before .before .before .before .before .before .before .before .before .before .before .before .before .before .args .job .now) (c .before .before .before .before .before .before .before .before .before .before .before .before .before .before .before .before .before .pre .0) in (omega (arith, f .entries-end, f .settings .there, c .before .before .before .before .before .before .before .before .before .before .before .u16-at .ensures, c .before .before .before .before .before .before .before .before .before .before .u8-at .ensures), omega (arith, f .few, c .before .before .before .before .before .before .before .before .before .before .u8-at .ensures, c .before .before .before .before .before .before .before .before .before .before .before .before .before .before .before .before .before .pre .4))
+
+read-start-requires : tie.Need-read-start-requires
+read-start-requires c κs = (c .before .before .before .before .before .before .before .before .before .before .before .before .before .before .before .before .before .before .before .before .pre .0, c .before .before .before .before .before .before .before .before .before .before .before .before .before .before .before .before .before .before .before .before .pre .5)
+
+read-draws-requires : tie.Need-read-draws-requires
+read-draws-requires c κs = (c .before .before .before .before .before .before .before .before .before .before .before .before .before .before .before .before .before .before .before .before .before .before .before .before .pre .0, c .before .before .before .before .before .before .before .before .before .before .before .before .before .before .before .before .before .before .before .before .before .before .before .before .pre .6)
+
+job-of-requires : tie.Need-job-of-requires
+job-of-requires c κs = c .before .before .before .before .before .before .before .before .before .before .before .before .before .before .before .before .before .before .before .before .before .before .before .before .before .before .before .pre .0
+
+same-length : tie.Need-same-length
+same-length c = search needs
+
+same-length-2 : tie.Need-same-length-2
+same-length-2 c = search needs
+
+same-length-3 : tie.Need-same-length-3
+same-length-3 c = search needs
+
+same-length-4 : tie.Need-same-length-4
+same-length-4 c = search needs
+
+same-length-5 : tie.Need-same-length-5
+same-length-5 c = search needs
+
+same-length-6 : tie.Need-same-length-6
+same-length-6 c = search needs
+
+returns : tie.Need-returns
+returns c = (
+  c .job-of .ensures,
+  record {
+    in-rows = c .before .before .before .before .before .before .before .before .before .before .before .before .before .before .before .before .before .read-entries .ensures .0 ∙ simp (c .before .before .before .before .before .before .before .before .before .before .before .before .before .before .before .before .before .before .before .before .before .before .u16-at .ensures);
+    in-cols = c .before .before .before .before .before .before .before .before .before .before .before .before .before .before .before .before .before .read-entries .ensures .1 .0 ∙ simp (c .before .before .before .before .before .before .before .before .before .before .before .before .before .before .before .before .before .before .before .before .before .before .u16-at .ensures);
+    in-values = c .before .before .before .before .before .before .before .before .before .before .before .before .before .before .before .before .before .read-entries .ensures .1 .1 ∙ simp (c .before .before .before .before .before .before .before .before .before .before .before .before .before .before .before .before .before .before .before .before .before .before .u16-at .ensures);
+    in-c = c .before .before .before .before .before .before .before .before .before .before .read-signed .ensures ∙ simp (c .before .before .before .before .before .before .before .before .before .before .before .before .before .before .before .before .before .before .before .before .before .before .u16-at .ensures, c .before .before .before .before .before .before .before .before .before .before .before .before .before .before .before .before .before .before .before .before .before .u8-at .ensures);
+    in-start = c .before .before .before .before .before .before .before .read-start .ensures;
+    in-draws = c .before .before .before .read-draws .ensures;
+  },
+)
+
+pub read-job-spec : {M : Type 1} → statement M
+read-job-spec =
+    tie.close
+    (tie.spec
+    u16-at-requires
+    cast-count
+    u8-at-requires
+    cast-n
+    mul-costs
+    add-costs
+    read-entries-requires
+    read-signed-requires
+    read-start-requires
+    read-draws-requires
+    job-of-requires
+    same-length
+    same-length-2
+    same-length-3
+    same-length-4
+    same-length-5
+    same-length-6
+    returns)

@@ -1,0 +1,68 @@
+use borrow.Author.Needs.{needs}
+use borrow.Author.Needs.{needs}
+use Rattle.job_record.proofs.number.costs_number.Statement.{statement}
+use Rattle.job_record.proofs.number.costs_number.Tie as tie
+use mathlib.Core.Path.{_≡_, refl, sym, ap, _∙_}
+use native.Mathlib.Omega.{arith}
+use borrow.Author.Tests.{lt-ltb, le-ltb}
+use lib.Dec.{ltb, lit≤}
+use lib.ListN.{replicate}
+use lib.IntN.{pos}
+use Rattle.laws.proofs.Following.{answers-if, moves-on-if, passes-last}
+use Rattle.tables.specs.Limits.{mostMagnitude}
+use Rattle.job_record.specs.Number.{costsNumbers}
+use Rattle.job_record.proofs.Entries.{magnitude-is}
+
+mul-at : tie.Need-mul-at
+mul-at c = search needs
+
+add-at : tie.Need-add-at
+add-at c = search needs
+
+mul-if1 : tie.Need-mul-if1
+mul-if1 c = search needs
+
+add-if1 : tie.Need-add-if1
+add-if1 c = search needs
+
+returns : tie.Need-returns
+unfolding costsNumbers
+returns c = answers-if _ _ _ (lt-ltb _ _ (c .if1 .taken))
+
+slice-aggregate-read-signed : tie.Need-slice-aggregate-read-signed
+slice-aggregate-read-signed c = search needs
+
+read-signed-requires : tie.Need-read-signed-requires
+read-signed-requires c κs = search needs
+
+slice-aggregate-hall-too-large : tie.Need-slice-aggregate-hall-too-large
+slice-aggregate-hall-too-large c = search needs
+
+hall-too-large-requires : tie.Need-hall-too-large-requires
+hall-too-large-requires c κs = search needs
+
+returns-2 : tie.Need-returns-2
+unfolding costsNumbers
+returns-2 c = let a = c .before .before .before .before .before .before .before .before .args in
+    moves-on-if _ _ _ (le-ltb _ _ (c .before .before .before .before .before .before .if1 .left)) (answers-if 15 _ _ (ap (ltb mostMagnitude) (sym (magnitude-is (a .job .now) (a .n) (a .count) (replicate 127 (pos 0)) (a .values .now) (c .before .before .before .before .read-signed .ensures) (omega arith) (c .before .before .before .before .before .before .before .before .pre .3))) ∙ sym (c .before .hall-too-large .ensures) ∙ c .if2 .taken))
+
+returns-3 : tie.Need-returns-3
+unfolding costsNumbers
+returns-3 c = let a = c .before .before .before .before .before .before .before .before .args in
+    moves-on-if _ _ _ (le-ltb _ _ (c .before .before .before .before .before .before .if1 .left)) (passes-last 16 _ (ap (ltb mostMagnitude) (sym (magnitude-is (a .job .now) (a .n) (a .count) (replicate 127 (pos 0)) (a .values .now) (c .before .before .before .before .read-signed .ensures) (omega arith) (c .before .before .before .before .before .before .before .before .pre .3))) ∙ sym (c .before .hall-too-large .ensures) ∙ c .if2 .left))
+
+pub costs-number-spec : {M : Type 1} → statement M
+costs-number-spec =
+    tie.close
+    (tie.spec
+    mul-at
+    add-at
+    mul-if1
+    add-if1
+    returns
+    slice-aggregate-read-signed
+    read-signed-requires
+    slice-aggregate-hall-too-large
+    hall-too-large-requires
+    returns-2
+    returns-3)

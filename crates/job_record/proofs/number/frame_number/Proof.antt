@@ -1,0 +1,38 @@
+use borrow.Author.Needs.{needs}
+use borrow.Author.Needs.{needs}
+use Rattle.job_record.proofs.number.frame_number.Statement.{statement}
+use Rattle.job_record.proofs.number.frame_number.Tie as tie
+use mathlib.Core.Path.{_≡_, sym, ap, _∙_}
+use native.Mathlib.Omega.{arith}
+use borrow.Author.Tests.{lt-ltb, le-ltb, eq-eqb, ne-eqb}
+use Rattle.laws.specs.Refusal.{first, orElse}
+use Rattle.job_record.specs.Number.{frameNumber}
+
+returns : tie.Need-returns
+unfolding frameNumber first orElse
+returns c = simp (lt-ltb _ _ (c .if1 .taken))
+
+returns-2 : tie.Need-returns-2
+unfolding frameNumber first orElse
+returns-2 c = simp (le-ltb _ _ (c .before .if1 .left), lt-ltb _ _ (c .if2 .taken))
+
+u32-at-requires : tie.Need-u32-at-requires
+u32-at-requires c κs = search needs
+
+cast-if3 : tie.Need-cast-if3
+cast-if3 c = search needs
+
+add-if3 : tie.Need-add-if3
+add-if3 c = search needs
+
+returns-3 : tie.Need-returns-3
+unfolding frameNumber first orElse
+returns-3 c = simp (le-ltb _ _ (c .before .before .before .if1 .left), le-ltb _ _ (c .before .before .if2 .left), ← c .before .u32-at .ensures, ne-eqb _ _ (c .if3 .taken))
+
+returns-4 : tie.Need-returns-4
+unfolding frameNumber first orElse
+returns-4 c = simp (le-ltb _ _ (c .before .before .before .if1 .left), le-ltb _ _ (c .before .before .if2 .left), ← c .before .u32-at .ensures, eq-eqb _ _ (c .if3 .left))
+
+pub frame-number-spec : {M : Type 1} → statement M
+frame-number-spec =
+    tie.close (tie.spec returns returns-2 u32-at-requires cast-if3 add-if3 returns-3 returns-4)

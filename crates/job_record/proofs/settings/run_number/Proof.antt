@@ -1,0 +1,88 @@
+use borrow.Author.Needs.{needs}
+use borrow.Author.Needs.{needs}
+use Rattle.job_record.proofs.settings.run_number.Statement.{statement}
+use Rattle.job_record.proofs.settings.run_number.Tie as tie
+use mathlib.Core.Path.{_≡_, sym, ap, _∙_}
+use native.Mathlib.Omega.{arith}
+use Rattle.laws.proofs.Refusal.{stop, pass}
+use Rattle.laws.proofs.Following.{first-append}
+use Rattle.job_record.specs.Number.{runNumbers, settingsNumbers, drawsNumbers}
+use Rattle.job_record.specs.Fields.{rankOf, drawsAfter}
+use Rattle.job_record.proofs.Sections.{settings}
+
+settings-number-requires : tie.Need-settings-number-requires
+settings-number-requires c κs = search needs
+
+returns : tie.Need-returns
+unfolding runNumbers
+returns c = let a = c .before .before .before .args in stop _ _ (c .before .settings-number .ensures) (c .if1 .taken) ∙ sym (first-append (settingsNumbers (a .job .now) (a .at)) (drawsNumbers (a .job .now) (drawsAfter (a .job .now) (a .n) (a .at)) (rankOf (a .job .now) (a .n) (a .at))))
+
+add-rank-meant : tie.Need-add-rank-meant
+add-rank-meant c = search needs
+
+u8-at-requires : tie.Need-u8-at-requires
+u8-at-requires c κs = let a = c .before .before .before .args in omega (arith, settings (a .job .now) (a .at) (sym (c .before .settings-number .ensures) ∙ c .if1 .left) .there)
+
+cast-rank-meant : tie.Need-cast-rank-meant
+cast-rank-meant c = search needs
+
+rank-meant-requires : tie.Need-rank-meant-requires
+rank-meant-requires c κs = let a = c .before .before .before .before .args in (omega arith, omega (arith, c .u8-at .ensures, settings (a .job .now) (a .at) (sym (c .before .before .settings-number .ensures) ∙ c .before .if1 .left) .rank))
+
+add-u8-at : tie.Need-add-u8-at
+add-u8-at c = search needs
+
+u8-at-requires-2 : tie.Need-u8-at-requires-2
+u8-at-requires-2 c κs = let a = c .before .before .before .before .before .args in omega (arith, settings (a .job .now) (a .at) (sym (c .before .before .before .settings-number .ensures) ∙ c .before .before .if1 .left) .there)
+
+add-start-count : tie.Need-add-start-count
+add-start-count c = search needs
+
+add-u32-at : tie.Need-add-u32-at
+add-u32-at c = search needs
+
+u32-at-requires : tie.Need-u32-at-requires
+u32-at-requires c κs = let a = c .before .before .before .before .before .before .args in omega (arith, settings (a .job .now) (a .at) (sym (c .before .before .before .before .settings-number .ensures) ∙ c .before .before .before .if1 .left) .there)
+
+start-count-requires : tie.Need-start-count-requires
+start-count-requires c κs = omega (arith, c .before .before .rank-meant .ensures)
+
+add-draws-number : tie.Need-add-draws-number
+add-draws-number c = search needs
+
+mul-draws-number : tie.Need-mul-draws-number
+mul-draws-number c = omega (arith, c .start-count .ensures)
+
+add-draws-number-2 : tie.Need-add-draws-number-2
+add-draws-number-2 c = omega (arith, c .start-count .ensures)
+
+draws-number-requires : tie.Need-draws-number-requires
+draws-number-requires c κs = omega (arith, c .start-count .ensures, c .before .before .before .rank-meant .ensures)
+
+returns-2 : tie.Need-returns-2
+unfolding runNumbers
+returns-2 c = let a = c .before .before .before .before .before .before .before .before .before .args in
+    pass _ _ (c .before .before .before .before .before .before .before .settings-number .ensures) (c .before .before .before .before .before .before .if1 .left) (c .draws-number .ensures ∙ simp (c .before .start-count .ensures .0, c .before .before .before .before .rank-meant .ensures .0, c .before .before .u32-at .ensures, c .before .before .before .u8-at2 .ensures, c .before .before .before .before .before .u8-at .ensures))
+    ∙ sym (first-append (settingsNumbers (a .job .now) (a .at)) (drawsNumbers (a .job .now) (drawsAfter (a .job .now) (a .n) (a .at)) (rankOf (a .job .now) (a .n) (a .at))))
+
+pub run-number-spec : {M : Type 1} → statement M
+run-number-spec =
+    tie.close
+    (tie.spec
+    settings-number-requires
+    returns
+    add-rank-meant
+    u8-at-requires
+    cast-rank-meant
+    rank-meant-requires
+    add-u8-at
+    u8-at-requires-2
+    add-start-count
+    add-u32-at
+    u32-at-requires
+    start-count-requires
+    add-draws-number
+    mul-draws-number
+    add-draws-number-2
+    draws-number-requires
+    returns-2)

@@ -1,0 +1,98 @@
+-- The fields of a job record in reading order (01, "Job and answer records"): where each stands, and what it holds.
+use Prim.Native.Nat.{ℕ, zero, suc, _+_, _*_}
+use mathlib.Core.Bool.{cond, _&&_}
+use mathlib.Core.List.{List}
+use lib.Dec.{ltb}
+use lib.IntN.{ℤ}
+use lib.Ieee.{Float}
+use Rattle.tables.specs.Table.{Table}
+use Rattle.tables.specs.Rank.{defaultRank}
+use Rattle.job_reader.specs.Bytes.{bigEndian, signedAt, doubleAt}
+
+-- length of the rest (4), version (1), n (1), entry count (2)
+abbrev pub restLength : List ℕ → ℕ
+restLength s = bigEndian s 0 4
+
+abbrev pub version : List ℕ → ℕ
+version s = bigEndian s 4 1
+
+abbrev pub wagons : List ℕ → ℕ
+wagons s = bigEndian s 5 1
+
+abbrev pub entryCount : List ℕ → ℕ
+entryCount s = bigEndian s 6 2
+
+-- entries (row 1, column 1, value 8 signed), and the table of the first of them
+abbrev pub entryAt : ℕ → ℕ
+entryAt k = 8 + k * 10
+
+abbrev pub row : List ℕ → ℕ → ℕ
+row s k = bigEndian s (entryAt k) 1
+
+abbrev pub column : List ℕ → ℕ → ℕ
+column s k = bigEndian s (entryAt k + 1) 1
+
+abbrev pub value : List ℕ → ℕ → ℤ
+value s k = signedAt s (entryAt k + 2)
+
+abbrev pub entries : List ℕ → ℕ → Table
+entries s count = record { count = count; row = row s; column = column s; value = value s }
+
+-- number i of those of 8 bytes that start at `at`: signed, and doubles
+abbrev pub signedFrom : List ℕ → ℕ → ℕ → ℤ
+signedFrom s at i = signedAt s (at + i * 8)
+
+abbrev pub doubleFrom : List ℕ → ℕ → ℕ → Float
+doubleFrom s at i = doubleAt s (at + i * 8)
+
+-- c (8 signed each) follows the entries, and the settings follow c
+abbrev pub settingsAfter : ℕ → ℕ → ℕ
+settingsAfter n count = entryAt count + n * 8
+
+-- the settings from `at` on: rank (1), rule (1), its number (8), most sweeps (4), minimum (4), objective tolerance (8), stationarity
+-- tolerance (8), W (1), start (1)
+abbrev pub rankAt : List ℕ → ℕ → ℕ
+rankAt s at = bigEndian s at 1
+
+abbrev pub ruleAt : List ℕ → ℕ → ℕ
+ruleAt s at = bigEndian s (at + 1) 1
+
+abbrev pub ruleNumberAt : List ℕ → ℕ → Float
+ruleNumberAt s at = doubleAt s (at + 2)
+
+abbrev pub mostAt : List ℕ → ℕ → ℕ
+mostAt s at = bigEndian s (at + 10) 4
+
+abbrev pub minimumAt : List ℕ → ℕ → ℕ
+minimumAt s at = bigEndian s (at + 14) 4
+
+abbrev pub objectiveToleranceAt : List ℕ → ℕ → Float
+objectiveToleranceAt s at = doubleAt s (at + 18)
+
+abbrev pub stationarityToleranceAt : List ℕ → ℕ → Float
+stationarityToleranceAt s at = doubleAt s (at + 26)
+
+abbrev pub widthAt : List ℕ → ℕ → ℕ
+widthAt s at = bigEndian s (at + 34) 1
+
+abbrev pub startAt : List ℕ → ℕ → ℕ
+startAt s at = bigEndian s (at + 35) 1
+
+-- the rank, for m signs: as given; 0 means the default rank
+unfoldable pub rankMeant : ℕ → ℕ → ℕ
+rankMeant m zero = defaultRank m
+rankMeant m (suc r) = suc r
+
+-- the doubles of a start (kinds 0, 1: m·rank; 2: m, then m·rank draws if most > 0 and rank > 1)
+unfoldable pub startCount : ℕ → ℕ → ℕ → ℕ → ℕ
+startCount kind m rank most = cond (ltb kind 2) (m * rank) (m + cond (ltb 0 most && ltb 1 rank) (m * rank) 0)
+
+-- the same of n wagons and the settings from `at` on, and where the draw count (2) stands: behind the start's doubles
+abbrev pub rankOf : List ℕ → ℕ → ℕ → ℕ
+rankOf s n at = rankMeant (n + 1) (rankAt s at)
+
+abbrev pub startCountOf : List ℕ → ℕ → ℕ → ℕ
+startCountOf s n at = startCount (startAt s at) (n + 1) (rankOf s n at) (mostAt s at)
+
+abbrev pub drawsAfter : List ℕ → ℕ → ℕ → ℕ
+drawsAfter s n at = at + 36 + startCountOf s n at * 8
