@@ -10,8 +10,10 @@ use denote.Ref.{now}
 use lib.ListN.{length, take}
 use lib.Seq.{length-take-le}
 use Rattle.laws.specs.Lists.{elemZ}
+use Rattle.tables.specs.Limits.{mostSigns}
 use Rattle.tables.specs.Table.{tableOf}
 use Rattle.sign_table.proofs.Sizes.{hall-convertible}
+use Rattle.finalize.specs.Limits.{mostRank}
 use Rattle.finalize.proofs.Assembled.{Cut, cut, cut-accepted, cut-lent, cut-fits, finalizes}
 use Rattle.finalize.proofs.finalize.Statement.{statement}
 use Rattle.finalize.proofs.finalize.Tie as tie
@@ -47,8 +49,8 @@ sign-matrix-requires c κs =
 mul-size : tie.Need-mul-size
 mul-size c =
     let a = c .before .before .before .before .before .before .before .before .before .before .before .before .before .before .before .before .before .args in
-    let m : a .n + 1 ≤ 128 = omega (arith, c .before .before .before .before .before .before .before .before .before .before .before .before .before .before .before .before .before .pre .0 .2 .wagons) in
-    let size : (a .n + 1) * a .rank ≤ 128 * 32 = mul-le-mul m (c .before .before .before .before .before .before .before .before .before .before .before .before .before .before .before .before .before .pre .1 .rank-few) in
+    let m : a .n + 1 ≤ mostSigns = omega (arith, c .before .before .before .before .before .before .before .before .before .before .before .before .before .before .before .before .before .pre .0 .2 .wagons) in
+    let size : (a .n + 1) * a .rank ≤ mostSigns * mostRank = mul-le-mul m (c .before .before .before .before .before .before .before .before .before .before .before .before .before .before .before .before .before .pre .1 .rank-few) in
     omega (arith, size)
 
 rows-cut : tie.Need-slice-aggregate-finalize-signs

@@ -7,8 +7,10 @@ use native.Mathlib.Omega.{arith}
 use denote.Ref.{now}
 use lib.ListN.{length}
 use lib.Seq.{length-take-le}
+use Rattle.tables.specs.Limits.{mostSigns}
 use Rattle.tables.specs.Table.{tableOf}
 use Rattle.prepared_table.proofs.Preparing.{length-diagonalOf, work-front}
+use Rattle.finalize.specs.Limits.{mostRank}
 use Rattle.finalize.proofs.Fronts.{length-dual}
 use Rattle.finalize.proofs.multipliers.multipliers.Statement.{statement}
 use Rattle.finalize.proofs.multipliers.multipliers.Tie as tie
@@ -21,7 +23,7 @@ diagonal-fits c = omega (arith, c .diagonal .kept .1 .1 .1 .1 .1 .0, c .before .
 
 product-fits : (c : tie.After-diagonal) → c .before .before .before .before .before .before .before .before .before .before .before .before .args .m * c .before .before .before .before .before .before .before .before .before .before .before .before .args .rank ≤ length (c .before .before .rows-of-numbers .result)
 product-fits c =
-    let size : c .before .before .before .before .before .before .before .before .before .before .before .before .args .m * c .before .before .before .before .before .before .before .before .before .before .before .before .args .rank ≤ 128 * 32 = mul-le-mul (c .before .before .before .before .before .before .before .before .before .before .before .before .pre .1 .0) (c .before .before .before .before .before .before .before .before .before .before .before .before .pre .1 .2) in
+    let size : c .before .before .before .before .before .before .before .before .before .before .before .before .args .m * c .before .before .before .before .before .before .before .before .before .before .before .before .args .rank ≤ mostSigns * mostRank = mul-le-mul (c .before .before .before .before .before .before .before .before .before .before .before .before .pre .1 .0) (c .before .before .before .before .before .before .before .before .before .before .before .before .pre .1 .2) in
     omega (arith, c .before .before .rows-of-numbers .ensures, size)
 
 multiply-out-requires : tie.Need-multiply-out-requires
