@@ -11,14 +11,12 @@ use lib.Dec.{T}
 use lib.ListN.{length, getD, length-append}
 use lib.IntN.{ℤ, pos}
 use lib.Ieee.{Float, nan, binary64, fits}
-use lib.Ieee.Bits.{ofBits-toBits, toBits-lt}
 use mir.Syntax.{w64}
 use mir.Val.{SFits}
-use mir.ValLaws.{toZ-ofZ, ofZ-fits}
 use Rattle.ieee.specs.Floats.{doubleOf, bitsOf, signedOf, bitsOfSigned}
 use Rattle.job_reader.specs.Bytes.{bigEndian, signedAt, doubleAt}
 use Rattle.job_reader.specs.Encode.{bytesOf}
-use Rattle.job_reader.proofs.Encode.{length-bytesOf, read-front, read-bytes}
+use Rattle.job_reader.proofs.Encode.{length-bytesOf, read-front, read-bytes, read-signed, read-double}
 use Rattle.job_record.specs.Fields.{wagons, entryCount, row, column, value, rankMeant, startCount}
 use Rattle.job_record.specs.Values.{settingsOf, drawsOf, jobOf, jobCost, jobStart, jobDraw}
 use Rattle.job_record.specs.declared.job.Job.{Job}
@@ -46,14 +44,6 @@ settings-size v = simp (length-append, length-bytesOf)
 head-size : (rest n count : ℕ) → length (headBytes rest n count) ≡ 8
 unfolding headBytes
 head-size rest n count = simp (length-append, length-bytesOf)
-
--- ---- one number
-
-signed-is : (z : ℤ) → SFits w64 z → signedOf (bigEndian (bytesOf 8 (bitsOfSigned z)) 0 8) ≡ z
-signed-is z h = ap signedOf (read-bytes 8 (bitsOfSigned z) (ofZ-fits w64 z h .fits)) ∙ toZ-ofZ w64 z h
-
-double-is : (x : Float) → T (fits binary64 x) → doubleOf (bigEndian (bytesOf 8 (bitsOf x)) 0 8) ≡ x
-double-is x h = ap doubleOf (read-bytes 8 (bitsOf x) (toBits-lt binary64 x h)) ∙ ofBits-toBits binary64 x h
 
 -- the values are of the fields' types
 pub record Held (v : Values) : Type 0 where
@@ -144,15 +134,15 @@ entry-column e h = read-bytes 1 (e .column) h
 
 entry-value : (e : Entry) → SFits w64 (e .value) → signedOf (bigEndian (entryBytes e) 2 8) ≡ e .value
 unfolding entryBytes bytesOf bigEndian
-entry-value e h = signed-is (e .value) h
+entry-value e h = read-signed (e .value) h
 
 signed-value : (z : ℤ) → SFits w64 z → signedOf (bigEndian (signedBytes z) 0 8) ≡ z
 unfolding signedBytes
-signed-value z h = signed-is z h
+signed-value z h = read-signed z h
 
 double-value : (x : Float) → T (fits binary64 x) → doubleOf (bigEndian (doubleBytes x) 0 8) ≡ x
 unfolding doubleBytes
-double-value x h = double-is x h
+double-value x h = read-double x h
 
 module _ (v : Values) (held : Held v) where
   pub wagons-back : wagons (jobBytes v) ≡ length (v .c)
@@ -200,7 +190,7 @@ module _ (v : Values) where
 
   set-number : T (fits binary64 (v .ruleNumber)) → doubleOf (bigEndian (settingsBytes v) 2 8) ≡ v .ruleNumber
   unfolding settingsBytes bytesOf bigEndian
-  set-number h = double-is (v .ruleNumber) h
+  set-number h = read-double (v .ruleNumber) h
 
   set-most : v .most < 2 ^ 32 → bigEndian (settingsBytes v) 10 4 ≡ v .most
   unfolding settingsBytes bytesOf bigEndian
@@ -212,11 +202,11 @@ module _ (v : Values) where
 
   set-objective : T (fits binary64 (v .objectiveTolerance)) → doubleOf (bigEndian (settingsBytes v) 18 8) ≡ v .objectiveTolerance
   unfolding settingsBytes bytesOf bigEndian
-  set-objective h = double-is (v .objectiveTolerance) h
+  set-objective h = read-double (v .objectiveTolerance) h
 
   set-stationarity : T (fits binary64 (v .stationarityTolerance)) → doubleOf (bigEndian (settingsBytes v) 26 8) ≡ v .stationarityTolerance
   unfolding settingsBytes bytesOf bigEndian
-  set-stationarity h = double-is (v .stationarityTolerance) h
+  set-stationarity h = read-double (v .stationarityTolerance) h
 
   set-width : v .width < 2 ^ 8 → bigEndian (settingsBytes v) 34 1 ≡ v .width
   unfolding settingsBytes bytesOf bigEndian
