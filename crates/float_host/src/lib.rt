@@ -6,10 +6,11 @@ ghost use lib.ListN.{length};
 ghost use Rattle.factor.specs.Norms.{dotOf};
 ghost use Rattle.factor.specs.Vectors.{norm, projected, unit};
 ghost use Rattle.factor.specs.Multiply.{productOf, gradOf};
-ghost use Rattle.factor.specs.Shapes.{Shaped, ColumnsWithin};
+ghost use Rattle.factor.specs.Shapes.{Shaped, ObjFits, ColumnsWithin};
 ghost use Rattle.maxcut_oracle.specs.Objective.{multipliers, objFromProduct, objOf};
 ghost use Rattle.maxcut_oracle.specs.Check.{residualOf, frobenius};
 ghost use Rattle.rounding.specs.Rounding.{drawSigns};
+ghost use Rattle.step_rules.specs.Rule.{ruleOf, stepped};
 ghost use Rattle.initialize.specs.Initialize.{startRows, startSigns, startDrawn};
 
 #[no_mangle]
@@ -150,4 +151,38 @@ pub extern "C" fn host_grad(
     ensures { λ _. ⌜ now (out .exit) ≡ gradOf (now (cols .entry)) (now (values .entry)) (now (starts .entry)) (now (factor .entry)) rank m ⌝ }
 {
     factor::product::grad(cols, values, starts, factor, rank, m, out);
+}
+
+#[no_mangle]
+pub extern "C" fn host_step(
+    rule: u8,
+    number: f64,
+    rows: &[u16],
+    cols: &[u16],
+    values: &[f64],
+    starts: &[usize],
+    m: usize,
+    rank: usize,
+    factor: &mut [f64],
+    scratch: &mut [f64],
+    moved: &mut [f64],
+)
+    requires { ⌜ rule ≤ 4 ⌝ }
+    requires { ⌜ Shaped (now cols) (now values) (now starts) (now factor) m rank ⌝ }
+    requires { ⌜ ObjFits (now rows) (now cols) (now values) rank (m * rank) ⌝ }
+    requires { ⌜ (length (now scratch) ≡ m * rank) × (length (now moved) ≡ m * rank) × (rank ≤ m * rank) ⌝ }
+    ensures { λ _. ⌜ now (factor .exit) ≡ stepped (ruleOf rule number) (now (rows .entry)) (now (cols .entry)) (now (values .entry)) (now (starts .entry)) m rank (now (factor .entry)) ⌝ }
+{
+    step_rules::step(
+        step_rules::rule_of(rule, number),
+        rows,
+        cols,
+        values,
+        starts,
+        m,
+        rank,
+        factor,
+        scratch,
+        moved,
+    );
 }
