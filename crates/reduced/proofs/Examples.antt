@@ -10,7 +10,7 @@ use Rattle.laws.specs.Rows.{mapFirst}
 use Rattle.laws.specs.Turns.{upTo}
 use Rattle.laws.specs.Refusal.{orElse, first, firstOf, anyOf, short}
 use Rattle.tables.specs.Table.{valueAt, storedAt}
-use Rattle.sign_table.specs.SignTable.{rowPlaces, places, valuesOf}
+use Rattle.tables.specs.Stored.{rowPlaces, places, valuesOf}
 use Rattle.tables.specs.Check.{before, badEntry, badOrder}
 use Rattle.reduced.specs.Limits.{mostSize, mostEntries}
 use Rattle.reduced.specs.Indices.{outside, twice, indexRefused}

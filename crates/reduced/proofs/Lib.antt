@@ -1,4 +1,3 @@
-mod Written
 pub mod Put
 pub mod Distinct
 pub mod Lifting

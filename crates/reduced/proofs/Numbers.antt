@@ -13,7 +13,7 @@ use Rattle.laws.specs.Refusal.{_if_, first, short}
 use Rattle.laws.proofs.Refusal.{clear, first-here, first-skip, first-next, first-found, first-end, first-head, first-rest}
 use Rattle.laws.proofs.Any.{any-head, any-rest, any-not, any-none}
 use Rattle.tables.specs.Table.{Lent}
-use Rattle.sign_table.specs.Walk.{Wrote, Room}
+use Rattle.tables.specs.Stored.{Wrote, Room}
 use Rattle.tables.specs.Check.{badOrder}
 use Rattle.tables.proofs.Checks.{order-range, order-rising, order-passes}
 use Rattle.reduced.specs.Limits.{mostSize, mostEntries}

@@ -9,11 +9,10 @@ use lib.ListN.{length, getD}
 use lib.IntN.{ℤ}
 use Rattle.laws.specs.Lists.{elem, elemZ}
 use Rattle.tables.specs.Table.{Table, InRange, Rising}
-use Rattle.sign_table.specs.SignTable.{rowsOf, colsOf, valuesOf}
+use Rattle.tables.specs.Stored.{rowsOf, colsOf, valuesOf}
 use Rattle.tables.proofs.Mirrors.{value-here, stored-true, stored-here}
-use Rattle.sign_table.proofs.Kept.{place-at, places-have, row-listed, col-listed, value-listed}
-use Rattle.sign_table.proofs.Slices.{Same}
-use Rattle.reduced.proofs.Written.{written-same}
+use Rattle.tables.proofs.Kept.{place-at, places-have, row-listed, col-listed, value-listed}
+use Rattle.tables.proofs.Slices.{Same, written-same}
 use Rattle.reduced.specs.Limits.{mostSize, mostEntries}
 use Rattle.reduced.specs.declared.from_principal_submatrix.Reduced.the-variants.{Count}
 use Rattle.reduced.specs.Submatrix.{Slices, tableIn, keptIn, valueIn, reducedPlaces, Reduces, Acceptable, Stands}
