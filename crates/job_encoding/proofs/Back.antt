@@ -25,23 +25,23 @@ use Rattle.job_encoding.proofs.Each.{past, length-each, read-each}
 
 -- ---- parts of one size
 
-entry-size : (e : Entry) → length (entryBytes e) ≡ 10
+pub entry-size : (e : Entry) → length (entryBytes e) ≡ 10
 unfolding entryBytes
 entry-size e = simp (length-append, length-bytesOf)
 
-signed-size : (z : ℤ) → length (signedBytes z) ≡ 8
+pub signed-size : (z : ℤ) → length (signedBytes z) ≡ 8
 unfolding signedBytes
 signed-size z = length-bytesOf 8 (bitsOfSigned z)
 
-double-size : (x : Float) → length (doubleBytes x) ≡ 8
+pub double-size : (x : Float) → length (doubleBytes x) ≡ 8
 unfolding doubleBytes
 double-size x = length-bytesOf 8 (bitsOf x)
 
-settings-size : (v : Values) → length (settingsBytes v) ≡ 36
+pub settings-size : (v : Values) → length (settingsBytes v) ≡ 36
 unfolding settingsBytes
 settings-size v = simp (length-append, length-bytesOf)
 
-head-size : (rest n count : ℕ) → length (headBytes rest n count) ≡ 8
+pub head-size : (rest n count : ℕ) → length (headBytes rest n count) ≡ 8
 unfolding headBytes
 head-size rest n count = simp (length-append, length-bytesOf)
 
@@ -184,11 +184,11 @@ module _ (v : Values) where
   unfolding settingsBytes bytesOf bigEndian
   set-rank h = read-bytes 1 (v .rank) h
 
-  set-rule : v .rule < 2 ^ 8 → bigEndian (settingsBytes v) 1 1 ≡ v .rule
+  pub set-rule : v .rule < 2 ^ 8 → bigEndian (settingsBytes v) 1 1 ≡ v .rule
   unfolding settingsBytes bytesOf bigEndian
   set-rule h = read-bytes 1 (v .rule) h
 
-  set-number : T (fits binary64 (v .ruleNumber)) → doubleOf (bigEndian (settingsBytes v) 2 8) ≡ v .ruleNumber
+  pub set-number : T (fits binary64 (v .ruleNumber)) → doubleOf (bigEndian (settingsBytes v) 2 8) ≡ v .ruleNumber
   unfolding settingsBytes bytesOf bigEndian
   set-number h = read-double (v .ruleNumber) h
 
@@ -208,7 +208,7 @@ module _ (v : Values) where
   unfolding settingsBytes bytesOf bigEndian
   set-stationarity h = read-double (v .stationarityTolerance) h
 
-  set-width : v .width < 2 ^ 8 → bigEndian (settingsBytes v) 34 1 ≡ v .width
+  pub set-width : v .width < 2 ^ 8 → bigEndian (settingsBytes v) 34 1 ≡ v .width
   unfolding settingsBytes bytesOf bigEndian
   set-width h = read-bytes 1 (v .width) h
 
@@ -223,30 +223,30 @@ same : {n n′ count count′ rank rank′ rule rule′ most most′ minimum min
 same a b c d e f g h i j k l = rw (a, b, c, d, e, f, g, h, i, j, k, l)
 
 module _ (v : Values) (held : Held v) where
-  settings-at : settingsOf (jobBytes v) ≡ 8 + length (v .entries) * 10 + length (v .c) * 8
+  pub settings-at : settingsOf (jobBytes v) ≡ 8 + length (v .entries) * 10 + length (v .c) * 8
   unfolding settingsOf
   settings-at = rw (wagons-back v held, count-back v held)
 
-  setting-at : (p w : ℕ) → p + w ≤ 36 → bigEndian (jobBytes v) (settingsOf (jobBytes v) + p) w ≡ bigEndian (settingsBytes v) p w
+  pub setting-at : (p w : ℕ) → p + w ≤ 36 → bigEndian (jobBytes v) (settingsOf (jobBytes v) + p) w ≡ bigEndian (settingsBytes v) p w
   setting-at p w h =
       ap (λ (q : ℕ). bigEndian (jobBytes v) (q + p) w) settings-at ∙ at-settings v p w ∙ read-front (settingsBytes v) (starting v) p w (omega (arith, settings-size v))
 
-  rank-is : bigEndian (jobBytes v) (settingsOf (jobBytes v)) 1 ≡ v .rank
+  pub rank-is : bigEndian (jobBytes v) (settingsOf (jobBytes v)) 1 ≡ v .rank
   rank-is =
       let e : settingsOf (jobBytes v) ≡ settingsOf (jobBytes v) + 0 = omega arith in
       ap (λ (q : ℕ). bigEndian (jobBytes v) q 1) e ∙ setting-at 0 1 (omega arith) ∙ set-rank v (held .rank)
 
-  most-is : bigEndian (jobBytes v) (settingsOf (jobBytes v) + 10) 4 ≡ v .most
+  pub most-is : bigEndian (jobBytes v) (settingsOf (jobBytes v) + 10) 4 ≡ v .most
   most-is = setting-at 10 4 (omega arith) ∙ set-most v (held .most)
 
-  start-is : bigEndian (jobBytes v) (settingsOf (jobBytes v) + 35) 1 ≡ v .start
+  pub start-is : bigEndian (jobBytes v) (settingsOf (jobBytes v) + 35) 1 ≡ v .start
   start-is = setting-at 35 1 (omega arith) ∙ set-start v (held .start)
 
-  draws-at : drawsOf (jobBytes v) ≡ 8 + length (v .entries) * 10 + length (v .c) * 8 + 36 + length (v .startNumbers) * 8
+  pub draws-at : drawsOf (jobBytes v) ≡ 8 + length (v .entries) * 10 + length (v .c) * 8 + 36 + length (v .startNumbers) * 8
   unfolding drawsOf
   draws-at = rw (start-is, wagons-back v held, rank-is, most-is, ← held .started, settings-at)
 
-  drawn-is : bigEndian (jobBytes v) (drawsOf (jobBytes v)) 2 ≡ v .drawCount
+  pub drawn-is : bigEndian (jobBytes v) (drawsOf (jobBytes v)) 2 ≡ v .drawCount
   drawn-is =
       let e : drawsOf (jobBytes v) ≡ 8 + length (v .entries) * 10 + length (v .c) * 8 + 36 + length (v .startNumbers) * 8 + 0 = omega (arith, draws-at) in
       ap (λ (q : ℕ). bigEndian (jobBytes v) q 2) e ∙ at-draws v 0 2
