@@ -1,8 +1,9 @@
-// The float functions as a host calls them, to hold them to stored answers of the Rust; no other host has a use for this crate.
-// A host meets each `requires` by the shape of its cases.
+// The float functions as a host calls them, to hold them to stored answers of the Rust (host/) and to measure them (bench/); no
+// other host has a use for this crate. A host meets each `requires` by the shape of its cases.
 ghost use mathlib.Core.Path.{_≡_};
 ghost use Prim.Native.Nat.{_*_, _≤_};
 ghost use lib.ListN.{length};
+ghost use Rattle.ieee.specs.Sqrt.{sqrtOf};
 ghost use Rattle.factor.specs.Norms.{dotOf};
 ghost use Rattle.factor.specs.Vectors.{norm, projected, unit};
 ghost use Rattle.factor.specs.Multiply.{productOf, gradOf};
@@ -12,6 +13,13 @@ ghost use Rattle.maxcut_oracle.specs.Check.{residualOf, frobenius};
 ghost use Rattle.rounding.specs.Rounding.{drawSigns};
 ghost use Rattle.step_rules.specs.Rule.{ruleOf, stepped};
 ghost use Rattle.initialize.specs.Initialize.{startRows, startSigns, startDrawn};
+
+#[no_mangle]
+pub extern "C" fn host_sqrt(x: f64) -> f64
+    ensures { λ r. ⌜ r ≡ sqrtOf x ⌝ }
+{
+    ieee::sqrt(x)
+}
 
 #[no_mangle]
 pub extern "C" fn host_dot(a: &[f64], b: &[f64]) -> f64
