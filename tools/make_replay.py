@@ -18,6 +18,7 @@ NAN = 0x7FF8000000000000
 INF = 0x7FF0000000000000
 MINUS = 1 << 63
 TOP = os.path.dirname(os.path.dirname(os.path.abspath(__file__)))
+PROGRAM = os.path.join(TOP, "target", "oracle", "release", "oracle")
 
 
 def root(b):
@@ -90,11 +91,179 @@ def ranks():
     return oracle("rank", [[m] for m in sizes])
 
 
+# ---- tables: size, entries, value limits
+
+def mirrored(rng, size, pairs, value):
+    """Entries in rising order, each with its mirror; some values are 0."""
+    entries = {}
+    for _ in range(pairs if size else 0):
+        i, j, v = rng.randrange(size), rng.randrange(size), value()
+        entries[i, j] = entries[j, i] = v
+    return [(i, j, v) for (i, j), v in sorted(entries.items())]
+
+
+def table_words(size, entries):
+    return [size, len(entries)] + [w % (1 << 64) for entry in entries for w in entry]
+
+
+def slice_words(xs):
+    return [len(xs)] + [x % (1 << 64) for x in xs]
+
+
+def out_of_order(size, entries):
+    places = [(i, j) for i, j, _ in entries]
+    return any(i >= size or j >= size for i, j in places) or any(a >= b for a, b in zip(places, places[1:]))
+
+
+def unmirrored(entries):
+    stored = {(i, j): v for i, j, v in entries}
+    return any(stored.get((j, i)) != v for i, j, v in entries)
+
+
+def number(size, entries, least, most, most_entries, limit, extra=0):
+    """The first of 13, 14, 15 and 16 that holds, 0 where none does."""
+    tests = [
+        (13, lambda: not least <= size <= most or len(entries) > most_entries),
+        (14, lambda: out_of_order(size, entries)),
+        (15, lambda: unmirrored(entries)),
+        (16, lambda: sum(abs(v) for _, _, v in entries) + extra > limit),
+    ]
+    return next((k for k, holds in tests if holds()), 0)
+
+
+def hall_number(n, entries, c):
+    return number(n, entries, 0, 127, 4096, 1 << 40, 2 * sum(map(abs, c)))
+
+
+def table_number(m, entries):
+    return number(m, entries, 1, 128, 4478, 1 << 42)
+
+
+def damaged(rng, size, entries):
+    """A table with one thing wrong, or nothing."""
+    out, kind = list(entries), rng.randrange(6)
+    k = rng.randrange(len(out)) if out else None
+    if out and kind == 0:
+        out[k] = (out[k][0], out[k][1], out[k][2] + 1)
+    elif out and kind == 1:
+        out[k] = (size, out[k][1], out[k][2])
+    elif out and kind == 2:
+        del out[k]
+    elif out and kind == 3:
+        out.insert(k, out[k])
+    elif out and kind == 4:
+        out[k] = (out[k][0], out[k][1], -(1 << 63))
+    return out
+
+
+def values(rng):
+    return rng.choice([lambda: rng.randrange(-9, 10), lambda: rng.randrange(-(1 << 30), 1 << 30), lambda: rng.randrange(3)])
+
+
+def halls(rng):
+    """(n, entries, c) of halls, accepted and refused."""
+    out = [(0, [], []), (1, [(0, 0, 2)], [-3]), (2, [(0, 1, 3), (1, 0, 3)], [-1, -1]), (1, [(0, 0, 1 << 40)], [0]), (1, [(0, 0, (1 << 40) + 1)], [0])]
+    out += [(1, [(0, 0, 0)], [1 << 39]), (1, [(0, 0, 1)], [1 << 39]), (1, [], [-(1 << 63)]), (128, [], [0] * 128), (127, [], [1] * 127), (2, [(0, 1, 0), (1, 0, 0)], [0, 0])]
+    for _ in range(60):
+        n = rng.randrange(1, 12)
+        out.append((n, mirrored(rng, n, rng.randrange(3 * n), values(rng)), [rng.choice([0, 0, rng.randrange(-9, 10)]) for _ in range(n)]))
+    for _ in range(30):
+        n = rng.randrange(1, 8)
+        out.append((n, damaged(rng, n, mirrored(rng, n, rng.randrange(1, 3 * n), values(rng))), [rng.randrange(-9, 10) for _ in range(n)]))
+    out.append((90, mirrored(rng, 90, 900, lambda: rng.randrange(4)), [rng.randrange(3) for _ in range(90)]))
+    return out
+
+
+def sign_tables(rng):
+    """(m, entries) of sign tables, accepted and refused."""
+    out = [(1, [(0, 0, 0)]), (0, []), (129, []), (128, []), (2, [(0, 1, 1 << 41), (1, 0, 1 << 41)]), (2, [(0, 0, 1), (0, 1, 1 << 41), (1, 0, 1 << 41)])]
+    for _ in range(50):
+        m = rng.randrange(1, 12)
+        out.append((m, mirrored(rng, m, rng.randrange(4 * m), values(rng))))
+    for _ in range(30):
+        m = rng.randrange(1, 8)
+        out.append((m, damaged(rng, m, mirrored(rng, m, rng.randrange(1, 3 * m), values(rng)))))
+    out.append((128, mirrored(rng, 128, 1500, lambda: rng.randrange(8))))
+    return out
+
+
+def reduced_number(size, entries, mapped, fixed):
+    """The first of 13, 14 and 20 that holds, 0 where none does."""
+    if len(entries) > 4478:
+        return 13
+    if out_of_order(size, entries):
+        return 14
+    return 20 if size > 1024 or any(i >= size for i in mapped + fixed) or len(set(mapped)) < len(mapped) else 0
+
+
+def reduced_groups(rng):
+    subs, lifts = [], []
+    for _ in range(90):
+        size = rng.choice([0, 1, 2, 3, 5, 9, 30, 1024, 1025])
+        places = sorted({(rng.randrange(size), rng.randrange(size)) for _ in range(rng.randrange(40))} if size else [])
+        entries = [(i, j, rng.choice([0, rng.randrange(-(1 << 45), 1 << 45), rng.randrange(-9, 10)])) for i, j in places]
+        if rng.randrange(6) == 0:
+            entries = damaged(rng, size, [e for e in entries if abs(e[2]) < 1 << 44])
+            entries = [(i, j, v if abs(v) < 1 << 46 else 7) for i, j, v in entries]
+        pool = list(range(min(size, 60)))
+        rng.shuffle(pool)
+        mapped, fixed = pool[: rng.randrange(len(pool) + 1)], [rng.randrange(size) for _ in range(rng.randrange(5))] if size else []
+        if rng.randrange(8) == 0:
+            mapped = mapped + [rng.choice([size, mapped[0] if mapped else size])]
+        if rng.randrange(10) == 0:
+            fixed = fixed + [size]
+        subs.append((reduced_number(size, entries, mapped, fixed), table_words(size, entries) + slice_words(mapped) + slice_words(fixed)))
+        numbers = lambda n: [rng.getrandbits(64) if rng.randrange(4) == 0 else struct.unpack(">Q", struct.pack(">d", rng.choice([-1.0, 1.0, 0.0, -0.0])))[0] for _ in range(n)]
+        held, solution = numbers(len(fixed)), numbers(len(mapped))
+        refusal = reduced_number(size, [], mapped, fixed)
+        if size <= 1024 and rng.randrange(9) == 0 and mapped:
+            refusal, solution = 31, solution[1:]
+        lifts.append((refusal, [size] + slice_words(mapped) + slice_words(fixed) + slice_words(held) + slice_words(solution)))
+    return {"submat": answered("submatrix", subs) + extremes(rng), "lift": answered("lift", lifts)}
+
+
+def extremes(rng):
+    """Submatrices of values that no double holds, worked out here: the Rust compares values up to 2^53."""
+    cases = []
+    for size in (1, 2, 3, 7, 1024):
+        entries = [(i, j, rng.choice([(1 << 63) - 1, -(1 << 63), (1 << 53) + 1, -(1 << 53), 1 << 53, 0])) for i in range(min(size, 5)) for j in range(min(size, 5))]
+        mapped = rng.sample(range(min(size, 5)), rng.randrange(1, min(size, 5) + 1))
+        new = {old: k for k, old in enumerate(mapped)}
+        result = sorted((new[i], new[j], v) for i, j, v in entries if i in new and j in new)
+        cases.append((table_words(size, entries) + slice_words(mapped) + [0], [0] + table_words(0, result)[1:]))
+    return cases
+
+
+def answered(name, cases):
+    """Cases (number, words): a refused one is expected as FF and its number, an accepted one as 0 and the oracle's answer."""
+    accepted = iter(oracle(name, [words for refusal, words in cases if not refusal]))
+    return [(words, [255, refusal]) if refusal else (words, [0] + next(accepted)[1]) for refusal, words in cases]
+
+
+def table_groups(rng):
+    sign, hall = sign_tables(rng), halls(rng)
+    signs = lambda m: [rng.randrange(2) for _ in range(m)]
+    groups = {
+        "obj": answered("obj_rounded", [(table_number(m, e), table_words(m, e) + slice_words(signs(m))) for m, e in sign]),
+        "floor": answered("floor", [(table_number(m, e), table_words(m, e)) for m, e in sign]),
+        "bound": answered("bound", [(table_number(m, e), table_words(m, e)) for m, e in sign]),
+        "table": answered("signtable", [(hall_number(n, e, c), table_words(n, e) + slice_words(c)) for n, e, c in hall]),
+        "cost": answered("cost", [(hall_number(n, e, c), table_words(n, e) + slice_words(c) + slice_words(signs(n))) for n, e, c in hall]),
+    }
+    beams = []
+    for m, e in sign + [(9, mirrored(rng, 9, 40, lambda: rng.randrange(-2, 3))) for _ in range(40)]:
+        width = rng.choice([0, 1, 1, 2, 3, 128, 128, 129])
+        refusal = table_number(m, e) or (19 if width > 128 else 0)
+        beams.append((refusal, table_words(m, e) + [width] + slice_words(signs(m))))
+    # the oracle gives the signs after their count, the objective and the rounds; stored are objective, rounds, signs
+    groups["beam"] = [(given, expected if expected[0] else [0] + expected[-2:] + expected[2:-2]) for given, expected in answered("beam", beams)]
+    return groups
+
+
 def oracle(name, cases):
     """The oracle's answers: pairs of the words given and the words expected."""
-    program = os.path.join(TOP, "target", "oracle", "release", "oracle")
     lines = "".join(name + "".join(f" {w:016X}" for w in case) + "\n" for case in cases)
-    out = subprocess.run([program, "leaf"], input=lines, capture_output=True, text=True, check=True).stdout.split("\n")
+    out = subprocess.run([PROGRAM, "leaf"], input=lines, capture_output=True, text=True, check=True).stdout.split("\n")
     answers = []
     for line in filter(None, out):
         given, expected = line.split(" = ")
@@ -106,13 +275,16 @@ def oracle(name, cases):
 def stored():
     """The text of both files."""
     rng = random.Random(20261115)
-    groups = {"sqrt": roots(rng), "eighth": eighths(rng), "bits": patterns(rng), "rank": ranks()}
+    groups = {"sqrt": roots(rng), "eighth": eighths(rng), "bits": patterns(rng), "rank": ranks()} | table_groups(rng) | reduced_groups(rng)
     words = lambda x: " ".join(f"{w:X}" for w in (x if isinstance(x, list) else [x]))
     lines = [f"{name} {words(given)} = {words(expected)}\n" for name, cases in groups.items() for given, expected in cases]
     return {"stdin": "".join(lines), "stdout": "".join(f"{name}: {len(cases)} cases, 0 differ\n" for name, cases in groups.items())}
 
 
 def main():
+    if "--check" in sys.argv and not os.path.exists(PROGRAM):
+        print("no oracle is built (oracle/README.md): passed over")
+        return
     for name, text in stored().items():
         path = os.path.join(TOP, "crates", "replay", name)
         if "--check" not in sys.argv:

@@ -29,13 +29,21 @@ pub fn flip_byte(sign: u8) -> u8
     if sign == 0 { 1 } else { 0 }
 }
 
+// Flips sign `i`.
+pub fn flip_sign(row: &mut [u8], i: usize)
+    requires { ⌜ i < length (now row) ⌝ }
+    ensures { λ r. ⌜ now (row .exit) ≡ flipSign i (now (row .entry)) ⌝ }
+{
+    row[i] = flip_byte(row[i]);
+}
+
 // The parent's signs, with sign `i` flipped.
 pub fn copy_flip(row: &mut [u8], parent: &[u8], i: usize)
     requires { ⌜ (length (now row) ≡ length (now parent)) × (i < length (now parent)) ⌝ }
     ensures { λ r. ⌜ now (row .exit) ≡ flipSign i (now (parent .entry)) ⌝ }
 {
     copy_row(row, parent);
-    row[i] = flip_byte(row[i]);
+    flip_sign(row, i);
 }
 
 // Moves the bytes from `from` up to `to` by `m` places up.

@@ -11,21 +11,22 @@ use Rattle.laws.specs.Turns.{upTo}
 use Rattle.laws.specs.Refusal.{orElse, first, firstOf, anyOf, short}
 use Rattle.tables.specs.Table.{valueAt, storedAt}
 use Rattle.tables.specs.Stored.{rowPlaces, places, valuesOf}
-use Rattle.tables.specs.Check.{before, orderRefusal}
+use Rattle.tables.specs.Check.{before, badEntry, badOrder}
+use Rattle.reduced.specs.Limits.{mostSize, mostEntries}
 use Rattle.reduced.specs.Indices.{outside, twice, indexRefused}
 use Rattle.reduced.specs.Lift.{liftedOf, liftShort, liftNumber}
 use Rattle.reduced.specs.Submatrix.{Slices, slicesOf, tableIn, reducedPlaces, valueIn, entriesShort, inputNumber, submatrixNumber}
 
--- four entries of size 3, not symmetric: (0, 0, 5), (0, 2, −1), (1, 1, 7), (2, 0, 0)
+-- four entries of size 3, not symmetric: (0, 0, 2^63 − 1), (0, 2, −2^63), (1, 1, 7), (2, 0, 0)
 four : Slices
-four = slicesOf (0 ∷ 0 ∷ 1 ∷ 2 ∷ []) (0 ∷ 2 ∷ 1 ∷ 0 ∷ []) (pos 5 ∷ negsuc 0 ∷ pos 7 ∷ pos 0 ∷ [])
+four = slicesOf (0 ∷ 0 ∷ 1 ∷ 2 ∷ []) (0 ∷ 2 ∷ 1 ∷ 0 ∷ []) (pos 9223372036854775807 ∷ negsuc 9223372036854775807 ∷ pos 7 ∷ pos 0 ∷ [])
 
 -- the map 2, 0 permutes and leaves out index 1: the stored zero (2, 0) comes first, at (0, 1)
 permuted-places : reducedPlaces (tableIn 4 four) (2 ∷ 0 ∷ []) ≡ ((0, 1) ∷ (1, 0) ∷ (1, 1) ∷ [])
 unfolding four reducedPlaces places rowPlaces storedAt anyBelow
 permuted-places = refl
 
-permuted-values : valuesOf (valueIn (tableIn 4 four) (2 ∷ 0 ∷ [])) ((0, 1) ∷ (1, 0) ∷ (1, 1) ∷ []) ≡ (pos 0 ∷ negsuc 0 ∷ pos 5 ∷ [])
+permuted-values : valuesOf (valueIn (tableIn 4 four) (2 ∷ 0 ∷ [])) ((0, 1) ∷ (1, 0) ∷ (1, 1) ∷ []) ≡ (pos 0 ∷ negsuc 9223372036854775807 ∷ pos 9223372036854775807 ∷ [])
 unfolding four valueAt sum
 permuted-values = refl
 
@@ -34,8 +35,9 @@ unmapped-places : reducedPlaces (tableIn 4 four) (0 ∷ 1 ∷ []) ≡ ((0, 0) �
 unfolding four reducedPlaces places rowPlaces storedAt anyBelow
 unmapped-places = refl
 
--- the numbers of a submatrix, at the limits 3 and 4: nothing refused; an out slice one short; one entry more, and no slice is tested; the
--- size 1 under an index 2, where the size 4 above the limit is named only after the order; the map's index 2 twice
+-- the numbers of a submatrix, at the limits 3 and 4: nothing refused; a result slice one short; one entry too many, so that no slice is
+-- tested; an entry out of range of the size 2, before the map's index 2 twice; the size above its limit; the index 2 twice; a map index and a
+-- fixed index not below the size
 numbers : List ℕ
 numbers =
     submatrixNumber 3 4 3 4 four (2 ∷ 0 ∷ []) (1 ∷ []) four
@@ -49,8 +51,24 @@ numbers =
     ∷ []
 
 numbers-are : numbers ≡ (0 ∷ 31 ∷ 13 ∷ 14 ∷ 20 ∷ 20 ∷ 20 ∷ 20 ∷ [])
-unfolding numbers four submatrixNumber inputNumber entriesShort indexRefused outside twice orderRefusal firstOf before first orElse anyOf short anyBelow
+unfolding numbers four submatrixNumber inputNumber entriesShort indexRefused outside twice badOrder badEntry before first orElse anyOf short anyBelow
 numbers-are = refl
+
+-- at 01's limits, with empty slices: size 1,024 accepted, 1,025 is 20; 4,479 entries are 13, and 4,478 are asked of the slices
+none : Slices
+none = slicesOf [] [] []
+
+limits : List ℕ
+limits =
+    submatrixNumber mostSize mostEntries 1024 0 none [] [] none
+    ∷ submatrixNumber mostSize mostEntries 1025 0 none [] [] none
+    ∷ submatrixNumber mostSize mostEntries 1024 4479 none [] [] none
+    ∷ submatrixNumber mostSize mostEntries 1024 4478 none [] [] none
+    ∷ []
+
+limits-are : limits ≡ (0 ∷ 20 ∷ 13 ∷ 31 ∷ [])
+unfolding limits none submatrixNumber inputNumber entriesShort indexRefused outside twice badOrder badEntry before first orElse anyOf short anyBelow
+limits-are = refl
 
 -- 1.0, 2.0, 3.0, 9.0
 one : Float
@@ -70,11 +88,12 @@ lifted : liftedOf 4 (2 ∷ []) (0 ∷ 2 ∷ 0 ∷ []) (one ∷ two ∷ three ∷
 unfolding liftedOf upTo mapFirst
 lifted = refl
 
--- the numbers of a lift, at the limit 4: nothing refused; a solution too short; a lifted slice too short; the size above the limit, so
--- that the lifted slice isn't tested; an index twice in the map; a fixed index not below the size
+-- the numbers of a lift, at the limit 4: nothing refused; a fixed value, the solution, the lifted slice too short; the size above the limit,
+-- so that the lifted slice isn't tested; an index twice in the map; a fixed index not below the size
 lift-numbers : List ℕ
 lift-numbers =
     liftNumber 4 3 (2 ∷ []) (0 ∷ 0 ∷ []) 2 1 3
+    ∷ liftNumber 4 3 (2 ∷ []) (0 ∷ 0 ∷ []) 1 1 3
     ∷ liftNumber 4 3 (2 ∷ []) (0 ∷ 0 ∷ []) 2 0 3
     ∷ liftNumber 4 3 (2 ∷ []) (0 ∷ 0 ∷ []) 2 1 2
     ∷ liftNumber 4 5 (2 ∷ []) (0 ∷ 0 ∷ []) 2 1 0
@@ -82,6 +101,6 @@ lift-numbers =
     ∷ liftNumber 4 3 (2 ∷ []) (0 ∷ 3 ∷ []) 2 1 3
     ∷ []
 
-lift-numbers-are : lift-numbers ≡ (0 ∷ 31 ∷ 31 ∷ 20 ∷ 20 ∷ 20 ∷ [])
+lift-numbers-are : lift-numbers ≡ (0 ∷ 31 ∷ 31 ∷ 31 ∷ 20 ∷ 20 ∷ 20 ∷ [])
 unfolding lift-numbers liftNumber liftShort indexRefused outside twice first orElse anyOf short anyBelow
 lift-numbers-are = refl

@@ -3,6 +3,8 @@ ghost use Prim.Native.Nat.{_+_, _≤_, _<_};
 ghost use mathlib.Core.Path.{_≡_};
 ghost use lib.ListN.{length};
 use super::leaves::same_leaf;
+use super::reduced_cases::is_reduced;
+use super::reduced_cases::same_reduced;
 use super::table_cases::is_table;
 use super::table_cases::same_table;
 use super::text::find;
@@ -82,6 +84,9 @@ fn run_line(line: &[u8], numbers: &mut [u64], t: Tally) -> Tally {
     let name = c.name;
     if is_table(name) {
         return counted(t, name, same_table(c, numbers));
+    }
+    if is_reduced(name) {
+        return counted(t, name, same_reduced(c, numbers));
     }
     counted(t, name, same_leaf(c, numbers))
 }

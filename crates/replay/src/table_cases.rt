@@ -50,7 +50,7 @@ pub fn is_table(name: u64) -> bool {
 }
 
 // A refusal is expected as FF and its number, a value as 0 and the value.
-fn refused(numbers: &[u64], at: usize, number: u8) -> bool
+pub fn refused(numbers: &[u64], at: usize, number: u8) -> bool
     requires { ⌜ at ≤ 65536 ⌝ }
 {
     if word(numbers, at) != 255 {
@@ -177,7 +177,7 @@ fn table_case(
 }
 
 // Whether these are the entries that are expected at `at`: 0, their count, and row, column and value of each.
-fn same_entries(numbers: &[u64], at: usize, len: usize, rows: &[u16], cols: &[u16], values: &[i64]) -> bool
+pub fn same_entries(numbers: &[u64], at: usize, len: usize, rows: &[u16], cols: &[u16], values: &[i64]) -> bool
     requires { ⌜ at ≤ 16384 ⌝ }
 {
     if 16384 < len {

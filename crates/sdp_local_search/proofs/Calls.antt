@@ -4,7 +4,7 @@ use native.Mathlib.Omega.{arith}
 use mathlib.Core.List.{List, _++_}
 use mathlib.Core.Path.{_≡_, refl, sym, ap, ap₂, _∙_}
 use lib.IntN.{ℤ}
-use lib.ListN.{length, drop, take, length-take, length-drop}
+use lib.ListN.{length, drop}
 use Rattle.laws.specs.Lists.{over}
 use Rattle.tables.specs.Table.{Table, tableOf}
 use Rattle.local_search.specs.LocalSearch.{Found}
@@ -28,11 +28,6 @@ found-into t width m from least rounds kept out long p = record {
   rounds-are = p .rounds-are;
   out-is = let e : m - 0 ≡ length kept = omega arith in rw e (ap (λ (l : List ℕ). over l out) (p .answer-is));
 }
-
-
--- the part that is lent, m bytes from the first on
-pub part-size : (m : ℕ) (out : List ℕ) → m ≤ length out → length (take (m - 0) (drop 0 out)) ≡ m
-part-size m out h = simp (length-take, length-drop) (omega arith)
 
 -- what the search found, as it is answered
 pub answered : {m : ℕ} (t : Table) (width : ℕ) (from out out′ : List ℕ) (least : ℤ) (rounds : ℕ) → Sound m t → FoundInto t width from least rounds out out′

@@ -16,6 +16,7 @@ use Rattle.tables.specs.Check.{Accepted}
 use Rattle.tables.proofs.Checks.{table-accepted}
 use Rattle.sign_search.specs.Contracts.{Sound, Room}
 use Rattle.sign_search.proofs.Theorems.{accepted-mirrors}
+use Rattle.sign_search.proofs.TurnLaws.{rising-climbs}
 use Rattle.sdp_local_search.specs.BeamSearch.{Limits, baseLimits, searchShort, searchRefusal}
 
 short-fits : (refused : Bool) (needed lent : ℕ) → short refused needed lent ≡ false → refused ≡ false → needed ≤ lent
@@ -86,7 +87,7 @@ module _ (m count : ℕ) (rows cols : List ℕ) (values : List ℤ) (width start
   call-lent = record { rows-there = long .rows-long (ok .entries); cols-there = long .cols-long (ok .entries); values-there = long .values-long (ok .entries) }
 
   pub call-sound : Sound m (tableOf count rows cols values)
-  call-sound = record { mirrors = accepted-mirrors ok; small = ok .magnitude }
+  call-sound = record { mirrors = accepted-mirrors ok; climbs = rising-climbs (tableOf count rows cols values) (ok .rising); small = ok .magnitude }
 
   pub call-room : Room 128 m width workspace
   call-room = record { signs-few = ok .signs; width-few = narrow baseLimits m width _ (tableOf count rows cols values) e; level-room = omega (arith, long .workspace-long) }

@@ -6,7 +6,7 @@ use lib.Dec.{ltb}
 use Rattle.laws.specs.Lists.{elem, tabulate}
 use Rattle.laws.specs.Refusal.{_if_, first, anyOf, short}
 use Rattle.tables.specs.Table.{Table}
-use Rattle.tables.specs.Check.{tableRefusal}
+use Rattle.tables.specs.Check.{tableNumber}
 
 -- what a call takes at most: signs, entries, the sum of the absolute values, width; and the bytes of workspace that it asks
 pub record Limits : Type 0 where
@@ -34,7 +34,7 @@ searchShort most m count rows cols values start out workspace =
 -- the first number that applies, 0 where none does: 31, 13 to 16 of the table, 19 of the width
 unfoldable pub searchRefusal : Limits → ℕ → ℕ → Bool → Table → ℕ
 searchRefusal most m width tooShort t =
-    first (31 if tooShort ∷ tableRefusal (most .signs) (most .entries) (most .magnitude) m t ∷ 19 if (ltb (most .width) width) ∷ [])
+    first (31 if tooShort ∷ tableNumber (most .signs) (most .entries) (most .magnitude) m t ∷ 19 if (ltb (most .width) width) ∷ [])
 
 -- a sign as it is lent out, 0 for + and 1 for −; the first m signs of a slice
 abbrev pub signByte : ℕ → ℕ

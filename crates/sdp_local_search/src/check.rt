@@ -1,5 +1,5 @@
 // The numbers of the call: 31, 13 to 16, 19. Nothing is written.
-use tables::check::table_refusal;
+use tables::check::table_number;
 ghost use mathlib.Core.Path.{_≡_};
 ghost use lib.ListN.{length};
 ghost use lib.Dec.{ltb};
@@ -8,9 +8,13 @@ ghost use Rattle.tables.specs.Table.{tableOf};
 ghost use Rattle.sdp_local_search.specs.BeamSearch.{baseLimits, searchShort, searchRefusal};
 
 const MOST_SIGNS: usize = 128;
+
 const MOST_ENTRIES: usize = 4478;
+
 const MOST_MAGNITUDE: u64 = 4398046511104;
+
 const MOST_WIDTH: usize = 128;
+
 const WORKSPACE: usize = 16384;
 
 fn above(limit: usize, x: usize) -> bool
@@ -87,7 +91,7 @@ pub fn search_refusal(
     ) {
         return 31;
     }
-    let table = table_refusal(
+    let table = table_number(
         MOST_SIGNS,
         MOST_ENTRIES,
         MOST_MAGNITUDE,

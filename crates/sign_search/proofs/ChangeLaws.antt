@@ -50,7 +50,7 @@ abs-cond : (b : Bool) (x y : ℤ) (n : ℕ) → natAbs x ≤ n → natAbs y ≤ 
 abs-cond true x y n h k = h
 abs-cond false x y n h k = k
 
-abs-flip : (i a j s t : ℕ) (v : ℤ) → natAbs (flipShare i a j (sign s) (sign t) v) ≤ 4 * natAbs v
+pub abs-flip : (i a j s t : ℕ) (v : ℤ) → natAbs (flipShare i a j (sign s) (sign t) v) ≤ 4 * natAbs v
 unfolding flipShare
 abs-flip i a j s t v =
     abs-cond (eqb i a) _ _ _ (abs-cond (eqb i j) _ _ _ (omega arith) four) (omega arith)

@@ -1,12 +1,13 @@
 -- A parent's children by its listed changes are its children on the table, and a level's parents one by one. Assumes nothing.
 use Prim.Native.Nat.{ℕ, suc, _+_, _*_, _-_, _≤_, _<_}
+use native.Mathlib.Nat.{suc-mul, mul-le-mul-right}
 use native.Mathlib.Omega.{arith}
 use mathlib.Core.Bool.{Bool, true}
 use mathlib.Core.List.{List, []}
 use mathlib.Core.Path.{_≡_, refl, sym, ap, ap₂, _∙_, subst}
 use lib.IntN.{ℤ, pos, _+ℤ_}
 use lib.Signed.{ltZ}
-use lib.ListN.{length, take, drop, getD}
+use lib.ListN.{length, take, drop, getD, length-take, length-drop}
 use mir.Syntax.{w64}
 use mir.Val.{SFits}
 use Rattle.local_search.specs.LocalSearch.{All, keepBest, childrenOf}
@@ -48,6 +49,14 @@ module _ (t : Table) (parent : Choice) (changes : List ℤ) (is : Changes t (par
     changes-many = p .changes-room;
     safe = listed-safe (p .safe);
   }
+
+-- the first m bytes, as a part that is lent
+pub part-size : (m : ℕ) (l : List ℕ) → m ≤ length l → length (take (m - 0) (drop 0 l)) ≡ m
+part-size m l h = simp (length-take, length-drop) (omega arith)
+
+-- row k lies within the rows of the level
+pub row-room : (m count k bytes : ℕ) → k < count → count * m ≤ bytes → k * m + m ≤ bytes
+row-room m count k bytes h room = omega (arith, mul-le-mul-right m h, suc-mul k m)
 
 -- row k of a level as a part that is lent
 pub parent-expands : (t : Table) (m : ℕ) (os : List ℤ) (s : List ℕ) (k : ℕ) (room : k * m + m ≤ length s) (o : ℤ) (count width kept changes objectives signs : ℕ)

@@ -5,5 +5,6 @@ pub mod HallTheorems
 pub mod Examples
 -- the code's loops
 pub mod ChangeLaws
+pub mod TurnLaws
 pub mod ExpandLaws
 pub mod Searches

@@ -1,10 +1,10 @@
 -- What the functions of the search on a table ask and leave.
-use Prim.Native.Nat.{ℕ, _+_, _*_, _^_, _≤_, _<_}
+use Prim.Native.Nat.{ℕ, suc, _+_, _*_, _^_, _≤_, _<_}
 use mathlib.Core.Bool.{cond}
 use mathlib.Core.List.{List}
 use mathlib.Core.Path.{_≡_}
 use lib.Dec.{eqb}
-use lib.IntN.{ℤ, pos, natAbs, _+ℤ_}
+use lib.IntN.{ℤ, pos, natAbs, _+ℤ_, _*ℤ_}
 use lib.ListN.{length, getD, set}
 use Rattle.laws.specs.Sum.{sum, total, only}
 use Rattle.tables.specs.Table.{Table, tableOf, Lent, InRange, magnitudeOf, signAt}
@@ -19,9 +19,14 @@ pub record Usable (m : ℕ) (t : Table) : Type 0 where
   pub in-range : InRange m t
   pub small : magnitudeOf t ≤ 2 ^ 42
 
--- and one that equals its mirror image
+-- rows never fall from an entry to a later one
+pub record Climbs (count : ℕ) (row : ℕ → ℕ) : Type 0 where
+  pub climb : (k l : ℕ) → k ≤ l → l < count → row k ≤ row l
+
+-- and one that equals its mirror image, its rows in order
 pub record Sound (m : ℕ) (t : Table) : Type 0 where
   pub mirrors : Mirrors m t
+  pub climbs : Climbs (t .count) (t .row)
   pub small : magnitudeOf t ≤ 2 ^ 42
 
 -- the first m are 0
@@ -45,6 +50,40 @@ pub record Changes (t : Table) (x : List ℕ) (changes : List ℤ) : Type 0 wher
   pub many : length x ≤ length changes
   pub are : (i : ℕ) → i < length x → getD changes i (pos 0) ≡ changeIn t x i
 
+-- ---- the changes after a flip
+
+-- the first entry of row i or of a later row
+pub record RowStart (count : ℕ) (row : ℕ → ℕ) (i r : ℕ) : Type 0 where
+  pub inside : r ≤ count
+  pub behind : (k : ℕ) → k < r → row k < i
+  pub ahead : (k : ℕ) → r ≤ k → k < count → i ≤ row k
+
+-- where sign i flips, Q_ij times this is added to change j
+abbrev pub turnWeight : List ℕ → ℕ → ℕ → ℤ
+turnWeight x i j = pos 8 *ℤ (signAt x i *ℤ signAt x j)
+
+-- what entry k adds to it
+abbrev pub turnTerm : Table → List ℕ → ℕ → ℕ → ℕ → ℤ
+turnTerm t x i j k = turnWeight x i j *ℤ only (t .row k) i (only (t .column k) j (t .value k))
+
+-- what the first k entries have added
+pub record Turned (t : Table) (x : List ℕ) (i k : ℕ) (before after : List ℤ) : Type 0 where
+  pub many : length after ≡ length before
+  pub sums : (j : ℕ) → j < length x → getD after j (pos 0) ≡ getD before j (pos 0) +ℤ sum k (turnTerm t x i j)
+
+-- as many signs, of which the first i are the same
+pub record Agree (i : ℕ) (x y : List ℕ) : Type 0 where
+  pub long : length x ≡ length y
+  pub same : (j : ℕ) → j < i → signAt x j ≡ signAt y j
+
+-- what it takes to add row i's entries, from `from` up to `to`, to the changes
+pub record Turns (t : Table) (x : List ℕ) (i from to : ℕ) (changes : List ℤ) : Type 0 where
+  pub usable : Usable (length x) t
+  pub sign : i < length x
+  pub starts : RowStart (t .count) (t .row) i from
+  pub ends : RowStart (t .count) (t .row) (suc i) to
+  pub changes-are : Changes t x changes
+
 -- 01's children on a table of m signs
 abbrev pub tableChildren : Table → ℕ → Choice → List Choice
 tableChildren t m = childrenC (changeIn t) (improvesC (changeIn t)) m
@@ -59,7 +98,7 @@ pub record RowExpands (t : Table) (parent : Choice) (count width changes objecti
   pub changes-room : length (parent .signs) ≤ changes
   pub objectives-room : width ≤ objectives
   pub signs-room : width * length (parent .signs) ≤ signs
-  pub table : Usable (length (parent .signs)) t
+  pub table : Sound (length (parent .signs)) t
   pub safe : TableSafe t parent
 
 -- what it takes to lay down all children of the start
@@ -78,7 +117,7 @@ pub record LevelExpands (t : Table) (m count width : ℕ) (from-objectives : Lis
   pub changes-room : m ≤ changes
   pub objectives-room : width ≤ objectives
   pub signs-room : width * m ≤ signs
-  pub table : Usable m t
+  pub table : Sound m t
   pub safe : All (TableSafe t) (levelOf m count from-objectives from-signs)
 
 -- the next level, and its count

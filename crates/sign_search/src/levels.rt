@@ -1,15 +1,17 @@
 // Level by level: level 1 has all children of the start, level k + 1 the first `width` of those of level k.
 use crate::changes::changes_of;
+use crate::moves::move_to;
 use local_search::children::expand_parent;
 use local_search::children::first_level;
 use local_search::level::copy_objectives;
 use local_search::rows::copy_signs;
+ghost use mathlib.Core.Path.{_≡_};
 ghost use mathlib.Core.List.{[]};
 ghost use lib.ListN.{length};
 ghost use Rattle.tables.specs.Table.{tableOf, Lent};
 ghost use Rattle.local_search.specs.Level.{levelOf};
 ghost use Rattle.local_search.specs.Children.{parentOf, Appended, Kept};
-ghost use Rattle.sign_search.specs.Contracts.{RowExpands, RowAppends, LevelExpands, NextLevel, AdvanceFits, tableChildren};
+ghost use Rattle.sign_search.specs.Contracts.{Changes, RowExpands, RowAppends, LevelExpands, NextLevel, AdvanceFits, tableChildren};
 
 // Puts a parent's children in, by index.
 pub fn expand_row(
@@ -19,16 +21,17 @@ pub fn expand_row(
     values: &[i64],
     objective: i64,
     parent: &[u8],
+    current: &mut [u8],
     changes: &mut [i64],
     objectives: &mut [i64],
     signs: &mut [u8],
     count: usize,
     width: usize,
 ) -> usize
-    requires { ⌜ RowExpands (tableOf entries (now rows) (now cols) (now values)) (parentOf objective (now parent)) count width (length (now changes)) (length (now objectives)) (length (now signs)) × Lent entries (now rows) (now cols) (now values) ⌝ }
-    ensures { λ r. ⌜ Kept width (levelOf (length (now (parent .entry))) count (now (objectives .entry)) (now (signs .entry))) (tableChildren (tableOf entries (now (rows .entry)) (now (cols .entry)) (now (values .entry))) (length (now (parent .entry))) (parentOf objective (now (parent .entry)))) (levelOf (length (now (parent .entry))) r (now (objectives .exit)) (now (signs .exit))) r ⌝ }
+    requires { ⌜ RowExpands (tableOf entries (now rows) (now cols) (now values)) (parentOf objective (now parent)) count width (length (now changes)) (length (now objectives)) (length (now signs)) × (length (now current) ≡ length (now parent)) × Changes (tableOf entries (now rows) (now cols) (now values)) (now current) (now changes) × Lent entries (now rows) (now cols) (now values) ⌝ }
+    ensures { λ r. ⌜ Kept width (levelOf (length (now (parent .entry))) count (now (objectives .entry)) (now (signs .entry))) (tableChildren (tableOf entries (now (rows .entry)) (now (cols .entry)) (now (values .entry))) (length (now (parent .entry))) (parentOf objective (now (parent .entry)))) (levelOf (length (now (parent .entry))) r (now (objectives .exit)) (now (signs .exit))) r × Changes (tableOf entries (now (rows .entry)) (now (cols .entry)) (now (values .entry))) (now (current .exit)) (now (changes .exit)) ⌝ }
 {
-    changes_of(entries, rows, cols, values, parent, changes);
+    move_to(entries, rows, cols, values, current, changes, parent);
     expand_parent(changes, objective, parent, objectives, signs, count, width)
 }
 
@@ -45,7 +48,7 @@ pub fn append_row(
     signs: &mut [u8],
 ) -> usize
     requires { ⌜ RowAppends (tableOf entries (now rows) (now cols) (now values)) (parentOf objective (now start)) (length (now changes)) (length (now objectives)) (length (now signs)) × Lent entries (now rows) (now cols) (now values) ⌝ }
-    ensures { λ r. ⌜ Appended [] (tableChildren (tableOf entries (now (rows .entry)) (now (cols .entry)) (now (values .entry))) (length (now (start .entry))) (parentOf objective (now (start .entry)))) (levelOf (length (now (start .entry))) r (now (objectives .exit)) (now (signs .exit))) r (length (now (start .entry))) ⌝ }
+    ensures { λ r. ⌜ Appended [] (tableChildren (tableOf entries (now (rows .entry)) (now (cols .entry)) (now (values .entry))) (length (now (start .entry))) (parentOf objective (now (start .entry)))) (levelOf (length (now (start .entry))) r (now (objectives .exit)) (now (signs .exit))) r (length (now (start .entry))) × Changes (tableOf entries (now (rows .entry)) (now (cols .entry)) (now (values .entry))) (now (start .entry)) (now (changes .exit)) ⌝ }
 {
     changes_of(entries, rows, cols, values, start, changes);
     first_level(changes, objective, start, objectives, signs)
@@ -61,13 +64,14 @@ pub fn expand_level(
     from_objectives: &[i64],
     from_signs: &[u8],
     from_count: usize,
+    current: &mut [u8],
     changes: &mut [i64],
     objectives: &mut [i64],
     signs: &mut [u8],
     width: usize,
 ) -> usize
-    requires { ⌜ LevelExpands (tableOf entries (now rows) (now cols) (now values)) m «from_count» width (now «from_objectives») (now «from_signs») (length (now changes)) (length (now objectives)) (length (now signs)) × Lent entries (now rows) (now cols) (now values) ⌝ }
-    ensures { λ r. ⌜ NextLevel (tableOf entries (now (rows .entry)) (now (cols .entry)) (now (values .entry))) m width (levelOf m «from_count» (now («from_objectives» .entry)) (now («from_signs» .entry))) (levelOf m r (now (objectives .exit)) (now (signs .exit))) r ⌝ }
+    requires { ⌜ LevelExpands (tableOf entries (now rows) (now cols) (now values)) m «from_count» width (now «from_objectives») (now «from_signs») (length (now changes)) (length (now objectives)) (length (now signs)) × (length (now current) ≡ m) × Changes (tableOf entries (now rows) (now cols) (now values)) (now current) (now changes) × Lent entries (now rows) (now cols) (now values) ⌝ }
+    ensures { λ r. ⌜ NextLevel (tableOf entries (now (rows .entry)) (now (cols .entry)) (now (values .entry))) m width (levelOf m «from_count» (now («from_objectives» .entry)) (now («from_signs» .entry))) (levelOf m r (now (objectives .exit)) (now (signs .exit))) r × Changes (tableOf entries (now (rows .entry)) (now (cols .entry)) (now (values .entry))) (now (current .exit)) (now (changes .exit)) ⌝ }
 {
     let mut kept = 0;
     let mut k = 0;
@@ -82,6 +86,7 @@ pub fn expand_level(
             values,
             objective,
             &from_signs[at..end],
+            current,
             changes,
             objectives,
             signs,
@@ -100,6 +105,7 @@ pub fn advance(
     cols: &[u16],
     values: &[i64],
     m: usize,
+    current: &mut [u8],
     changes: &mut [i64],
     objectives: &mut [i64],
     signs: &mut [u8],
@@ -108,8 +114,8 @@ pub fn advance(
     next_signs: &mut [u8],
     width: usize,
 ) -> usize
-    requires { ⌜ AdvanceFits (tableOf entries (now rows) (now cols) (now values)) m count width (now objectives) (now signs) (length (now changes)) (length (now «next_objectives»)) (length (now «next_signs»)) × Lent entries (now rows) (now cols) (now values) ⌝ }
-    ensures { λ r. ⌜ NextLevel (tableOf entries (now (rows .entry)) (now (cols .entry)) (now (values .entry))) m width (levelOf m count (now (objectives .entry)) (now (signs .entry))) (levelOf m r (now (objectives .exit)) (now (signs .exit))) r ⌝ }
+    requires { ⌜ AdvanceFits (tableOf entries (now rows) (now cols) (now values)) m count width (now objectives) (now signs) (length (now changes)) (length (now «next_objectives»)) (length (now «next_signs»)) × (length (now current) ≡ m) × Changes (tableOf entries (now rows) (now cols) (now values)) (now current) (now changes) × Lent entries (now rows) (now cols) (now values) ⌝ }
+    ensures { λ r. ⌜ NextLevel (tableOf entries (now (rows .entry)) (now (cols .entry)) (now (values .entry))) m width (levelOf m count (now (objectives .entry)) (now (signs .entry))) (levelOf m r (now (objectives .exit)) (now (signs .exit))) r × Changes (tableOf entries (now (rows .entry)) (now (cols .entry)) (now (values .entry))) (now (current .exit)) (now (changes .exit)) ⌝ }
 {
     let kept = expand_level(
         entries,
@@ -120,6 +126,7 @@ pub fn advance(
         objectives,
         signs,
         count,
+        current,
         changes,
         next_objectives,
         next_signs,

@@ -2,8 +2,10 @@
 use crate::levels::advance;
 use crate::levels::append_row;
 use local_search::least::keep_least;
+use local_search::rows::copy_row;
 use tables::objective::obj_rounded;
 ghost use mathlib.Core.Path.{_≡_};
+ghost use Prim.Native.Nat.{_≤_};
 ghost use lib.ListN.{length};
 ghost use Rattle.tables.specs.Table.{tableOf, Lent};
 ghost use Rattle.local_search.specs.Children.{parentOf};
@@ -25,13 +27,14 @@ pub fn search_levels(
     width: usize,
     objective: i64,
     kept: &mut [u8],
+    current: &mut [u8],
     changes: &mut [i64],
     objectives: &mut [i64],
     signs: &mut [u8],
     next_objectives: &mut [i64],
     next_signs: &mut [u8],
 ) -> Searched
-    requires { ⌜ SearchFits (length (now kept)) width (length (now changes)) (length (now objectives)) (length (now signs)) (length (now «next_objectives»)) (length (now «next_signs»)) × Sound (length (now kept)) (tableOf entries (now rows) (now cols) (now values)) × (objective ≡ objectiveIn (tableOf entries (now rows) (now cols) (now values)) (now kept)) × Lent entries (now rows) (now cols) (now values) ⌝ }
+    requires { ⌜ SearchFits (length (now kept)) width (length (now changes)) (length (now objectives)) (length (now signs)) (length (now «next_objectives»)) (length (now «next_signs»)) × Sound (length (now kept)) (tableOf entries (now rows) (now cols) (now values)) × (objective ≡ objectiveIn (tableOf entries (now rows) (now cols) (now values)) (now kept)) × (length (now current) ≡ length (now kept)) × Lent entries (now rows) (now cols) (now values) ⌝ }
     ensures { λ r. ⌜ (parentOf (r .least) (now (kept .exit)) ≡ searchedIn (tableOf entries (now (rows .entry)) (now (cols .entry)) (now (values .entry))) width (parentOf objective (now (kept .entry))) .answer) × (r .rounds ≡ searchedIn (tableOf entries (now (rows .entry)) (now (cols .entry)) (now (values .entry))) width (parentOf objective (now (kept .entry))) .rounds) ⌝ }
 {
     let m = kept.len();
@@ -48,6 +51,7 @@ pub fn search_levels(
         objectives,
         signs,
     );
+    copy_row(current, kept);
     while 0 < count {
         least = keep_least(objectives, signs, count, least, kept);
         count = advance(
@@ -56,6 +60,7 @@ pub fn search_levels(
             cols,
             values,
             m,
+            current,
             changes,
             objectives,
             signs,
@@ -71,7 +76,45 @@ pub fn search_levels(
 
 // The rows of a level: as many choices as there are signs or places in a level, and as many bytes in each.
 const LEVEL_BYTES: usize = 16384;
+
 const MOST_CHOICES: usize = 128;
+
+// The same with the room that the search takes; the first signs of `scratch` are the current choice.
+fn search_room(
+    entries: usize,
+    rows: &[u16],
+    cols: &[u16],
+    values: &[i64],
+    width: usize,
+    objective: i64,
+    kept: &mut [u8],
+    scratch: &mut [u8],
+    level: &mut [u8],
+    next_level: &mut [u8],
+) -> Searched
+    requires { ⌜ Room 128 (length (now kept)) width (length (now level)) × Room 128 (length (now kept)) width (length (now «next_level»)) × (1 ≤ width) × (128 ≤ length (now scratch)) × Sound (length (now kept)) (tableOf entries (now rows) (now cols) (now values)) × (objective ≡ objectiveIn (tableOf entries (now rows) (now cols) (now values)) (now kept)) × Lent entries (now rows) (now cols) (now values) ⌝ }
+    ensures { λ r. ⌜ (parentOf (r .least) (now (kept .exit)) ≡ searchedIn (tableOf entries (now (rows .entry)) (now (cols .entry)) (now (values .entry))) width (parentOf objective (now (kept .entry))) .answer) × (r .rounds ≡ searchedIn (tableOf entries (now (rows .entry)) (now (cols .entry)) (now (values .entry))) width (parentOf objective (now (kept .entry))) .rounds) ⌝ }
+{
+    let m = kept.len();
+    let mut changes: [i64; MOST_CHOICES] = [0; MOST_CHOICES];
+    let mut objectives: [i64; MOST_CHOICES] = [0; MOST_CHOICES];
+    let mut next_objectives: [i64; MOST_CHOICES] = [0; MOST_CHOICES];
+    search_levels(
+        entries,
+        rows,
+        cols,
+        values,
+        width,
+        objective,
+        kept,
+        &mut scratch[0..m],
+        &mut changes,
+        &mut objectives,
+        level,
+        &mut next_objectives,
+        next_level,
+    )
+}
 
 // 01's local search from the signs in `kept`, which takes the answer; with width 0 the start stands. The rows of a level go to `level`.
 pub fn search_signs(
@@ -93,11 +136,9 @@ pub fn search_signs(
             rounds: 0,
         };
     }
-    let mut changes: [i64; MOST_CHOICES] = [0; MOST_CHOICES];
-    let mut objectives: [i64; MOST_CHOICES] = [0; MOST_CHOICES];
-    let mut next_objectives: [i64; MOST_CHOICES] = [0; MOST_CHOICES];
+    let mut current: [u8; MOST_CHOICES] = [0; MOST_CHOICES];
     let mut next_level: [u8; LEVEL_BYTES] = [0; LEVEL_BYTES];
-    search_levels(
+    search_room(
         entries,
         rows,
         cols,
@@ -105,10 +146,8 @@ pub fn search_signs(
         width,
         start,
         kept,
-        &mut changes,
-        &mut objectives,
+        &mut current,
         level,
-        &mut next_objectives,
         &mut next_level,
     )
 }

@@ -23,7 +23,8 @@ use Rattle.sign_table.specs.SignTable.{absorbed, signValue, edge, rowPla
 use Rattle.sign_table.specs.Walk.{At, isHere, hereValue, afterHere, nextColumn, rowTerm, rowTotal, RowSummed, Wrote, Room, Convertible}
 use Rattle.sign_table.proofs.Costs.{inner, column, row, corner}
 use Rattle.sign_table.proofs.Cursor.{at-start, heldAt, Next, next-column, here-value, here-next, at-row, row-start, row-summed, total-start, row-total}
-use Rattle.sign_table.proofs.Writing.{wrote-none, wrote-more, wrote-same, wrote-value, wrote-edge, row-more, row-next, row-skip, row-length-lt, row-length-le}
+use Rattle.tables.proofs.Writing.{wrote-none, wrote-more, wrote-same, wrote-value, wrote-edge, row-more, row-next, row-skip, row-length-lt, row-length-le}
+use Rattle.tables.proofs.Kept.{places-more, places-count, places-le}
 use Rattle.sign_table.proofs.Bounds.{abs-only, row-small, linear-small, rows-held, rows-abs}
 
 -- ---- which places are kept
@@ -185,22 +186,6 @@ pub record RowsInv (n : ℕ) (h : Table) (c : ℕ → ℤ) (k at i : ℕ) (rows 
   pub cursor : At h k i 0
   pub wrote : Wrote (signOf n h c) (places (keptOf n h c) (suc n) i) 0 rows cols values rows′ cols′ values′
   pub many : at ≡ length (places (keptOf n h c) (suc n) i)
-
-module _ (keep : ℕ → ℕ → Bool) (m : ℕ) where
-  pub places-more : (i : ℕ) → places keep m (i + 1) ≡ places keep m i ++ rowPlaces keep i 0 m
-  unfolding places
-  places-more i = rw add-one
-
-  pub places-count : (i : ℕ) → length (places keep m (i + 1)) ≡ length (places keep m i) + length (rowPlaces keep i 0 m)
-  places-count i = rw (places-more i) (length-append (places keep m i) (rowPlaces keep i 0 m))
-
-  pub places-le : (i n : ℕ) → i ≤ n → length (places keep m i) ≤ length (places keep m n)
-  places-le i zero a = let e : i ≡ 0 = omega arith in rw e (omega arith)
-  places-le i (suc n) a = go (decLt i (suc n)) (λ b. places-le i n b)
-    where
-      go : Dec (i < suc n) → (i ≤ n → length (places keep m i) ≤ length (places keep m n)) → length (places keep m i) ≤ length (places keep m (suc n))
-      go (yes b) ih = omega (arith, ih (omega arith), rw add-one at (places-count n))
-      go (no b) ih = let e : i ≡ suc n = omega arith in rw e (omega arith)
 
 module _ (n : ℕ) (h : Table) (c : ℕ → ℤ) where
   pub rows-begin : {rows cols : List ℕ} {values : List ℤ} → RowsInv n h c 0 0 0 rows cols values rows cols values

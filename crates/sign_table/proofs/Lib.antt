@@ -1,10 +1,8 @@
 pub mod Costs
 pub mod Listed
 pub mod Cursor
-pub mod Writing
 pub mod Bounds
 pub mod Built
-pub mod Kept
 pub mod Sizes
 pub mod Theorems
 pub mod Slices

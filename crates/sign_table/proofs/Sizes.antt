@@ -17,7 +17,7 @@ use Rattle.tables.specs.Table.{Table, InRange, Rising, Mirrored, Symmetric, Bef
 use Rattle.tables.specs.Check.{Hall}
 use Rattle.sign_table.specs.SignTable.{absorbed, signValue, places, isZero, signKept, keptOf, signOf, signPlaces, signTable, listed}
 use Rattle.sign_table.specs.Walk.{rowTotal, Convertible}
-use Rattle.sign_table.proofs.Kept.{place-at, place-rise, places-have, row-listed, col-listed, value-listed, places-number, places-magnitude}
+use Rattle.tables.proofs.Kept.{place-at, place-rise, places-have, row-listed, col-listed, value-listed, places-number, places-magnitude}
 use Rattle.tables.proofs.Mirrors.{stored-true, stored-here, stored-false, stored-none, mirrored-symmetric}
 use Rattle.sign_table.proofs.Costs.{inner, column, row, corner, sign-symmetric, absorbed-symmetric}
 use Rattle.sign_table.proofs.Cursor.{heldAt, row-total}

@@ -1,13 +1,14 @@
 -- The sign table of (H, c) (01, "Sign table"): n wagons, the quadratic costs H i j, the linear costs c i. Its values are eighths; sign n is
 -- the anchor's.
-use mathlib.Core.List.{List, [], _∷_, _++_, map}
+use mathlib.Core.List.{List}
 use mathlib.Core.Bool.{Bool, true, false, not, cond}
-use Prim.Native.Nat.{ℕ, zero, suc}
-use lib.ListN.{length}
+use Prim.Native.Nat.{ℕ, suc}
 use lib.Dec.{eqb}
 use lib.IntN.{ℤ, pos, negℤ, natAbs, _+ℤ_, _*ℤ_}
 use Rattle.laws.specs.Sum.{sum, sum₂, only}
-use Rattle.tables.specs.Table.{Table, tableOf, valueAt, storedAt}
+use Rattle.tables.specs.Table.{Table, valueAt, storedAt}
+unfoldable pub use Rattle.tables.specs.Stored.{rowPlaces, places}
+pub use Rattle.tables.specs.Stored.{edge, rowsOf, colsOf, valuesOf, listed}
 
 -- `absorb_linear_terms_into_hessian`: 2·c_i is added at (i, i)
 unfoldable pub absorbed : (ℕ → ℕ → ℤ) → (ℕ → ℤ) → ℕ → ℕ → ℤ
@@ -28,31 +29,6 @@ signKept n kept H c i j =
     (cond (eqb j n) (not (isZero (sum n (absorbed H c i)))) (cond (kept i j) true (cond (eqb i j) (not (isZero (c i))) false)))
 
 -- ---- as entries, in rising (row, column) order
-
--- the place (i, j) if it is kept; the kept of the d places from (i, j) on; those of the rows below i, each of m places
-abbrev pub edge : Bool → ℕ → ℕ → List (ℕ × ℕ)
-edge kept i j = cond kept ((i, j) ∷ []) []
-
-unfoldable pub rowPlaces : (ℕ → ℕ → Bool) → ℕ → ℕ → ℕ → List (ℕ × ℕ)
-rowPlaces keep i j zero = []
-rowPlaces keep i j (suc d) = edge (keep i j) i j ++ rowPlaces keep i (suc j) d
-
-unfoldable pub places : (ℕ → ℕ → Bool) → ℕ → ℕ → List (ℕ × ℕ)
-places keep m zero = []
-places keep m (suc i) = places keep m i ++ rowPlaces keep i 0 m
-
--- rows, columns and values of the entries at these places
-abbrev pub rowsOf : List (ℕ × ℕ) → List ℕ
-rowsOf ps = map (λ p. p .0) ps
-
-abbrev pub colsOf : List (ℕ × ℕ) → List ℕ
-colsOf ps = map (λ p. p .1) ps
-
-abbrev pub valuesOf : (ℕ → ℕ → ℤ) → List (ℕ × ℕ) → List ℤ
-valuesOf q ps = map (λ p. q (p .0) (p .1)) ps
-
-abbrev pub listed : (ℕ → ℕ → ℤ) → List (ℕ × ℕ) → Table
-listed q ps = tableOf (length ps) (rowsOf ps) (colsOf ps) (valuesOf q ps)
 
 -- the sign table of n wagons, of the table h of quadratic costs and the linear costs c
 abbrev pub keptOf : ℕ → Table → (ℕ → ℤ) → ℕ → ℕ → Bool

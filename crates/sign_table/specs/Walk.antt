@@ -1,15 +1,13 @@
 -- How the conversion walks the entries of (H, c) and writes those of the sign table.
-use mathlib.Core.List.{List}
 use mathlib.Core.Bool.{Bool, true, false, cond}
 use mathlib.Core.Path.{_≡_}
 use Prim.Native.Nat.{ℕ, zero, suc, _+_, _*_, _^_, _<_, _≤_}
-use lib.ListN.{length}
-use lib.Seq.{sets}
 use lib.Dec.{eqb, leb, ltb}
 use lib.IntN.{ℤ, pos, natAbs, _+ℤ_, _*ℤ_}
 use Rattle.laws.specs.Sum.{sum, total, only}
 use Rattle.tables.specs.Table.{Table, Before, InRange, Rising, magnitudeOf}
-use Rattle.sign_table.specs.SignTable.{isZero, rowsOf, colsOf, valuesOf}
+use Rattle.sign_table.specs.SignTable.{isZero}
+pub use Rattle.tables.specs.Stored.{Wrote, Room}
 
 -- the entries before k stand before (i, j), and those from k on do not
 pub record At (h : Table) (k i j : ℕ) : Type 0 where
@@ -58,18 +56,6 @@ pub record RowSummed (count : ℕ) (row : ℕ → ℕ) (value : ℕ → ℤ) (li
   pub is : total ≡ sum next (rowTerm row value i) +ℤ pos 2 *ℤ linear
   pub at : RowAt count row next i
   pub past : inRow count row i next ≡ false
-
--- the entries at the places ps, written from `at` on; the rest of the slices stays
-pub record Wrote (q : ℕ → ℕ → ℤ) (ps : List (ℕ × ℕ)) (at : ℕ) (rows cols : List ℕ) (values : List ℤ) (rows′ cols′ : List ℕ) (values′ : List ℤ) : Type 0 where
-  pub rows-are : rows′ ≡ sets rows at (rowsOf ps)
-  pub cols-are : cols′ ≡ sets cols at (colsOf ps)
-  pub values-are : values′ ≡ sets values at (valuesOf q ps)
-
--- there is room for m entries from `at` on
-pub record Room (at m : ℕ) (rows cols : List ℕ) (values : List ℤ) : Type 0 where
-  pub rows-room : at + m ≤ length rows
-  pub cols-room : at + m ≤ length cols
-  pub values-room : at + m ≤ length values
 
 -- what the conversion asks of (H, c): indices that u16 holds, entries in range and order, sums that i64 holds
 pub record Convertible (n : ℕ) (h : Table) (c : ℕ → ℤ) : Type 0 where

@@ -1,4 +1,3 @@
-
 use Rattle.reduced.proofs.lift_solution.lift_short.Statement.{statement}
 use Rattle.reduced.proofs.lift_solution.lift_short.Tie as tie
 use Rattle.reduced.specs.Lift.{liftShort}

@@ -6,7 +6,8 @@ use mathlib.Core.Path.{_≡_, _∙_}
 use denote.Ref.{now}
 use Rattle.tables.specs.Table.{tableOf}
 use Rattle.sdp_local_search.specs.BeamSearch.{signBytes}
-use Rattle.sdp_local_search.proofs.Calls.{part-size, found-into}
+use Rattle.sign_search.proofs.ExpandLaws.{part-size}
+use Rattle.sdp_local_search.proofs.Calls.{found-into}
 
 sub-search-from : tie.Need-sub-search-from
 sub-search-from c = search needs
@@ -27,7 +28,7 @@ same-length-2 : tie.Need-same-length-2
 same-length-2 c = search needs
 
 returns : tie.Need-returns
-returns c = 
+returns c =
     let a = c .before .before .before .before .before .before .before .before .before .before .before .before .args in
     let v = c .before .before .before .before .search-from in
     let e = part-size (a .m) (now (a .out)) (c .before .before .before .before .before .before .before .before .before .before .before .before .pre .4) in

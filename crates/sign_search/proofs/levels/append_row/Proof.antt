@@ -1,34 +1,29 @@
--- `append_row` meets its contract: the children by the listed changes are those on the table.
--- Assumes nothing.
+use borrow.Author.Needs.{needs}
+use borrow.Author.Needs.{needs}
+use Rattle.sign_search.proofs.levels.append_row.Statement.{statement}
+use Rattle.sign_search.proofs.levels.append_row.Tie as tie
 use mathlib.Core.Path.{_≡_, refl, sym, ap, _∙_, subst}
 use mathlib.Core.List.{List, []}
 use Prim.Native.Nat.{ℕ}
-use borrow.Author.Needs.{needs}
 use denote.Ref.{now}
-use Rattle.tables.specs.Table.{tableOf}
 use lib.IntN.{ℤ}
 use lib.ListN.{length}
-use mir.Syntax.{w64}
-use mir.Val.{toZ, ofZ}
 use mir.Facts.{toZ-ofZ}
+use Rattle.tables.specs.Table.{tableOf}
 use Rattle.local_search.specs.Level.{Choice, levelOf}
 use Rattle.local_search.specs.Children.{parentOf, Appended}
-use Rattle.sign_search.specs.Contracts.{RowAppends}
 use Rattle.sign_search.proofs.ExpandLaws.{listed-children, row-appends}
-use Rattle.sign_search.proofs.levels.append_row.Statement.{statement}
-use Rattle.sign_search.proofs.levels.append_row.Tie as tie
 
 changes-of-requires : tie.Need-changes-of-requires
-changes-of-requires c κs = let s = c .before .before .before .before .before in (s .pre .0 .table, s .pre .0 .changes-room, s .pre .1)
+changes-of-requires c κs = (c .before .before .before .before .before .pre .0 .table, c .before .before .before .before .before .pre .0 .changes-room, c .before .before .before .before .before .pre .1)
 
 first-level-requires : tie.Need-first-level-requires
 first-level-requires c κs =
     let k = c .before .before .before .before .changes-of in
-    let s = c .before .before .before .before .before .before .before .before .before .before in
-    let a = s .args in
-    rw (toZ-ofZ (s .fits .objective))
+    let a = c .before .before .before .before .before .before .before .before .before .before .args in
+    rw (toZ-ofZ (c .before .before .before .before .before .before .before .before .before .before .fits .objective))
     (row-appends (tableOf (a .entries) (now (a .rows)) (now (a .cols)) (now (a .values))) (parentOf (a .objective) (now (a .start))) (k .last .1 .1 .1 .1 .1 .0) (k .ensures)
-    (length (now (a .objectives))) (length (now (a .signs))) (rw (k .kept .1 .1 .1 .1 .1 .0) (s .pre .0)))
+    (length (now (a .objectives))) (length (now (a .signs))) (rw (k .kept .1 .1 .1 .1 .1 .0) (c .before .before .before .before .before .before .before .before .before .before .pre .0)))
 
 same-length : tie.Need-same-length
 same-length c = search needs
@@ -43,13 +38,22 @@ returns : tie.Need-returns
 returns c =
     let e = c .before .before .before .first-level in
     let k = c .before .before .before .before .before .before .before .before .changes-of in
-    let s = c .before .before .before .before .before .before .before .before .before .before .before .before .before .before in
-    let a = s .args in
+    let a = c .before .before .before .before .before .before .before .before .before .before .before .before .before .before .args in
     let m = length (now (a .start)) in
-    let p = parentOf (a .objective) (now (a .start)) in
-    subst (λ (l : List Choice). Appended [] l (levelOf m (e .result) (e .last .1 .1 .1 .0) (e .last .1 .1 .1 .1 .0)) (e .result) m)
-    (listed-children (tableOf (a .entries) (now (a .rows)) (now (a .cols)) (now (a .values))) p (k .last .1 .1 .1 .1 .1 .0) (k .ensures))
-    (rw (toZ-ofZ (s .fits .objective)) at (e .ensures))
+    let p = parentOf (a .objective) (now (a .start)) in (
+      subst (λ (l : List Choice). Appended [] l (levelOf m (e .result) (e .last .1 .1 .1 .0) (e .last .1 .1 .1 .1 .0)) (e .result) m)
+          (listed-children (tableOf (a .entries) (now (a .rows)) (now (a .cols)) (now (a .values))) p (k .last .1 .1 .1 .1 .1 .0) (k .ensures))
+          (rw (toZ-ofZ (c .before .before .before .before .before .before .before .before .before .before .before .before .before .before .fits .objective)) at (e .ensures)),
+      k .ensures,
+    )
 
 pub append-row-spec : {M : Type 1} → statement M
-append-row-spec = tie.close (tie.spec changes-of-requires first-level-requires same-length same-length-2 same-length-3 returns)
+append-row-spec =
+    tie.close
+    (tie.spec
+    changes-of-requires
+    first-level-requires
+    same-length
+    same-length-2
+    same-length-3
+    returns)

@@ -1,6 +1,6 @@
 -- `sign_table::sign_matrix::put_negated` meets its contract.
 use Rattle.sign_table.proofs.Bounds.{negation-fits, negation-is}
-use Rattle.sign_table.proofs.Writing.{wrote-none}
+use Rattle.tables.proofs.Writing.{wrote-none}
 use Rattle.sign_table.specs.SignTable.{isZero}
 use mir.Facts.{toZ-ofZ}
 use native.Mathlib.Omega.{arith}

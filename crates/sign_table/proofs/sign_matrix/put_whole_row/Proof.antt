@@ -1,7 +1,7 @@
 -- `sign_table::sign_matrix::put_whole_row` meets its contract.
 use Rattle.sign_table.proofs.Built.{sum-back}
 use Rattle.sign_table.proofs.Built.{row-asks, room-less, room-on, sum-small, whole-wrote, whole-many, next-row}
-use Rattle.sign_table.proofs.Writing.{row-length-le}
+use Rattle.tables.proofs.Writing.{row-length-le}
 use Rattle.sign_table.proofs.Cursor.{row-start}
 use Rattle.sign_table.proofs.Bounds.{linear-small}
 use Rattle.tables.specs.Table.{tableOf}

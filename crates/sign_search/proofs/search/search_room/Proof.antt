@@ -1,0 +1,84 @@
+use borrow.Author.Needs.{needs}
+use borrow.Author.Needs.{needs}
+use Rattle.sign_search.proofs.search.search_room.Statement.{statement}
+use Rattle.sign_search.proofs.search.search_room.Tie as tie
+use Prim.Native.Nat.{_*_, _≤_}
+use native.Mathlib.Nat.{mul-le-mul}
+use native.Mathlib.Omega.{arith}
+use denote.Ref.{now}
+use lib.ListN.{length}
+use mir.Facts.{toZ-ofZ}
+use Rattle.sign_search.proofs.ExpandLaws.{part-size}
+
+sub-search-levels : tie.Need-sub-search-levels
+sub-search-levels c = search needs
+
+part-search-levels-start : tie.Need-part-search-levels-start
+part-search-levels-start c = search needs
+
+part-search-levels-end : tie.Need-part-search-levels-end
+part-search-levels-end c = search needs
+
+slice-aggregate-search-levels : tie.Need-slice-aggregate-search-levels
+slice-aggregate-search-levels c = search needs
+
+slice-aggregate-search-levels-2 : tie.Need-slice-aggregate-search-levels-2
+slice-aggregate-search-levels-2 c = search needs
+
+slice-aggregate-search-levels-3 : tie.Need-slice-aggregate-search-levels-3
+slice-aggregate-search-levels-3 c = search needs
+
+search-levels-requires : tie.Need-search-levels-requires
+search-levels-requires c κs =
+    let r = c .before .before .before .before .before .before .before .before .before .before .before .before .before .pre .0 in
+    let a = c .before .before .before .before .before .before .before .before .before .before .before .before .before .args in
+    let m = length (now (a .kept)) in
+    let square : m * m ≤ 128 * 128 = mul-le-mul (r .signs-few) (r .signs-few) in
+    let wide : a .width * m ≤ 128 * 128 = mul-le-mul (r .width-few) (r .signs-few) in (
+      record {
+        some = c .before .before .before .before .before .before .before .before .before .before .before .before .before .pre .2;
+        changes-room = omega (arith, r .signs-few);
+        first-objectives = omega (arith, r .signs-few);
+        first-signs = omega (arith, square, r .level-room);
+        objectives-room = omega (arith, r .width-few);
+        signs-room = omega (arith, wide, r .level-room);
+        next-objectives-room = omega (arith, r .width-few);
+        next-signs-room = omega (arith, wide, c .before .before .before .before .before .before .before .before .before .before .before .before .before .pre .1 .level-room);
+      },
+      c .before .before .before .before .before .before .before .before .before .before .before .before .before .pre .4,
+      rw (toZ-ofZ (c .before .before .before .before .before .before .before .before .before .before .before .before .before .fits .objective)) (c .before .before .before .before .before .before .before .before .before .before .before .before .before .pre .5),
+      part-size m (now (a .scratch)) (omega (arith, c .before .before .before .before .before .before .before .before .before .before .before .before .before .pre .3, r .signs-few)),
+      c .before .before .before .before .before .before .before .before .before .before .before .before .before .pre .6,
+    )
+
+same-length : tie.Need-same-length
+same-length c = search needs
+
+same-length-2 : tie.Need-same-length-2
+same-length-2 c = search needs
+
+same-length-3 : tie.Need-same-length-3
+same-length-3 c = search needs
+
+same-length-4 : tie.Need-same-length-4
+same-length-4 c = search needs
+
+returns : tie.Need-returns
+returns c = rw (toZ-ofZ (c .before .before .before .before .before .before .before .before .before .before .before .before .before .before .before .before .before .before .before .before .before .before .before .before .before .fits .objective)) at (c .before .before .before .before .before .before .before .before .before .before .before .search-levels .ensures)
+
+pub search-room-spec : {M : Type 1} → statement M
+search-room-spec =
+    tie.close
+    (tie.spec
+    sub-search-levels
+    part-search-levels-start
+    part-search-levels-end
+    slice-aggregate-search-levels
+    slice-aggregate-search-levels-2
+    slice-aggregate-search-levels-3
+    search-levels-requires
+    same-length
+    same-length-2
+    same-length-3
+    same-length-4
+    returns)

@@ -1,0 +1,21 @@
+#!/usr/bin/env bash
+# Writes host/floats.txt, the stored answers of the float functions, from the oracle's generator and the oracle; with --check
+# compares them with what is stored. Long lines are left out.
+set -eu
+cd "$(dirname "$0")/.."
+oracle=target/oracle/release/oracle
+if [ "${1:-}" = --check ] && [ ! -x "$oracle" ]; then
+    echo "no oracle is built (oracle/README.md): passed over"
+    exit 0
+fi
+made=$(mktemp)
+trap 'rm -f "$made"' EXIT
+for name in dot norm project multiply grad obj dual check start round; do
+    python3 oracle/gen.py "leaf-$name" 40 7
+done | awk 'length($0) < 6000' | "$oracle" leaf >"$made"
+python3 oracle/gen.py leaf-step 150 11 | awk 'length($0) < 9000' | "$oracle" leaf >>"$made"
+if [ "${1:-}" = --check ]; then
+    cmp "$made" host/floats.txt
+else
+    cp "$made" host/floats.txt
+fi
