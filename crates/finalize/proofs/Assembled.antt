@@ -23,13 +23,14 @@ use Rattle.tables.specs.Table.{Table, tableOf, Lent, floorOf}
 use Rattle.tables.specs.Check.{Hall, Accepted}
 use Rattle.tables.specs.Bound.{entrywise}
 use Rattle.tables.specs.Cost.{decodedByte}
-use Rattle.sign_table.specs.SignTable.{rowsOf, colsOf, valuesOf, signOf, signPlaces, signTable}
-use Rattle.sign_table.specs.Walk.{Wrote}
+use Rattle.tables.specs.Stored.{rowsOf, colsOf, valuesOf, Wrote}
+use Rattle.sign_table.specs.SignTable.{signOf, signPlaces, signTable}
 use Rattle.rounding.specs.Rounding.{roundedSol, roundedObjective}
 use Rattle.sign_search.specs.Search.{objectiveIn, beamSearch}
 use Rattle.sign_search.specs.Contracts.{Found-by, Sound, Room}
 use Rattle.sign_search.proofs.Lawful.{objective-fits}
 use Rattle.sign_search.proofs.Theorems.{accepted-mirrors}
+use Rattle.sign_search.proofs.TurnLaws.{rising-climbs}
 use Rattle.sign_table.proofs.Theorems.{house-sign-table}
 use Rattle.prepared_table.specs.Work.{diagonalSum}
 use Rattle.maxcut_oracle.specs.Table.{dualVariables}
@@ -76,7 +77,7 @@ module _ (t : Table) (n rank width drawCount : ℕ) (draws factor : List Float) 
 
 module _ {m : ℕ} {t : Table} (ok : Accepted mostSigns mostSignEntries mostSignMagnitude m t) where
   pub sound : {len : ℕ} → len ≡ m → Sound len t
-  sound e = rw e (record { mirrors = accepted-mirrors ok; small = ok .magnitude })
+  sound e = rw e (record { mirrors = accepted-mirrors ok; climbs = rising-climbs t (ok .rising); small = ok .magnitude })
 
   pub room : {len width space : ℕ} → len ≡ m → width ≤ mostWidth → searchSpace ≤ space → Room 128 len width space
   room e w s = rw e (record { signs-few = ok .signs; width-few = w; level-room = s })

@@ -17,6 +17,7 @@ use Rattle.tables.specs.Table.{Table, tableOf}
 use Rattle.tables.specs.Cost as Cost
 use Rattle.tables.specs.Flip as Flip
 use Rattle.tables.specs.Bound as Bound
+use Rattle.tables.specs.Stored as Stored
 use Rattle.sign_table.specs.SignTable as SignTable
 use Rattle.factor.specs.Norms as Norms
 use Rattle.factor.specs.Vectors as Vectors
@@ -71,7 +72,7 @@ unfolding floorEighths floatBound diagonalTotal multipliersOf roundedCost search
     Finalize.choiceOf Finalize.roundedSigns Finalize.searched
     ofBits toBits ofInt add sub mul div neg lt Sqrt.sqrtOf Floats.eighthOf Sum.sum Sum.sum₂ Rows.mapFirst Turns.upTo
     Lists.anyBelow Lists.tabulate Lists.kept Table.share Table.least Table.valueAt Table.storedAt Flip.flipChange Cost.decodedByte Bound.boundTerm Bound.boundSum
-    Bound.magnitudeSum Bound.margin Bound.entrywise SignTable.absorbed SignTable.signValue SignTable.rowPlaces SignTable.places SignTable.signKept SignTable.signPlaces
+    Bound.magnitudeSum Bound.margin Bound.entrywise SignTable.absorbed SignTable.signValue Stored.rowPlaces Stored.places SignTable.signKept SignTable.signPlaces
     Norms.dotTo Norms.dotOf Norms.sumTo Norms.sumOf Vectors.addScaled Vectors.added Vectors.divided Vectors.unit Multiply.productRow Multiply.productOf
     Work.setsAside Work.workRows Work.workCols Work.workValues Work.rowStart Work.workStarts Work.diagonalOf Work.diagonalSum Objective.multipliers Oracle.workProduct Oracle.dualVariables
     Rounding.drawSigns Rounding.firstLeast Rounding.roundedSol Search.objectiveIn Search.changeIn Search.heightIn Search.beamSearch
