@@ -24,7 +24,7 @@ use Rattle.sign_table.specs.Walk.{At, isHere, hereValue, afterHere, next
 use Rattle.sign_table.proofs.Costs.{inner, column, row, corner}
 use Rattle.sign_table.proofs.Cursor.{at-start, heldAt, Next, next-column, here-value, here-next, at-row, row-start, row-summed, total-start, row-total}
 use Rattle.tables.proofs.Writing.{wrote-none, wrote-more, wrote-same, wrote-value, wrote-edge, row-more, row-next, row-skip, row-length-lt, row-length-le}
-pub use Rattle.tables.proofs.Kept.{places-more, places-count, places-le}
+use Rattle.tables.proofs.Kept.{places-more, places-count, places-le}
 use Rattle.sign_table.proofs.Bounds.{abs-only, row-small, linear-small, rows-held, rows-abs}
 
 -- ---- which places are kept

@@ -7,5 +7,3 @@ pub mod Sizes
 pub mod Theorems
 pub mod Slices
 pub mod Examples
-pub mod Kept
-pub mod Writing

@@ -10,7 +10,7 @@ use Rattle.tables.specs.Table.{Table, tableOf, valueAt, signAt, objectiveOf, fl
 use Rattle.tables.specs.Cost.{costEighths, decoded, choiceAt}
 use Rattle.tables.specs.Check.{Hall, Accepted}
 use Rattle.tables.specs.Stored.{rowsOf, colsOf, valuesOf, Wrote, Room}
-pub use Rattle.tables.proofs.Slices.{Same, same-objective, same-floor, same-accepted, written-same, over-same}
+use Rattle.tables.proofs.Slices.{Same, same-objective, same-floor, same-accepted, written-same, over-same}
 use Rattle.sign_table.specs.SignTable.{signOf, signPlaces}
 use Rattle.sign_table.proofs.Theorems.{sign-table-accepted, objective-cost, floor-le-choice}
 
