@@ -5,7 +5,7 @@
 #include <string.h>
 #include <time.h>
 
-double bench_sqrt(double);
+double host_sqrt(double);
 
 static uint64_t state = 88172645463325252ull;
 static uint64_t next(void) { state ^= state << 13; state ^= state >> 7; state ^= state << 17; return state; }
@@ -18,7 +18,7 @@ enum { SIZE = 1 << 16, CALLS = 10000000 };
 static double numbers[SIZE];
 
 static int differs(uint64_t b) {
-    double a = bench_sqrt(of(b)), c = sqrt(of(b));
+    double a = host_sqrt(of(b)), c = sqrt(of(b));
     return !(isnan(a) && isnan(c)) && bits(a) != bits(c);
 }
 
@@ -33,7 +33,7 @@ static double timed(double (*root)(double)) {
 }
 
 static void row(const char *name) {
-    double ours = timed(bench_sqrt), hardware = timed(machine);
+    double ours = timed(host_sqrt), hardware = timed(machine);
     printf("%-34s %6.1f ns  sqrtsd %5.1f ns  ratio %5.1f\n", name, ours, hardware, ours / hardware);
 }
 

@@ -2,7 +2,7 @@
 // Least processor time of many batches. m = 128, 4,478 entries with the diagonal, which is set aside.
 use std::os::raw::{c_int, c_long};
 extern "C" {
-    fn bench_step(
+    fn host_step(
         rule: u8, number: f64, rows: *const u16, rows_len: usize, cols: *const u16, cols_len: usize, values: *const f64, values_len: usize,
         starts: *const usize, starts_len: usize, m: usize, rank: usize, factor: *mut f64, factor_len: usize, scratch: *mut f64, scratch_len: usize,
         moved: *mut f64, moved_len: usize,
@@ -127,7 +127,7 @@ fn table(m: usize, next: &mut impl FnMut() -> u64) -> Table {
 
 fn proved(t: &Table, rule: u8, number: f64, m: usize, rank: usize, factor: &mut [f64], scratch: &mut [f64], moved: &mut [f64]) {
     unsafe {
-        bench_step(
+        host_step(
             rule, number, t.rows.as_ptr(), t.rows.len(), t.cols.as_ptr(), t.cols.len(), t.values.as_ptr(), t.values.len(), t.starts.as_ptr(), t.starts.len(),
             m, rank, factor.as_mut_ptr(), factor.len(), scratch.as_mut_ptr(), scratch.len(), moved.as_mut_ptr(), moved.len(),
         )

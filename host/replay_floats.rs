@@ -18,7 +18,7 @@ extern "C" {
     fn host_round(f: *const f64, fl: usize, x: *const f64, xn: usize, rank: usize, m: usize, d: *mut f64, dn: usize, s: *mut u8, sn: usize);
     fn host_multiply(c: *const u16, cn: usize, v: *const f64, vn: usize, s: *const usize, sn: usize, f: *const f64, fl: usize, rank: usize, m: usize, o: *mut f64, on: usize);
     fn host_grad(c: *const u16, cn: usize, v: *const f64, vn: usize, s: *const usize, sn: usize, f: *const f64, fl: usize, rank: usize, m: usize, o: *mut f64, on: usize);
-    fn bench_step(rule: u8, number: f64, r: *const u16, rn: usize, c: *const u16, cn: usize, v: *const f64, vn: usize, s: *const usize, sn: usize, m: usize, rank: usize, f: *mut f64, fl: usize, a: *mut f64, al: usize, b: *mut f64, bl: usize);
+    fn host_step(rule: u8, number: f64, r: *const u16, rn: usize, c: *const u16, cn: usize, v: *const f64, vn: usize, s: *const usize, sn: usize, m: usize, rank: usize, f: *mut f64, fl: usize, a: *mut f64, al: usize, b: *mut f64, bl: usize);
 }
 
 /// The words of a line, read one by one.
@@ -108,7 +108,7 @@ fn step(w: &mut Words) -> Vec<Out> {
     let mut f = w.doubles();
     let (mut a, mut b) = (vec![0.0; f.len()], vec![0.0; f.len()]);
     let (r, c, v, s) = (&t.rows, &t.cols, &t.values, &t.starts);
-    unsafe { bench_step(rule, number, r.as_ptr(), r.len(), c.as_ptr(), c.len(), v.as_ptr(), v.len(), s.as_ptr(), s.len(), t.m, rank, f.as_mut_ptr(), f.len(), a.as_mut_ptr(), a.len(), b.as_mut_ptr(), b.len()) };
+    unsafe { host_step(rule, number, r.as_ptr(), r.len(), c.as_ptr(), c.len(), v.as_ptr(), v.len(), s.as_ptr(), s.len(), t.m, rank, f.as_mut_ptr(), f.len(), a.as_mut_ptr(), a.len(), b.as_mut_ptr(), b.len()) };
     slice(&f)
 }
 

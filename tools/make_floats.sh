@@ -1,9 +1,13 @@
 #!/usr/bin/env bash
 # Writes host/floats.txt, the stored answers of the float functions, from the oracle's generator and the oracle; with --check
-# compares them with what is stored. Lines of more than 12,000 characters are left out.
+# compares them with what is stored. Long lines are left out.
 set -eu
 cd "$(dirname "$0")/.."
 oracle=target/oracle/release/oracle
+if [ "${1:-}" = --check ] && [ ! -x "$oracle" ]; then
+    echo "no oracle is built (oracle/README.md): passed over"
+    exit 0
+fi
 made=$(mktemp)
 trap 'rm -f "$made"' EXIT
 for name in dot norm project multiply grad obj dual check start round; do

@@ -18,6 +18,7 @@ NAN = 0x7FF8000000000000
 INF = 0x7FF0000000000000
 MINUS = 1 << 63
 TOP = os.path.dirname(os.path.dirname(os.path.abspath(__file__)))
+PROGRAM = os.path.join(TOP, "target", "oracle", "release", "oracle")
 
 
 def root(b):
@@ -261,9 +262,8 @@ def table_groups(rng):
 
 def oracle(name, cases):
     """The oracle's answers: pairs of the words given and the words expected."""
-    program = os.path.join(TOP, "target", "oracle", "release", "oracle")
     lines = "".join(name + "".join(f" {w:016X}" for w in case) + "\n" for case in cases)
-    out = subprocess.run([program, "leaf"], input=lines, capture_output=True, text=True, check=True).stdout.split("\n")
+    out = subprocess.run([PROGRAM, "leaf"], input=lines, capture_output=True, text=True, check=True).stdout.split("\n")
     answers = []
     for line in filter(None, out):
         given, expected = line.split(" = ")
@@ -282,6 +282,9 @@ def stored():
 
 
 def main():
+    if "--check" in sys.argv and not os.path.exists(PROGRAM):
+        print("no oracle is built (oracle/README.md): passed over")
+        return
     for name, text in stored().items():
         path = os.path.join(TOP, "crates", "replay", name)
         if "--check" not in sys.argv:

@@ -11,15 +11,12 @@ use lib.ListN.{length, take, drop, length-append}
 use lib.Seq.{take-at, drop-at, length-take-le}
 use lib.IntN.{ℤ}
 use lib.Ieee.{Float, binary64, fits}
-use lib.Ieee.Bits.{ofBits-toBits, toBits-lt}
 use mir.Syntax.{w64}
 use mir.Val.{SFits}
-use mir.ValLaws.{toZ-ofZ, ofZ-fits}
 use Rattle.laws.specs.Lists.{over}
-use Rattle.ieee.specs.Floats.{doubleOf, bitsOf, signedOf, bitsOfSigned}
 use Rattle.job_reader.specs.Bytes.{bigEndian, signedAt, doubleAt}
 use Rattle.job_reader.specs.Encode.{bytesOf}
-use Rattle.job_reader.proofs.Encode.{read-bytes}
+use Rattle.job_reader.proofs.Encode.{read-bytes, read-signed, read-double}
 use Rattle.answer_record.specs.Answer.{frameBytes, countBytes, floatBytes, eighthBytes, answerBytes, answerOf, choiceOf}
 use Rattle.answer_record.specs.declared.answer.Answer.{Answer}
 use Rattle.answer_record.proofs.Sizes.{length-frame, length-count, length-float, length-eighth}
@@ -37,12 +34,6 @@ pub record Held (a : Answer) : Type 0 where
   pub cost : SFits w64 (a .cost)
   pub rounds : a .rounds < 2 ^ 64
 
-double-back : (x : Float) → T (fits binary64 x) → doubleOf (bigEndian (bytesOf 8 (bitsOf x)) 0 8) ≡ x
-double-back x h = ap doubleOf (read-bytes 8 (bitsOf x) (toBits-lt binary64 x h)) ∙ ofBits-toBits binary64 x h
-
-signed-back : (z : ℤ) → SFits w64 z → signedOf (bigEndian (bytesOf 8 (bitsOfSigned z)) 0 8) ≡ z
-signed-back z h = ap signedOf (read-bytes 8 (bitsOfSigned z) (ofZ-fits w64 z h .fits)) ∙ toZ-ofZ w64 z h
-
 same : {status status′ rank rank′ n n′ sweeps sweeps′ rounds rounds′ : ℕ} {relaxed relaxed′ bound bound′ : Float} {floor floor′ rounded rounded′ cost cost′ : ℤ}
     → status ≡ status′ → rank ≡ rank′ → n ≡ n′ → sweeps ≡ sweeps′ → relaxed ≡ relaxed′ → bound ≡ bound′ → floor ≡ floor′ → rounded ≡ rounded′ → cost ≡ cost′ → rounds ≡ rounds′
     → _≡_ {A = Answer} (record { status = status; rank = rank; n = n; sweeps = sweeps; «relaxed_objective» = relaxed; «float_bound» = bound; floor = floor; «rounded_cost» = rounded; cost = cost; rounds = rounds })
@@ -53,8 +44,8 @@ pub answer-back : (a : Answer) (b out : List ℕ) → Held a → answerOf (over 
 unfolding answerOf answerBytes frameBytes countBytes floatBytes eighthBytes bytesOf bigEndian
 answer-back a b out h =
     same (read-bytes 1 (a .status) (h .status)) (read-bytes 1 (a .rank) (h .rank)) (read-bytes 1 (a .n) (h .n)) (read-bytes 4 (a .sweeps) (h .sweeps))
-    (double-back (a .«relaxed_objective») (h .relaxed)) (double-back (a .«float_bound») (h .bound))
-    (signed-back (a .floor) (h .floor)) (signed-back (a .«rounded_cost») (h .rounded)) (signed-back (a .cost) (h .cost)) (read-bytes 8 (a .rounds) (h .rounds))
+    (read-double (a .«relaxed_objective») (h .relaxed)) (read-double (a .«float_bound») (h .bound))
+    (read-signed (a .floor) (h .floor)) (read-signed (a .«rounded_cost») (h .rounded)) (read-signed (a .cost) (h .cost)) (read-bytes 8 (a .rounds) (h .rounds))
 
 front-size : (a : Answer) → length (frameBytes (a .n) ++ countBytes (a .status) (a .rank) (a .n) (a .sweeps) ++ floatBytes (a .«relaxed_objective») (a .«float_bound»)
     ++ eighthBytes (a .floor) (a .«rounded_cost») (a .cost) (a .rounds)) ≡ 60

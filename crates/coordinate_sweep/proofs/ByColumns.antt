@@ -89,14 +89,14 @@ block-put : (f : ℕ → Float) (offset d e : ℕ) (g ys : List Float) → ys �
 block-put f offset d e g ys h =
     let s : List Float = tabulate (λ j. f (offset + j)) d ++ drop (offset + d) g in
     let split : ys ≡ tabulate f offset ++ s =
-        h ∙ rw (length-tabulate f (offset + d), tabulate-add f offset d) (append-assoc (tabulate f offset) (tabulate (λ j. f (offset + j)) d) (drop (offset + d) g)) in
+    h ∙ rw (length-tabulate f (offset + d), tabulate-add f offset d) (append-assoc (tabulate f offset) (tabulate (λ j. f (offset + j)) d) (drop (offset + d) g)) in
     let front : take offset ys ≡ tabulate f offset = rw split (take-at (tabulate f offset) s offset (length-tabulate f offset)) in
     let back : drop offset ys ≡ s = rw split (drop-at (tabulate f offset) s offset (length-tabulate f offset)) in
     let rest : drop (d + e) s ≡ drop (offset + (d + e)) g =
-        sym (drop-drop e d s)
-        ∙ ap (drop e) (drop-at (tabulate (λ j. f (offset + j)) d) (drop (offset + d) g) d (length-tabulate (λ j. f (offset + j)) d))
-        ∙ drop-drop e (offset + d) g
-        ∙ ap (λ (k : ℕ). drop k g) (add-assoc offset d e) in
+    sym (drop-drop e d s)
+    ∙ ap (drop e) (drop-at (tabulate (λ j. f (offset + j)) d) (drop (offset + d) g) d (length-tabulate (λ j. f (offset + j)) d))
+    ∙ drop-drop e (offset + d) g
+    ∙ ap (λ (k : ℕ). drop k g) (add-assoc offset d e) in
     rw (front, back, rest, length-tabulate f (offset + (d + e)), tabulate-add f offset (d + e))
     (sym (append-assoc (tabulate f offset) (tabulate (λ j. f (offset + j)) (d + e)) (drop (offset + (d + e)) g)))
 

@@ -86,5 +86,13 @@ pub fn put_block(
 {
     let rank = g.len();
     let end = offset + 16;
-    gradient_block(cols, values, factor, vertex, rank, offset, &mut g[offset..end]);
+    gradient_block(
+        cols,
+        values,
+        factor,
+        vertex,
+        rank,
+        offset,
+        &mut g[offset..end],
+    );
 }

@@ -19,7 +19,14 @@ fn less_entry(sum: f64, vertex: usize, k: usize, weight: f64, x: f64) -> f64
 }
 
 // The sum of column j.
-fn column(cols: &[u16], values: &[f64], factor: &[f64], vertex: usize, rank: usize, j: usize) -> f64
+pub fn column(
+    cols: &[u16],
+    values: &[f64],
+    factor: &[f64],
+    vertex: usize,
+    rank: usize,
+    j: usize,
+) -> f64
     requires { ⌜ (j < rank) × (length (now cols) ≡ length (now values)) ⌝ }
     requires { ⌜ ColumnsWithin (now cols) rank (now factor) ⌝ }
     ensures { λ r. ⌜ r ≡ columnOf (now (cols .entry)) (now (values .entry)) (now (factor .entry)) vertex rank j ⌝ }

@@ -7,6 +7,7 @@ ghost use Rattle.laws.specs.Lists.{over, tabulate};
 ghost use Rattle.factor.specs.Shapes.{ColumnsWithin};
 ghost use Rattle.coordinate_sweep.specs.Columns.{columnOf};
 ghost use Rattle.coordinate_sweep.specs.Sweep.{gradientOf};
+use super::columns::column;
 use super::columns::put_columns;
 
 // As many whole blocks of 16 columns as there are; how many columns they are.
@@ -24,19 +25,7 @@ fn put_blocks16(cols: &[u16], values: &[f64], factor: &[f64], vertex: usize, g: 
     offset
 }
 
-// Where the next block of 4 columns starts: at `offset`, or so that it ends with the last column.
-fn block_start(offset: usize, rank: usize) -> usize
-    requires { ⌜ (4 ≤ rank) × (offset < rank) ⌝ }
-    ensures { λ r. ⌜ (r ≤ offset) × (offset < r + 4) × (r + 4 ≤ rank) ⌝ }
-{
-    if offset <= rank - 4 {
-        return offset;
-    }
-    rank - 4
-}
-
-// The columns from `first` on by blocks of 4. The last block goes over some columns once more, where they aren't a multiple
-// of 4: their sums are the same.
+// As many whole blocks of 4 columns as there are from `first` on; the first column that is left.
 fn put_blocks4(
     cols: &[u16],
     values: &[f64],
@@ -44,19 +33,45 @@ fn put_blocks4(
     vertex: usize,
     first: usize,
     g: &mut [f64],
+) -> usize
+    requires { ⌜ (first ≤ length (now g)) × (length (now cols) ≡ length (now values)) ⌝ }
+    requires { ⌜ ColumnsWithin (now cols) (length (now g)) (now factor) ⌝ }
+    requires { ⌜ take first (now g) ≡ tabulate (columnOf (now cols) (now values) (now factor) vertex (length (now g))) first ⌝ }
+    ensures { λ r. ⌜ (r ≤ length (now (g .entry))) × (length (now (g .entry)) < r + 4) × (now (g .exit) ≡ over (tabulate (columnOf (now (cols .entry)) (now (values .entry)) (now (factor .entry)) vertex (length (now (g .entry)))) r) (now (g .entry))) ⌝ }
+{
+    let rank = g.len();
+    let mut offset = first;
+    while rank - offset >= 4 {
+        super::block4::put_block(cols, values, factor, vertex, offset, g);
+        offset += 4;
+    }
+    offset
+}
+
+// The last columns, fewer than 4: one by itself; two or three by a last block of 4 columns, which goes over some once more:
+// their sums are the same.
+fn put_rest(
+    cols: &[u16],
+    values: &[f64],
+    factor: &[f64],
+    vertex: usize,
+    first: usize,
+    g: &mut [f64],
 )
-    requires { ⌜ (4 ≤ length (now g)) × (first ≤ length (now g)) × (length (now cols) ≡ length (now values)) ⌝ }
+    requires { ⌜ (4 ≤ length (now g)) × (first ≤ length (now g)) × (length (now g) < first + 4) × (length (now cols) ≡ length (now values)) ⌝ }
     requires { ⌜ ColumnsWithin (now cols) (length (now g)) (now factor) ⌝ }
     requires { ⌜ take first (now g) ≡ tabulate (columnOf (now cols) (now values) (now factor) vertex (length (now g))) first ⌝ }
     ensures { λ _. ⌜ now (g .exit) ≡ gradientOf (now (cols .entry)) (now (values .entry)) (now (factor .entry)) vertex (length (now (g .entry))) ⌝ }
 {
     let rank = g.len();
-    let mut offset = first;
-    while offset < rank {
-        let start = block_start(offset, rank);
-        super::block4::put_block(cols, values, factor, vertex, start, g);
-        offset = start + 4;
+    if first == rank {
+        return;
     }
+    if rank - first == 1 {
+        g[first] = column(cols, values, factor, vertex, rank, first);
+        return;
+    }
+    super::block4::put_block(cols, values, factor, vertex, rank - 4, g);
 }
 
 // The negated gradient of row `vertex` without its diagonal: one sum per column over the row's entries.
@@ -68,7 +83,8 @@ pub fn gradient(cols: &[u16], values: &[f64], factor: &[f64], vertex: usize, g: 
     if g.len() < 4 {
         put_columns(cols, values, factor, vertex, g);
     } else {
-        let first = put_blocks16(cols, values, factor, vertex, g);
-        put_blocks4(cols, values, factor, vertex, first, g);
+        let whole = put_blocks16(cols, values, factor, vertex, g);
+        let first = put_blocks4(cols, values, factor, vertex, whole, g);
+        put_rest(cols, values, factor, vertex, first, g);
     }
 }

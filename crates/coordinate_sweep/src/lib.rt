@@ -12,8 +12,9 @@ ghost use Rattle.ieee.specs.Sqrt.{sqrtOf};
 ghost use Rattle.factor.specs.Norms.{squaredNorm};
 ghost use Rattle.factor.specs.Shapes.{RowFits, Shaped};
 ghost use Rattle.coordinate_sweep.specs.Sweep.{exactRow, momentumRow, normalized, wrote, updateRow, gradientAt, rowBy, sweptRow, sweepTo};
+use factor::rows::clear;
+use factor::rows::scale;
 use factor::sums::squared_norm;
-use factor::rows::{clear, scale};
 use gradient::gradient;
 
 // The exact update: the gradient times `inv`.

@@ -6,7 +6,10 @@ ghost use lib.ListN.{length};
 ghost use Rattle.laws.specs.Rows.{setRow};
 ghost use Rattle.factor.specs.Shapes.{ColumnsWithin, RowFits, Shaped};
 ghost use Rattle.factor.specs.Multiply.{productRow, productAt, productOf, gradOf};
-use super::rows::{row, clear, add_scaled, multiply_by};
+use super::rows::add_scaled;
+use super::rows::clear;
+use super::rows::multiply_by;
+use super::rows::row;
 
 // One row of the matrix times the factor.
 fn multiply_row(cols: &[u16], values: &[f64], factor: &[f64], out: &mut [f64])

@@ -82,10 +82,11 @@ and-left a b e f = rw e at f
 pub draws-good : (m rank k : ℕ) → drawsRefused m rank k ≡ false → (rank ≡ 0 → m ≤ mostSigns) × (rank ≤ mostRank) × (k ≤ mostDraws)
 unfolding drawsRefused badDraws
 draws-good m rank k e =
-    let rest = any-rest _ _ e in
-    (λ z. signs-parts m (and-left (eqb rank 0) (badSigns m) (rw z) (any-head _ _ (any-rest _ _ rest))) .1,
-    ltb-false mostRank rank (any-head _ _ rest),
-    ltb-false mostDraws k (any-head _ _ (any-rest _ _ (any-head _ _ e))))
+    let rest = any-rest _ _ e in (
+      λ z. signs-parts m (and-left (eqb rank 0) (badSigns m) (rw z) (any-head _ _ (any-rest _ _ rest))) .1,
+      ltb-false mostRank rank (any-head _ _ rest),
+      ltb-false mostDraws k (any-head _ _ (any-rest _ _ (any-head _ _ e))),
+    )
 
 pub record Usable (m count : ℕ) (rows cols : List ℕ) (values : List ℤ) (rank factor k draws out : ℕ) : Type 0 where
   pub lent : Lent count rows cols values

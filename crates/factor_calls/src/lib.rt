@@ -1,7 +1,9 @@
 // The calls on a sign table given directly that take a factor. None has a `requires`: what can't be used is refused by its number, and a
 // refusal writes nothing.
 mod numbers;
-use numbers::{rank_meant, rounded_number};
+
+use numbers::rank_meant;
+use numbers::rounded_number;
 use run_record::MOST_RANK;
 use table_calls::Eighths;
 use tables::limits::MOST_SIGNS;
@@ -102,6 +104,17 @@ pub fn compute_rounded_sol(
         return Eighths::Refused(number);
     }
     let meant = rank_meant(m, rank);
-    let objective = round(m, count, rows, cols, values, meant, factor, draw_count, draws, out);
+    let objective = round(
+        m,
+        count,
+        rows,
+        cols,
+        values,
+        meant,
+        factor,
+        draw_count,
+        draws,
+        out,
+    );
     Eighths::Value(objective)
 }

@@ -1,7 +1,13 @@
 // The numbers of the calls, in 01's order: 31, 13 to 16, 17, 19.
-use run_record::{MOST_DRAWS, MOST_RANK};
-use tables::check::{short_table, table_number, too_short, wide};
-use tables::limits::{MOST_SIGN_ENTRIES, MOST_SIGN_MAGNITUDE, MOST_SIGNS};
+use run_record::MOST_DRAWS;
+use run_record::MOST_RANK;
+use tables::check::short_table;
+use tables::check::table_number;
+use tables::check::too_short;
+use tables::check::wide;
+use tables::limits::MOST_SIGN_ENTRIES;
+use tables::limits::MOST_SIGN_MAGNITUDE;
+use tables::limits::MOST_SIGNS;
 use tables::rank::default_sdp_rank;
 ghost use mathlib.Core.Path.{_≡_};
 ghost use Prim.Native.Nat.{_≤_};

@@ -2,7 +2,7 @@
 --     chooses         the rounding, the search and the decoding
 --     works           all figures of a sign table
 --     finalizes       they are those of (H, c)
---     written         the sign table of (H, c) stands at the front of the slices that it was written to
+--     cut             the sign table of (H, c) stands at the front of the slices that it was written to
 use Prim.Native.Nat.{ℕ, zero, suc, _+_, _*_, _≤_, _<_}
 use native.Mathlib.Numerals.{add-one}
 use native.Mathlib.Omega.{arith}
@@ -125,43 +125,61 @@ module _ (n : ℕ) (h : Table) (c : ℕ → ℤ) (rank width drawCount : ℕ) (d
   finalizes e w =
       of-signs (subst (λ (t : Table). Works t n rank width drawCount draws factor b b′ multipliers multipliers′ diagonal bound floor rounded cost rounds) e w)
 
--- the table that stands at the front of the slices that `sign_matrix` wrote
-pub written : (n : ℕ) (h : Table) (c : ℕ → ℤ) {rows cols rows′ cols′ : List ℕ} {values values′ : List ℤ} (entries : ℕ)
-    → Wrote (signOf n h c) (signPlaces n h c) 0 rows cols values rows′ cols′ values′ → entries ≡ length (signPlaces n h c)
-    → entries ≤ length rows → entries ≤ length cols → entries ≤ length values
-    → tableOf entries (take entries rows′) (take entries cols′) (take entries values′) ≡ signTable n h c
-written n h c {rows} {cols} {values = values} entries w e r k v =
-    let ps = signPlaces n h c in
-    rw (
-      w .rows-are,
-      w .cols-are,
-      w .values-are,
-      taken (rowsOf ps) rows entries (e ∙ sym (length-map ps (λ p. p .0))) r,
-      taken (colsOf ps) cols entries (e ∙ sym (length-map ps (λ p. p .1))) k,
-      taken (valuesOf (signOf n h c) ps) values entries (e ∙ sym (length-map ps (λ p. signOf n h c (p .0) (p .1)))) v,
-      e,
-    )
+-- ---- the sign table at the front of the slices that `sign_matrix` wrote
 
-module _ (n : ℕ) (h : Table) (c : ℕ → ℤ) (hall : Hall mostWagons mostEntries mostMagnitude n h c) where
-  pub entries-few : length (signPlaces n h c) ≤ mostSignEntries
-  entries-few = house-sign-table hall .entries
+pub record Cut (n : ℕ) (h : Table) (c : ℕ → ℤ) (entries : ℕ) (rows cols : List ℕ) (values : List ℤ) : Type 0 where
+  pub rows-fit : entries ≤ length rows
+  pub cols-fit : entries ≤ length cols
+  pub values-fit : entries ≤ length values
+  pub is : tableOf entries (take entries rows) (take entries cols) (take entries values) ≡ signTable n h c
 
-  pub accepted-written : {t : Table} → t ≡ signTable n h c → Accepted mostSigns mostSignEntries mostSignMagnitude (suc n) t
-  accepted-written e = rw e (house-sign-table hall)
+module _ (n : ℕ) (h : Table) (c : ℕ → ℤ) where
+  cut-is : {rows cols rows′ cols′ : List ℕ} {values values′ : List ℤ} (entries : ℕ)
+      → Wrote (signOf n h c) (signPlaces n h c) 0 rows cols values rows′ cols′ values′ → entries ≡ length (signPlaces n h c)
+      → entries ≤ length rows → entries ≤ length cols → entries ≤ length values
+      → tableOf entries (take entries rows′) (take entries cols′) (take entries values′) ≡ signTable n h c
+  cut-is {rows} {cols} {values = values} entries w e r k v =
+      let ps = signPlaces n h c in
+      rw (
+        w .rows-are,
+        w .cols-are,
+        w .values-are,
+        taken (rowsOf ps) rows entries (e ∙ sym (length-map ps (λ p. p .0))) r,
+        taken (colsOf ps) cols entries (e ∙ sym (length-map ps (λ p. p .1))) k,
+        taken (valuesOf (signOf n h c) ps) values entries (e ∙ sym (length-map ps (λ p. signOf n h c (p .0) (p .1)))) v,
+        e,
+      )
 
-pub lent-parts : {entries : ℕ} (rows cols : List ℕ) (values : List ℤ) → entries ≤ length rows → entries ≤ length cols → entries ≤ length values
-    → Lent entries (take entries rows) (take entries cols) (take entries values)
-lent-parts {entries} rows cols values r k v =
-    record {
-      rows-there = omega (arith, length-take-le entries rows r);
-      cols-there = omega (arith, length-take-le entries cols k);
-      values-there = omega (arith, length-take-le entries values v);
-    }
+  pub cut : {rows cols rows′ cols′ : List ℕ} {values values′ : List ℤ} (entries : ℕ) → Hall mostWagons mostEntries mostMagnitude n h c
+      → Wrote (signOf n h c) (signPlaces n h c) 0 rows cols values rows′ cols′ values′ → entries ≡ length (signPlaces n h c)
+      → (mostSignEntries ≡ length rows) × (length rows′ ≡ length rows) → (mostSignEntries ≡ length cols) × (length cols′ ≡ length cols)
+      → (mostSignEntries ≡ length values) × (length values′ ≡ length values)
+      → Cut n h c entries rows′ cols′ values′
+  cut entries hall w e r k v =
+      let few : length (signPlaces n h c) ≤ mostSignEntries = house-sign-table hall .entries in
+      record {
+        rows-fit = omega (arith, few, e, r .0, r .1);
+        cols-fit = omega (arith, few, e, k .0, k .1);
+        values-fit = omega (arith, few, e, v .0, v .1);
+        is = cut-is entries w e (omega (arith, few, e, r .0)) (omega (arith, few, e, k .0)) (omega (arith, few, e, v .0));
+      }
 
-module _ (n rank width drawCount draws factor b multipliers workspace : ℕ) (fits : Fits n rank width drawCount draws factor b multipliers workspace) where
+module _ {n : ℕ} {h : Table} {c : ℕ → ℤ} {entries : ℕ} {rows cols : List ℕ} {values : List ℤ} (k : Cut n h c entries rows cols values) where
+  pub cut-accepted : Hall mostWagons mostEntries mostMagnitude n h c → Accepted mostSigns mostSignEntries mostSignMagnitude (suc n) (tableOf entries (take entries rows) (take entries cols) (take entries values))
+  cut-accepted hall = rw (k .is) (house-sign-table hall)
+
+  pub cut-lent : Lent entries (take entries rows) (take entries cols) (take entries values)
+  cut-lent =
+      record {
+        rows-there = omega (arith, length-take-le entries rows (k .rows-fit));
+        cols-there = omega (arith, length-take-le entries cols (k .cols-fit));
+        values-there = omega (arith, length-take-le entries values (k .values-fit));
+      }
+
+module _ {n rank width drawCount draws factor b multipliers workspace : ℕ} (fits : Fits n rank width drawCount draws factor b multipliers workspace) where
   -- a factor that is cut to its rows
-  pub cut-fits : (part : ℕ) → part ≡ suc n * rank → Fits n rank width drawCount draws part b multipliers workspace
-  cut-fits part e =
+  pub cut-fits : {part : ℕ} → part ≡ suc n * rank → Fits n rank width drawCount draws part b multipliers workspace
+  cut-fits e =
       record {
         rank-some = fits .rank-some;
         rank-few = fits .rank-few;

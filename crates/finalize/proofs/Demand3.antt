@@ -1,13 +1,18 @@
--- Demand 3 holds of every accepted finish of width 1 or more, whatever the factor and the draws. Assumes nothing.
+-- Demand 3 holds of every accepted finish of width 1 or more, whatever the factor and the draws.
+--     demand3         of whatever an accepted finish leaves
+--     rounded-first   the rounded choice is that of the first draw of least cost
+--     search-ends     the search's levels end with an empty one, and the search is over exactly these
+--     unsearched      with width 0 the rounded choice stands, rounds 0
+-- Assumes nothing.
 use Prim.Native.Nat.{ℕ, zero, suc, _+_, _-_, _*_, _≤_, _<_}
 use native.Mathlib.Decide.{ℕ-discrete}
 use native.Mathlib.Omega.{arith}
 use borrow.Author.Tests.{eq-eqb, ne-eqb}
 use mathlib.Core.Bool.{Bool, true, false, cond}
 use mathlib.Core.List.{List}
-use mathlib.Core.Path.{_≡_, refl, sym, ap, ap₂, _∙_, subst₂}
+use mathlib.Core.Path.{_≡_, refl, sym, ap, _∙_, subst, subst₂}
 use lib.Dec.{eqb}
-use lib.IntN.{ℤ, pos, negℤ, _+ℤ_, _-ℤ_, _*ℤ_}
+use lib.IntN.{ℤ, pos, negℤ, _+ℤ_, _-ℤ_}
 use lib.Ieee.{Float}
 use lib.ListN.{length, getD, take, List·getD-append}
 use lib.Seq.{take-at}
@@ -15,30 +20,27 @@ use lib.Signed.{_≤ℤ_}
 use Rattle.laws.specs.Lists.{elem, over, tabulate}
 use Rattle.laws.proofs.Integer.{integers, add-parts, neg-⁺, neg-⁻}
 use Rattle.laws.proofs.Made.{length-tabulate, getD-tabulate}
-use Rattle.laws.proofs.Sums.{sum-ext, sum₂-ext}
 use Rattle.tables.specs.Table.{Table, valueAt, sameSign}
 use Rattle.tables.specs.Cost.{costEighths, decodedByte, decoded, bit, choiceAt}
 use Rattle.tables.specs.Check.{Hall}
+use Rattle.tables.proofs.Choices.{cost-ext}
 use Rattle.sign_table.specs.SignTable.{signTable}
 use Rattle.sign_table.proofs.Theorems.{floor-le-choice}
 use Rattle.rounding.specs.Rounding.{signsOf, drawObjective, leastDraw, roundedSol}
-use Rattle.rounding.proofs.Least.{least-least, length-signsOf}
-use Rattle.sign_search.specs.Search.{objectiveIn}
+use Rattle.rounding.proofs.Least.{least-within, least-least, least-first, length-signsOf}
+use Rattle.local_search.specs.LocalSearch as LocalSearch
+use Rattle.local_search.specs.LocalSearch.{Levels, foundIn}
+use Rattle.local_search.specs.Level.{flipSign}
+use Rattle.local_search.specs.SignSearch.{lower, improves, improving, signSearch}
+use Rattle.sign_search.specs.Search.{objectiveIn, changeIn, beamSearch}
 use Rattle.sign_search.specs.Choices.{oneMoved, allMoved}
-use Rattle.sign_search.proofs.Theorems.{answer-le, rounds-fall}
+use Rattle.sign_search.proofs.Theorems.{levels-end, search-levels, answer-le, rounds-fall}
 use Rattle.sign_search.proofs.HallTheorems.{hall-mirrors, signs-cost, one-wagon, all-wagons}
 use Rattle.finalize.specs.Finalize.{choiceOf, drawnChoice, costOf, floorEighths, roundedSigns, roundedChoice, roundedCost, searched, searchedChoice, searchedCost, searchedRounds}
 use Rattle.finalize.specs.Demand3.{DifferInOne, DifferInAll, Demand3}
 use Rattle.finalize.specs.Contracts.{Finalizes}
 
--- ---- choices and what they cost
-
--- a choice costs what its wagons cost
-cost-ext : (n : ℕ) (H : ℕ → ℕ → ℤ) (c a b : ℕ → ℤ) → ((i : ℕ) → i < n → a i ≡ b i) → costEighths n H c a ≡ costEighths n H c b
-unfolding costEighths
-cost-ext n H c a b e =
-    ap₂ (λ (s t : ℤ). pos 4 *ℤ s +ℤ pos 8 *ℤ t)
-    (sum₂-ext n _ _ (λ i j h k. ap₂ (λ (u v : ℤ). H i j *ℤ (u *ℤ v)) (e i h) (e j k))) (sum-ext n _ _ (λ i h. ap (λ (u : ℤ). c i *ℤ u) (e i h)))
+-- ---- choices
 
 decoded-byte : (n : ℕ) (signs : List ℕ) (i : ℕ) → (decodedByte n signs i ≤ 1) × (bit (decodedByte n signs i) ≡ decoded n signs i)
 unfolding decodedByte
@@ -87,12 +89,16 @@ module _ (n : ℕ) (b b′ : List ℕ) (a : ℕ → ℤ) (is : (i : ℕ) → i <
 fall : (x y : ℤ) (d : ℕ) → (x +ℤ pos d) ≤ℤ y → pos d ≤ℤ (y -ℤ x)
 fall x y d h = omega (integers, add-parts x (pos d), add-parts y (negℤ x), neg-⁺ x, neg-⁻ x)
 
+-- 01's children of x, by index: those whose change is below 0
+abbrev pub children : Table → ℕ → List ℕ → List (List ℕ)
+children t m x = improving (improves (changeIn t)) flipSign m x
+
 -- ---- the theorem
 
 module _ {most capacity limit n : ℕ} {h : Table} {c : ℕ → ℤ} (hall : Hall most capacity limit n h c) (rank : ℕ) (factor draws : List Float) (drawCount : ℕ) where
   -- signs cost what they decode to
   pub choice-costs : (signs : List ℕ) → costOf n h c (choiceOf n signs) ≡ objectiveIn (signTable n h c) signs
-  choice-costs signs = cost-ext n (valueAt h) c _ _ (alone-at n signs) ∙ sym (signs-cost hall signs)
+  choice-costs signs = cost-ext n (valueAt h) c (alone-at n signs) ∙ sym (signs-cost hall signs)
 
   abbrev start : List ℕ
   start = roundedSigns n h c rank factor draws drawCount
@@ -113,6 +119,39 @@ module _ {most capacity limit n : ℕ} {h : Table} {c : ℕ → ℤ} (hall : Hal
   pub rounded-least : (k : ℕ) → k < drawCount → roundedCost n h c rank factor draws drawCount ≤ℤ costOf n h c (drawnChoice n rank factor draws k)
   unfolding roundedCost drawnChoice
   rounded-least k l = rw (choice-costs (signsOf factor rank (suc n) draws k)) (least-objective k l)
+
+  -- the rounded choice is that of the first draw of least cost: draw k, of which no draw costs less and each earlier one more
+  pub rounded-first : 1 ≤ drawCount
+      → (k : ℕ) × (k < drawCount) × (roundedChoice n h c rank factor draws drawCount ≡ drawnChoice n rank factor draws k)
+      × ((j : ℕ) → j < drawCount → costOf n h c (drawnChoice n rank factor draws k) ≤ℤ costOf n h c (drawnChoice n rank factor draws j))
+      × ((j : ℕ) → j < k → costOf n h c (drawnChoice n rank factor draws j) ≤ℤ costOf n h c (drawnChoice n rank factor draws k) → ⊥)
+  unfolding objectiveIn roundedChoice drawnChoice roundedSigns roundedSol
+  rounded-first some =
+      let o = drawObjective factor rank (suc n) draws (signTable n h c) in
+      let k = leastDraw factor rank (suc n) draws (signTable n h c) drawCount in
+      let is : (j : ℕ) → costOf n h c (choiceOf n (signsOf factor rank (suc n) draws j)) ≡ o j = λ j. choice-costs (signsOf factor rank (suc n) draws j) in (
+        k,
+        omega (arith, least-within o (drawCount - 1)),
+        refl,
+        (λ j l. rw (is k, is j) (least-least o (drawCount - 1) j (omega arith))),
+        (λ j l low. least-first o (drawCount - 1) j l (rw (is k, is j) at low)),
+      )
+
+  -- with width 0 the rounded choice stands
+  pub unsearched : (searchedChoice n h c rank factor draws drawCount 0 ≡ roundedChoice n h c rank factor draws drawCount)
+      × (searchedCost n h c rank factor draws drawCount 0 ≡ roundedCost n h c rank factor draws drawCount) × (searchedRounds n h c rank factor draws drawCount 0 ≡ 0)
+  unfolding roundedChoice roundedCost searched searchedChoice searchedCost searchedRounds beamSearch signSearch LocalSearch.searched
+  unsearched = (refl, refl, refl)
+
+  -- the search's levels end: its answer is the first of least objective in the start and these levels, its rounds are their number
+  pub search-ends : (w : ℕ)
+      → (ls : List (List (List ℕ))) × Levels (lower (objectiveIn (signTable n h c))) (children (signTable n h c) (suc n)) (suc w) (children (signTable n h c) (suc n) start) ls
+      × (searched n h c rank factor draws drawCount (suc w) ≡ foundIn (lower (objectiveIn (signTable n h c))) start ls)
+  unfolding searched beamSearch
+  search-ends w =
+      let t = signTable n h c in
+      let ends = levels-end (hall-mirrors hall) start rounded-long (improves (changeIn t)) (λ x. Unit {0}) (record { improving = λ x i e. e; keeps = λ x i p q b e. tt }) tt (suc w) in
+      (_, ends, search-levels (hall-mirrors hall) start rounded-long (improves (changeIn t)) (λ x. Unit {0}) (record { improving = λ x i e. e; keeps = λ x i p q b e. tt }) tt w _ ends)
 
   module _ (width : ℕ) (some : 1 ≤ width) where
     abbrev answer : List ℕ
@@ -159,7 +198,7 @@ module _ {most capacity limit n : ℕ} {h : Table} {c : ℕ → ℤ} (hall : Hal
       cost-is = finish .cost-is ∙ cost-costs
 
       beside : (b″ : List ℕ) (a : ℕ → ℤ) → cost-at (decoded n answer) ≤ℤ cost-at a → ((j : ℕ) → j < n → a j ≡ choiceAt b″ j) → cost ≤ℤ costOf n h c b″
-      beside b″ a l e = subst₂ _≤ℤ_ (sym cost-is) (cost-ext n (valueAt h) c a _ e) l
+      beside b″ a l e = subst₂ _≤ℤ_ (sym cost-is) (cost-ext n (valueAt h) c e) l
 
       taken : take n b′ ≡ searchedChoice n h c rank factor draws drawCount width
       unfolding searchedChoice
@@ -173,7 +212,7 @@ module _ {most capacity limit n : ℕ} {h : Table} {c : ℕ → ℤ} (hall : Hal
       demand3 = record {
         bytes = λ i l. rw (front, choice-byte n answer b i l) (decoded-byte n answer i .0);
         answer = taken;
-        cost-is = cost-is ∙ sym (cost-ext n (valueAt h) c _ _ is-at);
+        cost-is = cost-is ∙ sym (cost-ext n (valueAt h) c is-at);
         one-wagon = λ b″ d. beside b″ _ (one-moved (d .wagon) (d .is-one)) (moved-one n b′ b″ (decoded n answer) is-at d);
         all-wagons = λ b″ d. beside b″ _ all-moved (moved-all n b′ b″ (decoded n answer) is-at d);
         draws-cost = λ k l. rw (finish .cost-is) (omega (integers, cost-down, rounded-least k l));

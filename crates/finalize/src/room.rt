@@ -1,69 +1,70 @@
 // Arrays for the sign table, for what is made of it and for the signs, of which the first places are used.
+use tables::limits::MOST_SIGN_ENTRIES;
+use tables::limits::MOST_SIGNS;
 ghost use mathlib.Core.Path.{_≡_};
+ghost use Prim.Native.Nat.{_+_, _*_};
 ghost use lib.ListN.{length};
+ghost use Rattle.tables.specs.Limits.{mostSigns, mostSignEntries};
+ghost use Rattle.finalize.specs.Limits.{mostRank};
 
-pub const SIGN_ENTRIES: usize = 4478;
+const MOST_RANK: usize = 32;
 
-pub const MOST_SIGNS: usize = 128;
+const ROW_STARTS: usize = MOST_SIGNS + 1;
 
-pub const ROW_STARTS: usize = 129;
-
-pub const MOST_RANK: usize = 32;
-
-pub const MOST_NUMBERS: usize = 4096;
+const MOST_NUMBERS: usize = MOST_SIGNS * MOST_RANK;
 
 // Rows or columns of a table.
-pub fn indices() -> [u16; SIGN_ENTRIES]
-    ensures { λ r. ⌜ 4478 ≡ length r ⌝ }
+pub fn indices() -> [u16; MOST_SIGN_ENTRIES]
+    ensures { λ r. ⌜ mostSignEntries ≡ length r ⌝ }
 {
-    [0; SIGN_ENTRIES]
+    [0; MOST_SIGN_ENTRIES]
 }
 
 // Values of a table.
-pub fn eighths() -> [i64; SIGN_ENTRIES]
-    ensures { λ r. ⌜ 4478 ≡ length r ⌝ }
+pub fn eighths() -> [i64; MOST_SIGN_ENTRIES]
+    ensures { λ r. ⌜ mostSignEntries ≡ length r ⌝ }
 {
-    [0; SIGN_ENTRIES]
+    [0; MOST_SIGN_ENTRIES]
 }
 
 // The same as doubles.
-pub fn units() -> [f64; SIGN_ENTRIES]
-    ensures { λ r. ⌜ 4478 ≡ length r ⌝ }
+pub fn units() -> [f64; MOST_SIGN_ENTRIES]
+    ensures { λ r. ⌜ mostSignEntries ≡ length r ⌝ }
 {
-    [0.0; SIGN_ENTRIES]
+    [0.0; MOST_SIGN_ENTRIES]
 }
 
 // Where rows start.
 pub fn row_starts() -> [usize; ROW_STARTS]
-    ensures { λ r. ⌜ 129 ≡ length r ⌝ }
+    ensures { λ r. ⌜ mostSigns + 1 ≡ length r ⌝ }
 {
     [0; ROW_STARTS]
 }
 
 // Rows of as many numbers as a factor's.
 pub fn rows_of_numbers() -> [f64; MOST_NUMBERS]
-    ensures { λ r. ⌜ 4096 ≡ length r ⌝ }
+    ensures { λ r. ⌜ mostSigns * mostRank ≡ length r ⌝ }
 {
     [0.0; MOST_NUMBERS]
 }
 
 // A number for each sign.
 pub fn numbers() -> [f64; MOST_SIGNS]
-    ensures { λ r. ⌜ 128 ≡ length r ⌝ }
+    ensures { λ r. ⌜ mostSigns ≡ length r ⌝ }
 {
     [0.0; MOST_SIGNS]
 }
 
 // A direction.
 pub fn direction() -> [f64; MOST_RANK]
-    ensures { λ r. ⌜ 32 ≡ length r ⌝ }
+    ensures { λ r. ⌜ mostRank ≡ length r ⌝ }
 {
     [0.0; MOST_RANK]
 }
 
 // Signs.
 pub fn signs() -> [u8; MOST_SIGNS]
-    ensures { λ r. ⌜ 128 ≡ length r ⌝ }
+    ensures { λ r. ⌜ mostSigns ≡ length r ⌝ }
 {
     [0; MOST_SIGNS]
 }

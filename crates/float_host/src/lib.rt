@@ -1,16 +1,25 @@
-// The float functions as a host calls them, to hold them to stored answers of the Rust; no other host has a use for this crate.
-// A host meets each `requires` by the shape of its cases.
+// The float functions as a host calls them, to hold them to stored answers of the Rust (host/) and to measure them (bench/); no
+// other host has a use for this crate. A host meets each `requires` by the shape of its cases.
 ghost use mathlib.Core.Path.{_≡_};
 ghost use Prim.Native.Nat.{_*_, _≤_};
 ghost use lib.ListN.{length};
+ghost use Rattle.ieee.specs.Sqrt.{sqrtOf};
 ghost use Rattle.factor.specs.Norms.{dotOf};
 ghost use Rattle.factor.specs.Vectors.{norm, projected, unit};
 ghost use Rattle.factor.specs.Multiply.{productOf, gradOf};
-ghost use Rattle.factor.specs.Shapes.{Shaped, ColumnsWithin};
+ghost use Rattle.factor.specs.Shapes.{Shaped, ObjFits, ColumnsWithin};
 ghost use Rattle.maxcut_oracle.specs.Objective.{multipliers, objFromProduct, objOf};
 ghost use Rattle.maxcut_oracle.specs.Check.{residualOf, frobenius};
 ghost use Rattle.rounding.specs.Rounding.{drawSigns};
+ghost use Rattle.step_rules.specs.Rule.{ruleOf, stepped};
 ghost use Rattle.initialize.specs.Initialize.{startRows, startSigns, startDrawn};
+
+#[no_mangle]
+pub extern "C" fn host_sqrt(x: f64) -> f64
+    ensures { λ r. ⌜ r ≡ sqrtOf x ⌝ }
+{
+    ieee::sqrt(x)
+}
 
 #[no_mangle]
 pub extern "C" fn host_dot(a: &[f64], b: &[f64]) -> f64
@@ -150,4 +159,38 @@ pub extern "C" fn host_grad(
     ensures { λ _. ⌜ now (out .exit) ≡ gradOf (now (cols .entry)) (now (values .entry)) (now (starts .entry)) (now (factor .entry)) rank m ⌝ }
 {
     factor::product::grad(cols, values, starts, factor, rank, m, out);
+}
+
+#[no_mangle]
+pub extern "C" fn host_step(
+    rule: u8,
+    number: f64,
+    rows: &[u16],
+    cols: &[u16],
+    values: &[f64],
+    starts: &[usize],
+    m: usize,
+    rank: usize,
+    factor: &mut [f64],
+    scratch: &mut [f64],
+    moved: &mut [f64],
+)
+    requires { ⌜ rule ≤ 4 ⌝ }
+    requires { ⌜ Shaped (now cols) (now values) (now starts) (now factor) m rank ⌝ }
+    requires { ⌜ ObjFits (now rows) (now cols) (now values) rank (m * rank) ⌝ }
+    requires { ⌜ (length (now scratch) ≡ m * rank) × (length (now moved) ≡ m * rank) × (rank ≤ m * rank) ⌝ }
+    ensures { λ _. ⌜ now (factor .exit) ≡ stepped (ruleOf rule number) (now (rows .entry)) (now (cols .entry)) (now (values .entry)) (now (starts .entry)) m rank (now (factor .entry)) ⌝ }
+{
+    step_rules::step(
+        step_rules::rule_of(rule, number),
+        rows,
+        cols,
+        values,
+        starts,
+        m,
+        rank,
+        factor,
+        scratch,
+        moved,
+    );
 }

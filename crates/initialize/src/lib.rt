@@ -6,7 +6,10 @@ ghost use lib.Ieee as Ieee;
 ghost use lib.ListN.{length};
 ghost use Rattle.ieee.specs.Floats.{zero64};
 ghost use Rattle.initialize.specs.Initialize.{startRows, signBy, withSigns, startSigns, startDrawn, startBy, startCount, startWithin};
-use factor::rows::{clear, copy, multiply_by, project};
+use factor::rows::clear;
+use factor::rows::copy;
+use factor::rows::multiply_by;
+use factor::rows::project;
 
 // Starts 0 and 1: the numbers' rows, projected.
 pub fn start_rows(numbers: &[f64], rank: usize, m: usize, factor: &mut [f64])
@@ -64,14 +67,7 @@ pub fn start_drawn(signs: &[f64], draws: &[f64], rank: usize, m: usize, factor: 
 }
 
 // The factor by the start's kind: `signs` for start 2, and `drawn` where draws follow them.
-fn start_by(
-    signs: bool,
-    drawn: bool,
-    numbers: &[f64],
-    rank: usize,
-    m: usize,
-    factor: &mut [f64],
-)
+fn start_by(signs: bool, drawn: bool, numbers: &[f64], rank: usize, m: usize, factor: &mut [f64])
     requires { ⌜ (startCount signs drawn rank m ≤ length (now numbers)) × (length (now factor) ≡ m * rank) × (1 ≤ rank) ⌝ }
     ensures { λ _. ⌜ now (factor .exit) ≡ startBy signs drawn rank m (now (numbers .entry)) ⌝ }
 {

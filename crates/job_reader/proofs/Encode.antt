@@ -7,6 +7,14 @@ use native.Mathlib.Omega.{arith}
 use native.Mathlib.Nat.{pow-suc}
 use lib.ListN.{length, getD, length-append, List·getD-append}
 use lib.Seq.{getD-append-add, getD-at}
+use lib.Dec.{T}
+use lib.IntN.{ℤ}
+use lib.Ieee.{Float, binary64, fits}
+use lib.Ieee.Bits.{ofBits-toBits, toBits-lt}
+use mir.Syntax.{w64}
+use mir.Val.{SFits}
+use mir.ValLaws.{toZ-ofZ, ofZ-fits}
+use Rattle.ieee.specs.Floats.{doubleOf, bitsOf, signedOf, bitsOfSigned}
 use Rattle.job_reader.specs.Bytes.{bigEndian}
 use Rattle.job_reader.specs.Encode.{bytesOf}
 
@@ -40,3 +48,10 @@ read-bytes (suc n) v h =
     read-front (bytesOf n (v / 256)) (v % 256 ∷ []) 0 n (omega (arith, length-bytesOf n (v / 256))) ∙ read-bytes n (v / 256) fits in
     let low : getD (bytesOf n (v / 256) ++ (v % 256 ∷ [])) (0 + n) 0 ≡ v % 256 = rw e (getD-at (bytesOf n (v / 256)) (v % 256) [] 0 n (length-bytesOf n (v / 256))) in
     omega (arith, high, low)
+
+-- a signed number and a double that their bytes hold
+pub read-signed : (z : ℤ) → SFits w64 z → signedOf (bigEndian (bytesOf 8 (bitsOfSigned z)) 0 8) ≡ z
+read-signed z h = ap signedOf (read-bytes 8 (bitsOfSigned z) (ofZ-fits w64 z h .fits)) ∙ toZ-ofZ w64 z h
+
+pub read-double : (x : Float) → T (fits binary64 x) → doubleOf (bigEndian (bytesOf 8 (bitsOf x)) 0 8) ≡ x
+read-double x h = ap doubleOf (read-bytes 8 (bitsOf x) (toBits-lt binary64 x h)) ∙ ofBits-toBits binary64 x h

@@ -9,10 +9,11 @@ use Rattle.laws.specs.Refusal.{first}
 use Rattle.laws.proofs.Refusal.{clear, first-head}
 use Rattle.tables.specs.Limits.{mostWagons, mostEntries}
 use Rattle.job_reader.specs.Bytes.{bigEndian}
-use Rattle.job_record.specs.Limits.{mostBytes}
-use Rattle.job_record.specs.Fields.{wagons, entryCount, entryAt, rankAt, settingsAfter}
+use Rattle.job_record.specs.Limits.{mostBytes, mostStart, mostDrawn}
+use Rattle.job_record.specs.Fields.{wagons, entryCount, entryAt, rankAt, mostAt, startAt, settingsAfter}
 use Rattle.job_record.specs.Number.{costsNumbers, jobNumber}
 use Rattle.job_record.specs.Values.{settingsOf, drawsOf, jobRank, jobStartCount, jobDrawn}
+use Rattle.job_record.proofs.Ranks.{meant-low, start-low}
 use Rattle.job_record.proofs.Sections.{Settings, Draws, head, run}
 use Rattle.job_record.proofs.Whole.{passed}
 
@@ -44,3 +45,12 @@ fields s e =
       draws = draws;
       draws-end = draws .end;
     }
+
+-- its start's doubles and its draws' numbers have room in slices of fixed length
+pub start-fits : (s : List ℕ) → jobNumber s ≡ 0 → jobStartCount s ≤ mostStart
+start-fits s e =
+    let f = fields s e in
+    start-low (startAt s (settingsOf s)) (wagons s + 1) (jobRank s) (mostAt s (settingsOf s)) (omega (arith, f .few)) (meant-low (wagons s + 1) (rankAt s (settingsOf s)) (omega (arith, f .few)) (f .settings .rank))
+
+pub drawn-fits : (s : List ℕ) → jobNumber s ≡ 0 → jobDrawn s ≤ mostDrawn
+drawn-fits s e = let f = fields s e in omega (arith, f .draws-end, f .small)

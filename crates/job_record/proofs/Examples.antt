@@ -2,10 +2,10 @@
 -- one draw 1.0 0.0; length field 92.
 use Prim.Native.Nat.{ℕ}
 use mathlib.Core.Path.{_≡_, refl}
-use mathlib.Core.List.{List, [], _∷_, _++_}
-use lib.ListN.{replicate}
+use mathlib.Core.List.{List, [], _∷_, _++_, map}
+use lib.ListN.{replicate, set, take}
 use lib.IntN.{ℤ, pos, negsuc}
-use lib.Ieee.{Float}
+use lib.Ieee.{Float, ofBits, ofFields, odd, climb, size, span, le, lt}
 use Rattle.laws.specs.Refusal.{orElse, first, firstOf, anyOf}
 use Rattle.laws.specs.Lists.{anyBelow}
 use Rattle.laws.specs.Sum.{total}
@@ -14,7 +14,7 @@ use Rattle.tables.specs.Check.{before, badEntry, unmirrored}
 use Rattle.tables.specs.Rank.{rootFrom, leastRoot, defaultRank}
 use Rattle.job_reader.specs.Bytes.{bigEndian}
 use Rattle.job_record.specs.Fields.{row, column, value, rankMeant, startCount}
-use Rattle.job_record.specs.Number.{bounded, frameNumber, versionNumber, entryNumber, ruleNumberNumber, headNumbers, entriesNumbers, costsNumbers, settingsNumbers, drawsNumbers, runNumbers, jobNumber}
+use Rattle.job_record.specs.Number.{bounded, frameNumber, versionNumber, entryNumber, momentumNumber, headNumbers, entriesNumbers, costsNumbers, settingsNumbers, drawsNumbers, runNumbers, jobNumber}
 use Rattle.job_record.specs.Values.{settingsOf, drawsOf, jobOf, jobCost, jobRank, jobStartCount, jobStart, jobDrawn, jobDraw}
 use Rattle.job_record.specs.declared.job.Job.{Job}
 
@@ -28,7 +28,7 @@ example =
     ++ (0 ∷ 1 ∷ []) ++ (0x3f ∷ 0xf0 ∷ []) ++ replicate 14 0
 
 pub example-accepted : jobNumber example ≡ 0
-unfolding example bigEndian jobNumber headNumbers entriesNumbers costsNumbers runNumbers settingsNumbers drawsNumbers frameNumber versionNumber bounded entryNumber ruleNumberNumber orElse first firstOf anyOf anyBelow total before badEntry unmirrored rootFrom leastRoot defaultRank rankMeant startCount
+unfolding example bigEndian jobNumber headNumbers entriesNumbers costsNumbers runNumbers settingsNumbers drawsNumbers frameNumber versionNumber bounded entryNumber momentumNumber orElse first firstOf anyOf anyBelow total before badEntry unmirrored rootFrom leastRoot defaultRank rankMeant startCount
 example-accepted = refl
 
 pub example-job : jobOf example
@@ -58,3 +58,25 @@ pub example-numbers : ((jobRank example ∷ jobStartCount example ∷ jobDrawn e
     × ((jobStart example 0 ∷ jobStart example 1 ∷ jobDraw example 0 ∷ jobDraw example 1 ∷ []) ≡ (one64 ∷ one64 ∷ one64 ∷ zero64 ∷ []))
 unfolding example bigEndian settingsOf drawsOf rootFrom leastRoot defaultRank rankMeant startCount
 example-numbers = (refl, refl)
+
+-- the example with other bytes at one place or two, and the number of each: fields are judged as read, and the first number comes
+unfoldable pub refused : List (List ℕ)
+refused =
+    -- a wrong length, before a wrong version; a wrong version; n 128; 4,097 entries
+    set (set example 3 91) 4 2 ∷ set example 4 2 ∷ set example 5 128 ∷ set (set example 6 16) 7 1
+    -- row 1 of 1, before the magnitude; 2 entries, of which the second is out of order; the only entry out of range and cut short; a
+    -- second entry cut short behind one out of range
+    ∷ set (set example 8 1) 10 1 ∷ set example 7 2 ∷ (0 ∷ 0 ∷ 0 ∷ 13 ∷ 1 ∷ 1 ∷ 0 ∷ 1 ∷ 9 ∷ 9 ∷ replicate 7 0) ∷ (0 ∷ 0 ∷ 0 ∷ 15 ∷ 1 ∷ 1 ∷ 0 ∷ 2 ∷ 9 ∷ 9 ∷ replicate 9 0)
+    -- a mirror absent, before c is cut short: n 2, one entry at (0, 1)
+    ∷ (0 ∷ 0 ∷ 0 ∷ 14 ∷ 1 ∷ 2 ∷ 0 ∷ 1 ∷ 0 ∷ 1 ∷ replicate 7 0 ++ (1 ∷ []))
+    -- the magnitude, before rank 33; rank 33, before rule 5; rule 5, before rank 0 with start 1; rank 0 with start 1
+    ∷ set (set example 10 1) 26 33 ∷ set (set example 26 33) 27 5 ∷ set (set example 27 5) 61 1 ∷ set example 61 1
+    -- momentum 1.0, and −0.0; W 129, before rank 0 with start 1; start 3; no draws; 1,001 draws
+    ∷ set (set (set example 27 4) 28 0x3f) 29 0xf0 ∷ set (set example 27 4) 28 0x80 ∷ set (set example 60 129) 61 1 ∷ set example 61 3 ∷ set example 79 0 ∷ set (set example 78 3) 79 233
+    -- the last byte absent; a byte left over
+    ∷ set (take 95 example) 3 91 ∷ set (example ++ (0 ∷ [])) 3 93
+    ∷ []
+
+pub refusals : map jobNumber refused ≡ (11 ∷ 12 ∷ 13 ∷ 13 ∷ 14 ∷ 14 ∷ 11 ∷ 14 ∷ 15 ∷ 16 ∷ 17 ∷ 18 ∷ 17 ∷ 18 ∷ 0 ∷ 19 ∷ 19 ∷ 19 ∷ 19 ∷ 11 ∷ 11 ∷ [])
+unfolding refused example bigEndian jobNumber headNumbers entriesNumbers costsNumbers runNumbers settingsNumbers drawsNumbers frameNumber versionNumber bounded entryNumber momentumNumber orElse first firstOf anyOf anyBelow total before badEntry unmirrored rootFrom leastRoot defaultRank rankMeant startCount ofBits ofFields odd climb size span le lt
+refusals = refl

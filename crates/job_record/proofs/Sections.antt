@@ -14,7 +14,7 @@ use Rattle.tables.specs.Limits.{mostWagons, mostEntries}
 use Rattle.job_reader.specs.Bytes.{bigEndian}
 use Rattle.job_record.specs.Limits.{mostBytes, mostRank, lastRule, mostWidth, lastStart, mostDraws}
 use Rattle.job_record.specs.Fields.{restLength, wagons, entryCount, rankAt, ruleAt, ruleNumberAt, widthAt, startAt, rankOf, drawsAfter}
-use Rattle.job_record.specs.Number.{past, bounded, frameNumber, headNumbers, isMomentum, ruleNumberNumber, settingsNumbers, drawsNumbers, runNumbers}
+use Rattle.job_record.specs.Number.{past, bounded, frameNumber, headNumbers, isMomentum, momentumNumber, settingsNumbers, drawsNumbers, runNumbers}
 use Rattle.job_record.proofs.Bounded.{bounded-passed}
 
 -- the frame, the version, n and the entry count
@@ -55,7 +55,7 @@ pub record Settings (s : List ℕ) (at : ℕ) : Type 0 where
   pub given : startAt s at ≡ 1 → rankAt s at ≡ 0 → ⊥
 
 pub settings : (s : List ℕ) (at : ℕ) → first (settingsNumbers s at) ≡ 0 → Settings s at
-unfolding settingsNumbers ruleNumberNumber
+unfolding settingsNumbers momentumNumber
 settings s at e₁ =
     let e₂ = first-rest _ _ e₁ in
     let e₃ = first-rest _ _ e₂ in

@@ -42,9 +42,9 @@ entryNumber s n k = first (11 if past s (entryAt k + 10) ∷ 14 if badEntry n (r
 abbrev pub isMomentum : Float → Bool
 isMomentum beta = le zero64 beta && lt beta one64
 
--- the rule's number
-unfoldable pub ruleNumberNumber : List ℕ → ℕ → ℕ
-ruleNumberNumber s at =
+-- the rule's number: 18 for a momentum out of range
+unfoldable pub momentumNumber : List ℕ → ℕ → ℕ
+momentumNumber s at =
     first (11 if past s (at + 10) ∷ 18 if (eqb (ruleAt s at) 4 && not (isMomentum (ruleNumberAt s at))) ∷ [])
 
 -- frame, version, n, entry count
@@ -72,7 +72,7 @@ unfoldable pub settingsNumbers : List ℕ → ℕ → List ℕ
 settingsNumbers s at =
     bounded s at 1 mostRank 17
     ∷ bounded s (at + 1) 1 lastRule 18
-    ∷ ruleNumberNumber s at
+    ∷ momentumNumber s at
     ∷ 11 if past s (at + 34)
     ∷ bounded s (at + 34) 1 mostWidth 19
     ∷ bounded s (at + 35) 1 lastStart 19

@@ -18,7 +18,7 @@ ghost use Rattle.laws.specs.Refusal.{first};
 ghost use Rattle.tables.specs.Limits.{mostWagons, mostSigns};
 ghost use Rattle.job_record.specs.Limits.{mostBytes, mostRank, mostStart};
 ghost use Rattle.job_record.specs.Fields.{rankMeant, startCount};
-ghost use Rattle.job_record.specs.Number.{bounded, isMomentum, ruleNumberNumber, settingsNumbers, drawsNumbers, runNumbers};
+ghost use Rattle.job_record.specs.Number.{bounded, isMomentum, momentumNumber, settingsNumbers, drawsNumbers, runNumbers};
 
 // A field of so many bytes: 11 past the end, `number` above its limit.
 pub fn bounded(job: &[u8], at: usize, width: usize, most: u64, number: u8) -> u8
@@ -44,9 +44,9 @@ pub fn is_momentum(beta: f64) -> bool
 }
 
 // The rule's number: 18 for a momentum out of range.
-fn rule_number_number(job: &[u8], at: usize) -> u8
+fn momentum_number(job: &[u8], at: usize) -> u8
     requires { ⌜ at ≤ mostBytes ⌝ }
-    ensures { λ r. ⌜ r ≡ ruleNumberNumber (now (job .entry)) at ⌝ }
+    ensures { λ r. ⌜ r ≡ momentumNumber (now (job .entry)) at ⌝ }
 {
     if job.len() < at + 10 {
         return 11;
@@ -72,7 +72,7 @@ fn settings_number(job: &[u8], at: usize) -> u8
     if rule != 0 {
         return rule;
     }
-    let number = rule_number_number(job, at);
+    let number = momentum_number(job, at);
     if number != 0 {
         return number;
     }

@@ -62,17 +62,17 @@ unfolding rowStart
 start-below [] i e h = omega arith
 start-below (r ∷ rows) i e h = before (ltb r i) refl (λ k. start-below rows i k) e h
   where
-  before : (b : Bool) → ltb r i ≡ b → ((k : ℕ) → k < rowStart rows i → getD rows k 0 < i)
-      → (e : ℕ) → e < startPast b (rowStart rows i) → getD (r ∷ rows) e 0 < i
-  before true k rest zero l = ltb-true r i k
-  before true k rest (suc e) l = rest e (omega arith)
-  before false k rest e l = omega arith
+    before : (b : Bool) → ltb r i ≡ b → ((k : ℕ) → k < rowStart rows i → getD rows k 0 < i)
+        → (e : ℕ) → e < startPast b (rowStart rows i) → getD (r ∷ rows) e 0 < i
+    before true k rest zero l = ltb-true r i k
+    before true k rest (suc e) l = rest e (omega arith)
+    before false k rest e l = omega arith
 
 -- the entries of row i, of rows that rise: those from its start up to the next row's
 pub row-entries : (rows : List ℕ) → ((a b : ℕ) → a ≤ b → b < length rows → getD rows a 0 ≤ getD rows b 0)
     → (i e : ℕ) → e < length rows → rowStart rows i ≤ e → e < rowStart rows (i + 1) → getD rows e 0 ≡ i
 row-entries rows rise i e h l k =
     let s : i ≤ getD rows (rowStart rows i) 0 =
-        ⊎-elim (λ (n : getD rows (rowStart rows i) 0 < i). omega (arith, start-more rows i (rowStart rows i) (omega arith) n (omega arith)))
-        (λ (n : i ≤ getD rows (rowStart rows i) 0). n) (below-or-not (getD rows (rowStart rows i) 0) i) in
+    ⊎-elim (λ (n : getD rows (rowStart rows i) 0 < i). omega (arith, start-more rows i (rowStart rows i) (omega arith) n (omega arith)))
+    (λ (n : i ≤ getD rows (rowStart rows i) 0). n) (below-or-not (getD rows (rowStart rows i) 0) i) in
     omega (arith, start-below rows (i + 1) e k, rise (rowStart rows i) e l h)

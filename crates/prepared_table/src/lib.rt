@@ -119,7 +119,12 @@ fn keep_values(
     let mut at = 0;
     let mut e = 0;
     while e < count {
-        at = put_value(out, at, ieee::eighth(values[e]), stays(aside, rows[e], cols[e]));
+        at = put_value(
+            out,
+            at,
+            ieee::eighth(values[e]),
+            stays(aside, rows[e], cols[e]),
+        );
         e += 1;
     }
 }

@@ -14,7 +14,7 @@ use Rattle.laws.proofs.Refusal.{clear, first-here, first-skip, first-next, firs
 use Rattle.laws.proofs.Any.{any-head, any-rest, any-not, any-none}
 use Rattle.tables.specs.Table.{Lent}
 use Rattle.tables.specs.Stored.{Wrote, Room}
-use Rattle.tables.specs.Check.{orderRefusal}
+use Rattle.tables.specs.Check.{badOrder}
 use Rattle.tables.proofs.Checks.{order-range, order-rising, order-passes}
 use Rattle.reduced.specs.Limits.{mostSize, mostEntries}
 use Rattle.reduced.specs.Indices.{indexRefused}
@@ -35,14 +35,14 @@ module _ (mostSize mostEntries size count : ℕ) (rows cols map fixed : List ℕ
   unfolding inputNumber
   input-count h = sym (first-here 12 _ _ (lt-ltb _ _ h))
 
-  module _ (few : count ≤ mostEntries) {o : ℕ} (is : o ≡ orderRefusal size (elem rows) (elem cols) count) where
-    pub input-order : (o ≡ 0 → ⊥) → o ≡ inputNumber mostSize mostEntries size count rows cols map fixed
+  module _ (few : count ≤ mostEntries) {o : Bool} (is : o ≡ badOrder size (elem rows) (elem cols) count) where
+    pub input-order : o ≡ true → 14 ≡ inputNumber mostSize mostEntries size count rows cols map fixed
     unfolding inputNumber
-    input-order n = is ∙ sym (first-skip 13 _ _ (le-ltb _ _ few) ∙ first-found _ _ (λ z. n (is ∙ z)))
+    input-order n = sym (first-skip 13 _ _ (le-ltb _ _ few) ∙ first-here 13 _ _ (sym is ∙ n))
 
-    pub input-index : {r : ℕ} → o ≡ 0 → r ≡ 20 if indexRefused mostSize size map fixed → r ≡ inputNumber mostSize mostEntries size count rows cols map fixed
+    pub input-index : {r : ℕ} → o ≡ false → r ≡ 20 if indexRefused mostSize size map fixed → r ≡ inputNumber mostSize mostEntries size count rows cols map fixed
     unfolding inputNumber
-    input-index z e = e ∙ first-one _ ∙ sym (first-skip 13 _ _ (le-ltb _ _ few) ∙ first-next _ _ (sym is ∙ z))
+    input-index z e = e ∙ first-one _ ∙ sym (first-skip 13 _ _ (le-ltb _ _ few) ∙ first-skip 14 _ _ (sym is ∙ z))
 
 -- ---- 31
 
@@ -114,8 +114,8 @@ module _ {mostSize mostEntries size count : ℕ} {from : Slices} {map fixed : Li
   unfolding inputNumber
   input-accepted e =
       let e₁ = first-rest (13 if ltb mostEntries count) _ e in
-      let order = first-head (orderRefusal size (elem (from .rows)) (elem (from .cols)) count) _ e₁ in
-      let e₂ = first-rest (orderRefusal size (elem (from .rows)) (elem (from .cols)) count) _ e₁ in
+      let order = clear _ 13 (first-head (14 if badOrder size (elem (from .rows)) (elem (from .cols)) count) _ e₁) in
+      let e₂ = first-rest (14 if badOrder size (elem (from .rows)) (elem (from .cols)) count) _ e₁ in
       record {
         few = ltb-false _ _ (clear _ 12 (first-head (13 if ltb mostEntries count) _ e));
         in-range = order-range size (tableIn count from) order;
@@ -127,7 +127,7 @@ module _ {mostSize mostEntries size count : ℕ} {from : Slices} {map fixed : Li
   unfolding inputNumber
   input-passes i =
       first-skip 13 _ _ (le-ltb _ _ (i .few))
-      ∙ first-next _ _ (order-passes size (tableIn count from) (i .in-range) (i .rising))
+      ∙ first-skip 14 _ _ (order-passes size (tableIn count from) (i .in-range) (i .rising))
       ∙ first-skip 20 _ _ (mapped-index (i .mapped)) ∙ first-end
 
   pub input-reducible : Input mostSize mostEntries size count from map fixed → Reducible mostSize mostEntries (tableIn count from) map

@@ -13,8 +13,10 @@ ghost use Rattle.ieee.specs.Floats.{zero64};
 ghost use Rattle.factor.specs.Vectors.{unit};
 ghost use Rattle.tables.specs.Table.{tableOf, Lent, InRange, magnitudeOf};
 ghost use Rattle.rounding.specs.Rounding.{signByte, roundedSign, drawSigns, signsOf, roundedSols, drawObjective, roundedSol, roundedObjective};
+use factor::rows::copy;
+use factor::rows::normalize;
+use factor::rows::row;
 use factor::sums::dot;
-use factor::rows::{row, copy, normalize};
 use tables::objective::obj_rounded;
 
 // A sign's byte: 0 is +, 1 is −.

@@ -29,7 +29,6 @@ found-into t width m from least rounds kept out long p = record {
   out-is = let e : m - 0 ≡ length kept = omega arith in rw e (ap (λ (l : List ℕ). over l out) (p .answer-is));
 }
 
-
 -- what the search found, as it is answered
 pub answered : {m : ℕ} (t : Table) (width : ℕ) (from out out′ : List ℕ) (least : ℤ) (rounds : ℕ) → Sound m t → FoundInto t width from least rounds out out′
     → Searched-so t width from out out′ (Answer (toZ w64 (ofZ w64 least)) rounds)

@@ -8,9 +8,13 @@ ghost use Rattle.tables.specs.Table.{tableOf};
 ghost use Rattle.sdp_local_search.specs.BeamSearch.{baseLimits, searchShort, searchRefusal};
 
 const MOST_SIGNS: usize = 128;
+
 const MOST_ENTRIES: usize = 4478;
+
 const MOST_MAGNITUDE: u64 = 4398046511104;
+
 const MOST_WIDTH: usize = 128;
+
 const WORKSPACE: usize = 16384;
 
 fn above(limit: usize, x: usize) -> bool

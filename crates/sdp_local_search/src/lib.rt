@@ -1,6 +1,7 @@
 // `beam_search` of sdp_local_search.rs as a call on a sign table given directly, in whole eighths.
 mod check;
 mod signs;
+
 use crate::check::search_refusal;
 use crate::signs::search_accepted;
 ghost use Rattle.sdp_local_search.specs.BeamSearch.{baseLimits};

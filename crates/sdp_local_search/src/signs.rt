@@ -1,6 +1,6 @@
 // The search of an accepted call.
-use sign_search::search::search_signs;
 use sign_search::search::Searched;
+use sign_search::search::search_signs;
 ghost use mathlib.Core.Path.{_≡_};
 ghost use Prim.Native.Nat.{_≤_};
 ghost use lib.ListN.{length};

@@ -2,8 +2,8 @@
 ghost use mathlib.Core.Path.{_≡_};
 ghost use Rattle.sdp_local_search.specs.BeamSearch.{baseLimits};
 ghost use Rattle.sdp_local_search.specs.Call.{callNumber};
-use sdp_local_search::beam_search;
 use sdp_local_search::BeamSearched;
+use sdp_local_search::beam_search;
 
 #[no_mangle]
 pub extern "C" fn host_beam_search(

@@ -43,13 +43,26 @@ fn entry_change(i: u16, j: u16, value: i64, x: u8, y: u8) -> i64
 }
 
 // What entry k adds to the change by flipping the sign of its row.
-fn change_term(entries: usize, rows: &[u16], cols: &[u16], values: &[i64], signs: &[u8], k: usize) -> i64
+fn change_term(
+    entries: usize,
+    rows: &[u16],
+    cols: &[u16],
+    values: &[i64],
+    signs: &[u8],
+    k: usize,
+) -> i64
     requires { ⌜ (k < entries) × Usable (length (now signs)) (tableOf entries (now rows) (now cols) (now values)) × Lent entries (now rows) (now cols) (now values) ⌝ }
     ensures { λ r. ⌜ r ≡ flipTerm (tableOf entries (now (rows .entry)) (now (cols .entry)) (now (values .entry))) (signAt (now (signs .entry))) (getD (now (rows .entry)) k 0) k ⌝ }
 {
     let i = rows[k];
     let j = cols[k];
-    entry_change(i, j, values[k], sign_at(signs, wide(i)), sign_at(signs, wide(j)))
+    entry_change(
+        i,
+        j,
+        values[k],
+        sign_at(signs, wide(i)),
+        sign_at(signs, wide(j)),
+    )
 }
 
 // Lays down a row's sum where the next entry is of another row; the sum goes on where it is of the same.
@@ -65,7 +78,14 @@ fn turn_row(changes: &mut [i64], row: usize, i: usize, held: i64) -> i64
 }
 
 // Adds every entry to the change of its row, a row's entries in one sum.
-fn sum_rows(entries: usize, rows: &[u16], cols: &[u16], values: &[i64], signs: &[u8], changes: &mut [i64])
+fn sum_rows(
+    entries: usize,
+    rows: &[u16],
+    cols: &[u16],
+    values: &[i64],
+    signs: &[u8],
+    changes: &mut [i64],
+)
     requires { ⌜ Usable (length (now signs)) (tableOf entries (now rows) (now cols) (now values)) × (length (now signs) ≤ length (now changes)) × (0 < entries) × Cleared (length (now signs)) (now changes) × Lent entries (now rows) (now cols) (now values) ⌝ }
     ensures { λ r. ⌜ Changes (tableOf entries (now (rows .entry)) (now (cols .entry)) (now (values .entry))) (now (signs .entry)) (now (changes .exit)) ⌝ }
 {
@@ -83,7 +103,14 @@ fn sum_rows(entries: usize, rows: &[u16], cols: &[u16], values: &[i64], signs: &
 }
 
 // The changes by flipping each sign, in one pass over the entries.
-pub fn changes_of(entries: usize, rows: &[u16], cols: &[u16], values: &[i64], signs: &[u8], changes: &mut [i64])
+pub fn changes_of(
+    entries: usize,
+    rows: &[u16],
+    cols: &[u16],
+    values: &[i64],
+    signs: &[u8],
+    changes: &mut [i64],
+)
     requires { ⌜ Usable (length (now signs)) (tableOf entries (now rows) (now cols) (now values)) × (length (now signs) ≤ length (now changes)) × Lent entries (now rows) (now cols) (now values) ⌝ }
     ensures { λ r. ⌜ Changes (tableOf entries (now (rows .entry)) (now (cols .entry)) (now (values .entry))) (now (signs .entry)) (now (changes .exit)) ⌝ }
 {

@@ -76,6 +76,7 @@ pub fn search_levels(
 
 // The rows of a level: as many choices as there are signs or places in a level, and as many bytes in each.
 const LEVEL_BYTES: usize = 16384;
+
 const MOST_CHOICES: usize = 128;
 
 // The same with the room that the search takes; the first signs of `scratch` are the current choice.

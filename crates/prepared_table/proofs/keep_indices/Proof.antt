@@ -24,8 +24,12 @@ put-index-requires : tie.Need-put-index-requires Inv-loop μ-loop
 put-index-requires c κs = let a = c .before .before .before .before .before .before .before .before .before .before .before .args in omega (arith, length-kept (stays (a .aside) (elem (a .rows .now)) (elem (a .cols .now))) (elem (a .source .now)) (c .before .before .before .before .before .before .loop .e))
 
 loop-again : tie.Need-loop-again Inv-loop μ-loop
-loop-again c = let a = c .before .before .before .before .before .before .before .before .before .before .before .before .before .before .args in (omega arith, omega arith, (rw (c .before .before .before .stays .ensures) at (c .before .before .put-index .ensures .0)) ∙ kept-count _ _ _ _ (c .before .before .before .before .before .before .before .before .before .loop .inv .2),
-    (rw (c .before .before .before .stays .ensures) at (c .before .before .put-index .ensures .1)) ∙ kept-next _ _ _ _ _ _ 0 (c .before .before .before .before .before .before .before .before .before .loop .inv .2) (omega (arith, length-kept (stays (a .aside) (elem (a .rows .now)) (elem (a .cols .now))) (elem (a .source .now)) (c .before .before .before .before .before .before .before .before .before .loop .e))) (c .before .before .before .before .before .before .before .before .before .loop .inv .3))
+loop-again c = let a = c .before .before .before .before .before .before .before .before .before .before .before .before .before .before .args in (
+  omega arith,
+  omega arith,
+  (rw (c .before .before .before .stays .ensures) at (c .before .before .put-index .ensures .0)) ∙ kept-count _ _ _ _ (c .before .before .before .before .before .before .before .before .before .loop .inv .2),
+  (rw (c .before .before .before .stays .ensures) at (c .before .before .put-index .ensures .1)) ∙ kept-next _ _ _ _ _ _ 0 (c .before .before .before .before .before .before .before .before .before .loop .inv .2) (omega (arith, length-kept (stays (a .aside) (elem (a .rows .now)) (elem (a .cols .now))) (elem (a .source .now)) (c .before .before .before .before .before .before .before .before .before .loop .e))) (c .before .before .before .before .before .before .before .before .before .loop .inv .3),
+)
 
 returns : tie.Need-returns Inv-loop μ-loop
 returns c = let e : c .before .loop .e ≡ c .before .before .before .before .before .before .args .count = omega arith in (rw e at (c .before .loop .inv .2), rw e at (c .before .loop .inv .3))

@@ -18,10 +18,19 @@ slice-aggregate-set-starts c = let a = c .before .before .before .before .before
 
 returns : tie.Need-returns
 unfolding workRows workCols workValues workStarts
-returns c = let a = c .before .before .before .before .before .before .before .before .before .before .before .before .before .before .before .before .before .before .before .before .before .before .before .before .args in
-    (rw (c .before .before .before .before .before .before .before .before .before .before .before .before .before .before .before .before .before .sets-aside .ensures) at (c .before .before .before .before .before .before .before .before .before .before .before .before .before .before .before .keep-indices .ensures .0), (rw (c .before .before .before .before .before .before .before .before .before .before .before .before .before .before .before .before .before .sets-aside .ensures) at (c .before .before .before .before .before .before .before .before .before .before .before .before .before .before .before .keep-indices .ensures .1), (rw (c .before .before .before .before .before .before .before .before .before .before .before .before .before .before .before .before .before .sets-aside .ensures) at (c .before .before .before .before .before .before .before .before .before .before .before .keep-indices2 .ensures .1),
-    (rw (c .before .before .before .before .before .before .before .before .before .before .before .before .before .before .before .before .before .sets-aside .ensures) at (c .before .before .before .before .before .before .before .keep-values .ensures),
-    rw (c .before .before .before .before .before .before .before .before .before .before .before .before .before .before .before .keep-indices .ensures .1, work-front (kept (stays (c .before .before .before .before .before .before .before .before .before .before .before .before .before .before .before .before .before .sets-aside .result) (elem (a .rows .now)) (elem (a .cols .now))) (elem (a .rows .now)) (a .count)) _ _ (sym (c .before .before .before .before .before .before .before .before .before .before .before .before .before .before .before .keep-indices .ensures .0)), c .before .before .before .before .before .before .before .before .before .before .before .before .before .before .before .before .before .sets-aside .ensures) at (c .before .before .set-starts .ensures)))))
+returns c = let a = c .before .before .before .before .before .before .before .before .before .before .before .before .before .before .before .before .before .before .before .before .before .before .before .before .args in (
+  rw (c .before .before .before .before .before .before .before .before .before .before .before .before .before .before .before .before .before .sets-aside .ensures) at (c .before .before .before .before .before .before .before .before .before .before .before .before .before .before .before .keep-indices .ensures .0),
+  (
+    rw (c .before .before .before .before .before .before .before .before .before .before .before .before .before .before .before .before .before .sets-aside .ensures) at (c .before .before .before .before .before .before .before .before .before .before .before .before .before .before .before .keep-indices .ensures .1),
+    (
+      rw (c .before .before .before .before .before .before .before .before .before .before .before .before .before .before .before .before .before .sets-aside .ensures) at (c .before .before .before .before .before .before .before .before .before .before .before .keep-indices2 .ensures .1),
+      (
+        rw (c .before .before .before .before .before .before .before .before .before .before .before .before .before .before .before .before .before .sets-aside .ensures) at (c .before .before .before .before .before .before .before .keep-values .ensures),
+        rw (c .before .before .before .before .before .before .before .before .before .before .before .before .before .before .before .keep-indices .ensures .1, work-front (kept (stays (c .before .before .before .before .before .before .before .before .before .before .before .before .before .before .before .before .before .sets-aside .result) (elem (a .rows .now)) (elem (a .cols .now))) (elem (a .rows .now)) (a .count)) _ _ (sym (c .before .before .before .before .before .before .before .before .before .before .before .before .before .before .before .keep-indices .ensures .0)), c .before .before .before .before .before .before .before .before .before .before .before .before .before .before .before .before .before .sets-aside .ensures) at (c .before .before .set-starts .ensures),
+      ),
+    ),
+  ),
+)
 
 pub separate-diagonal-spec : {M : Type 1} → statement M
 separate-diagonal-spec =

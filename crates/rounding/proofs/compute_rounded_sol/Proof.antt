@@ -37,10 +37,14 @@ add-k : tie.Need-add-k Inv-loop μ-loop
 add-k c = omega (arith, c .before .before .before .before .before .before .before .before .before .before .before .before .loop-test .taken, c .before .before .before .before .before .before .before .before .before .before .before .before .before .before .before .before .before .before .before .before .before .before .before .before .before .before .before .before .fits .draw-count)
 
 loop-again : tie.Need-loop-again Inv-loop μ-loop
-loop-again c = let a = c .before .before .before .before .before .before .before .before .before .before .before .before .before .before .before .before .before .before .before .before .before .before .before .before .before .before .before .before .args in let f = drawObjective (a .factor .now) (a .rank) (a .m) (a .draws .now) (tableOf (a .count) (a .rows .now) (a .cols .now) (a .values .now)) in let o = held (c .before .before .before .before .before .before .before .before .before .evaluate-draw2 .result) (c .before .before .before .before .before .before .before .before .before .evaluate-draw2 .ok) in
-    (omega (arith, c .before .before .before .before .before .before .before .before .before .before .before .before .loop-test .taken), omega (arith, c .before .before .before .before .before .before .before .before .before .before .before .before .before .loop .inv .1, c .before .before .before .before .before .before .before .before .before .evaluate-draw2 .kept .1 .1 .1 .1 .1 .1 .1 .1 .1 .0), omega (arith, c .before .before .before .before .before .before .before .before .before .before .before .before .before .loop .inv .2, c .before .before .before .before .before .before .before .before .before .evaluate-draw2 .kept .1 .1 .1 .1 .1 .1 .1 .1 .1 .1 .0), omega (arith, c .before .before .before .before .before .before .before .before .before .before .before .before .before .loop .inv .3, c .before .before .keep-better .kept .1 .1 .1 .0),
-    held (c .before .before .keep-better .result) (c .before .before .keep-better .ok) ∙ (rw (o, c .before .before .before .before .before .before .before .before .before .evaluate-draw2 .ensures .0) at (c .before .before .keep-better .ensures .0)) ∙ least-next f f (c .before .before .before .before .before .before .before .before .before .before .before .before .before .loop .k) _ _ (c .before .before .before .before .before .before .before .before .before .before .before .before .before .loop .inv .4) (c .before .before .before .before .before .before .before .before .before .before .before .before .before .loop .inv .4),
-    (rw (o, c .before .before .before .before .before .before .before .before .before .evaluate-draw2 .ensures .0, c .before .before .before .before .before .before .before .before .before .evaluate-draw2 .ensures .1) at (c .before .before .keep-better .ensures .1)) ∙ least-next f (signsOf (a .factor .now) (a .rank) (a .m) (a .draws .now)) (c .before .before .before .before .before .before .before .before .before .before .before .before .before .loop .k) _ _ (c .before .before .before .before .before .before .before .before .before .before .before .before .before .loop .inv .4) (c .before .before .before .before .before .before .before .before .before .before .before .before .before .loop .inv .5))
+loop-again c = let a = c .before .before .before .before .before .before .before .before .before .before .before .before .before .before .before .before .before .before .before .before .before .before .before .before .before .before .before .before .args in let f = drawObjective (a .factor .now) (a .rank) (a .m) (a .draws .now) (tableOf (a .count) (a .rows .now) (a .cols .now) (a .values .now)) in let o = held (c .before .before .before .before .before .before .before .before .before .evaluate-draw2 .result) (c .before .before .before .before .before .before .before .before .before .evaluate-draw2 .ok) in (
+  omega (arith, c .before .before .before .before .before .before .before .before .before .before .before .before .loop-test .taken),
+  omega (arith, c .before .before .before .before .before .before .before .before .before .before .before .before .before .loop .inv .1, c .before .before .before .before .before .before .before .before .before .evaluate-draw2 .kept .1 .1 .1 .1 .1 .1 .1 .1 .1 .0),
+  omega (arith, c .before .before .before .before .before .before .before .before .before .before .before .before .before .loop .inv .2, c .before .before .before .before .before .before .before .before .before .evaluate-draw2 .kept .1 .1 .1 .1 .1 .1 .1 .1 .1 .1 .0),
+  omega (arith, c .before .before .before .before .before .before .before .before .before .before .before .before .before .loop .inv .3, c .before .before .keep-better .kept .1 .1 .1 .0),
+  held (c .before .before .keep-better .result) (c .before .before .keep-better .ok) ∙ (rw (o, c .before .before .before .before .before .before .before .before .before .evaluate-draw2 .ensures .0) at (c .before .before .keep-better .ensures .0)) ∙ least-next f f (c .before .before .before .before .before .before .before .before .before .before .before .before .before .loop .k) _ _ (c .before .before .before .before .before .before .before .before .before .before .before .before .before .loop .inv .4) (c .before .before .before .before .before .before .before .before .before .before .before .before .before .loop .inv .4),
+  (rw (o, c .before .before .before .before .before .before .before .before .before .evaluate-draw2 .ensures .0, c .before .before .before .before .before .before .before .before .before .evaluate-draw2 .ensures .1) at (c .before .before .keep-better .ensures .1)) ∙ least-next f (signsOf (a .factor .now) (a .rank) (a .m) (a .draws .now)) (c .before .before .before .before .before .before .before .before .before .before .before .before .before .loop .k) _ _ (c .before .before .before .before .before .before .before .before .before .before .before .before .before .loop .inv .4) (c .before .before .before .before .before .before .before .before .before .before .before .before .before .loop .inv .5),
+)
 
 returns : tie.Need-returns Inv-loop μ-loop
 unfolding roundedSol roundedObjective

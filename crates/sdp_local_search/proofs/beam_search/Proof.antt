@@ -15,13 +15,13 @@ search-refusal-requires c κs = search needs
 
 returns : tie.Need-returns
 returns c = record {
-      numbered = c .before .search-refusal .ensures;
-      refused = λ n. (refl, refl);
-      accepted = λ e. absurd (c .if1 .taken (c .before .search-refusal .ensures ∙ e));
-    }
+  numbered = c .before .search-refusal .ensures;
+  refused = λ n. (refl, refl);
+  accepted = λ e. absurd (c .if1 .taken (c .before .search-refusal .ensures ∙ e));
+}
 
 search-accepted-requires : tie.Need-search-accepted-requires
-search-accepted-requires c κs = 
+search-accepted-requires c κs =
     let a = c .before .before .before .before .before .before .before .before .before .args in
     let e = sym (c .before .before .before .search-refusal .ensures) ∙ c .before .before .if1 .left in (
       call-room (a .m) (a .count) (now (a .rows)) (now (a .cols)) (now (a .values)) (a .width) (length (now (a .start))) (length (now (a .out))) (length (now (a .workspace))) e,
@@ -38,7 +38,7 @@ same-length-2 : tie.Need-same-length-2
 same-length-2 c = c .before .before .before .before .before .search-accepted .kept .1 .1 .1 .1 .1 .1 .1 .1 .0
 
 returns-2 : tie.Need-returns-2
-returns-2 c = 
+returns-2 c =
     let a = c .before .before .before .before .before .before .before .before .before .before .before .before .before .before .before .args in
     let e = sym (c .before .before .before .before .before .before .before .before .before .search-refusal .ensures) ∙ c .before .before .before .before .before .before .before .before .if1 .left in
     let v = c .before .before .before .before .before .search-accepted in

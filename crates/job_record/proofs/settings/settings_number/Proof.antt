@@ -27,19 +27,19 @@ returns-2 : tie.Need-returns-2
 unfolding settingsNumbers
 returns-2 c = moves-on _ _ (c .before .before .before .bounded .ensures) (c .before .before .if1 .left) (answers _ _ (c .before .bounded2 .ensures) (c .if2 .taken))
 
-rule-number-number-requires : tie.Need-rule-number-number-requires
-rule-number-number-requires c κs = search needs
+momentum-number-requires : tie.Need-momentum-number-requires
+momentum-number-requires c κs = search needs
 
 returns-3 : tie.Need-returns-3
 unfolding settingsNumbers
-returns-3 c = moves-on _ _ (c .before .before .before .before .before .bounded .ensures) (c .before .before .before .before .if1 .left) (moves-on _ _ (c .before .before .before .bounded2 .ensures) (c .before .before .if2 .left) (answers _ _ (c .before .rule-number-number .ensures) (c .if3 .taken)))
+returns-3 c = moves-on _ _ (c .before .before .before .before .before .bounded .ensures) (c .before .before .before .before .if1 .left) (moves-on _ _ (c .before .before .before .bounded2 .ensures) (c .before .before .if2 .left) (answers _ _ (c .before .momentum-number .ensures) (c .if3 .taken)))
 
 add-if4 : tie.Need-add-if4
 add-if4 c = search needs
 
 returns-4 : tie.Need-returns-4
 unfolding settingsNumbers
-returns-4 c = moves-on _ _ (c .before .before .before .before .before .before .bounded .ensures) (c .before .before .before .before .before .if1 .left) (moves-on _ _ (c .before .before .before .before .bounded2 .ensures) (c .before .before .before .if2 .left) (moves-on _ _ (c .before .before .rule-number-number .ensures) (c .before .if3 .left) (answers-if _ _ _ (lt-ltb _ _ (c .if4 .taken)))))
+returns-4 c = moves-on _ _ (c .before .before .before .before .before .before .bounded .ensures) (c .before .before .before .before .before .if1 .left) (moves-on _ _ (c .before .before .before .before .bounded2 .ensures) (c .before .before .before .if2 .left) (moves-on _ _ (c .before .before .momentum-number .ensures) (c .before .if3 .left) (answers-if _ _ _ (lt-ltb _ _ (c .if4 .taken)))))
 
 add-bounded-2 : tie.Need-add-bounded-2
 add-bounded-2 c = search needs
@@ -49,7 +49,7 @@ bounded-requires-3 c κs = search needs
 
 returns-5 : tie.Need-returns-5
 unfolding settingsNumbers
-returns-5 c = moves-on _ _ (c .before .before .before .before .before .before .before .before .bounded .ensures) (c .before .before .before .before .before .before .before .if1 .left) (moves-on _ _ (c .before .before .before .before .before .before .bounded2 .ensures) (c .before .before .before .before .before .if2 .left) (moves-on _ _ (c .before .before .before .before .rule-number-number .ensures) (c .before .before .before .if3 .left) (moves-on-if _ _ _ (le-ltb _ _ (c .before .before .if4 .left)) (answers _ _ (c .before .bounded3 .ensures) (c .if5 .taken)))))
+returns-5 c = moves-on _ _ (c .before .before .before .before .before .before .before .before .bounded .ensures) (c .before .before .before .before .before .before .before .if1 .left) (moves-on _ _ (c .before .before .before .before .before .before .bounded2 .ensures) (c .before .before .before .before .before .if2 .left) (moves-on _ _ (c .before .before .before .before .momentum-number .ensures) (c .before .before .before .if3 .left) (moves-on-if _ _ _ (le-ltb _ _ (c .before .before .if4 .left)) (answers _ _ (c .before .bounded3 .ensures) (c .if5 .taken)))))
 
 add-bounded-3 : tie.Need-add-bounded-3
 add-bounded-3 c = search needs
@@ -59,7 +59,7 @@ bounded-requires-4 c κs = search needs
 
 returns-6 : tie.Need-returns-6
 unfolding settingsNumbers
-returns-6 c = moves-on _ _ (c .before .before .before .before .before .before .before .before .before .before .bounded .ensures) (c .before .before .before .before .before .before .before .before .before .if1 .left) (moves-on _ _ (c .before .before .before .before .before .before .before .before .bounded2 .ensures) (c .before .before .before .before .before .before .before .if2 .left) (moves-on _ _ (c .before .before .before .before .before .before .rule-number-number .ensures) (c .before .before .before .before .before .if3 .left) (moves-on-if _ _ _ (le-ltb _ _ (c .before .before .before .before .if4 .left)) (moves-on _ _ (c .before .before .before .bounded3 .ensures) (c .before .before .if5 .left) (answers _ _ (c .before .bounded4 .ensures) (c .if6 .taken))))))
+returns-6 c = moves-on _ _ (c .before .before .before .before .before .before .before .before .before .before .bounded .ensures) (c .before .before .before .before .before .before .before .before .before .if1 .left) (moves-on _ _ (c .before .before .before .before .before .before .before .before .bounded2 .ensures) (c .before .before .before .before .before .before .before .if2 .left) (moves-on _ _ (c .before .before .before .before .before .before .momentum-number .ensures) (c .before .before .before .before .before .if3 .left) (moves-on-if _ _ _ (le-ltb _ _ (c .before .before .before .before .if4 .left)) (moves-on _ _ (c .before .before .before .bounded3 .ensures) (c .before .before .if5 .left) (answers _ _ (c .before .bounded4 .ensures) (c .if6 .taken))))))
 
 add-u8-at : tie.Need-add-u8-at
 add-u8-at c = search needs
@@ -72,15 +72,15 @@ u8-at-requires-2 c κs = let a = c .before .before .before .before .before .befo
 
 returns-7 : tie.Need-returns-7
 unfolding settingsNumbers
-returns-7 c = moves-on _ _ (c .before .before .before .before .before .before .before .before .before .before .before .before .before .before .bounded .ensures) (c .before .before .before .before .before .before .before .before .before .before .before .before .before .if1 .left) (moves-on _ _ (c .before .before .before .before .before .before .before .before .before .before .before .before .bounded2 .ensures) (c .before .before .before .before .before .before .before .before .before .before .before .if2 .left) (moves-on _ _ (c .before .before .before .before .before .before .before .before .before .before .rule-number-number .ensures) (c .before .before .before .before .before .before .before .before .before .if3 .left) (moves-on-if _ _ _ (le-ltb _ _ (c .before .before .before .before .before .before .before .before .if4 .left)) (moves-on _ _ (c .before .before .before .before .before .before .before .bounded3 .ensures) (c .before .before .before .before .before .before .if5 .left) (moves-on _ _ (c .before .before .before .before .before .bounded4 .ensures) (c .before .before .before .before .if6 .left) (answers-last _ (simp (← c .before .before .before .u8-at .ensures, eq-eqb _ _ (c .before .before .if7 .taken), ← c .before .u8-at2 .ensures, eq-eqb _ _ (c .if8 .taken)))))))))
+returns-7 c = moves-on _ _ (c .before .before .before .before .before .before .before .before .before .before .before .before .before .before .bounded .ensures) (c .before .before .before .before .before .before .before .before .before .before .before .before .before .if1 .left) (moves-on _ _ (c .before .before .before .before .before .before .before .before .before .before .before .before .bounded2 .ensures) (c .before .before .before .before .before .before .before .before .before .before .before .if2 .left) (moves-on _ _ (c .before .before .before .before .before .before .before .before .before .before .momentum-number .ensures) (c .before .before .before .before .before .before .before .before .before .if3 .left) (moves-on-if _ _ _ (le-ltb _ _ (c .before .before .before .before .before .before .before .before .if4 .left)) (moves-on _ _ (c .before .before .before .before .before .before .before .bounded3 .ensures) (c .before .before .before .before .before .before .if5 .left) (moves-on _ _ (c .before .before .before .before .before .bounded4 .ensures) (c .before .before .before .before .if6 .left) (answers-last _ (simp (← c .before .before .before .u8-at .ensures, eq-eqb _ _ (c .before .before .if7 .taken), ← c .before .u8-at2 .ensures, eq-eqb _ _ (c .if8 .taken)))))))))
 
 returns-8 : tie.Need-returns-8
 unfolding settingsNumbers
-returns-8 c = moves-on _ _ (c .before .before .before .before .before .before .before .before .before .before .before .before .before .before .bounded .ensures) (c .before .before .before .before .before .before .before .before .before .before .before .before .before .if1 .left) (moves-on _ _ (c .before .before .before .before .before .before .before .before .before .before .before .before .bounded2 .ensures) (c .before .before .before .before .before .before .before .before .before .before .before .if2 .left) (moves-on _ _ (c .before .before .before .before .before .before .before .before .before .before .rule-number-number .ensures) (c .before .before .before .before .before .before .before .before .before .if3 .left) (moves-on-if _ _ _ (le-ltb _ _ (c .before .before .before .before .before .before .before .before .if4 .left)) (moves-on _ _ (c .before .before .before .before .before .before .before .bounded3 .ensures) (c .before .before .before .before .before .before .if5 .left) (moves-on _ _ (c .before .before .before .before .before .bounded4 .ensures) (c .before .before .before .before .if6 .left) (answers-last _ (simp (← c .before .before .before .u8-at .ensures, eq-eqb _ _ (c .before .before .if7 .taken), ← c .before .u8-at2 .ensures, ne-eqb _ _ (c .if8 .left)))))))))
+returns-8 c = moves-on _ _ (c .before .before .before .before .before .before .before .before .before .before .before .before .before .before .bounded .ensures) (c .before .before .before .before .before .before .before .before .before .before .before .before .before .if1 .left) (moves-on _ _ (c .before .before .before .before .before .before .before .before .before .before .before .before .bounded2 .ensures) (c .before .before .before .before .before .before .before .before .before .before .before .if2 .left) (moves-on _ _ (c .before .before .before .before .before .before .before .before .before .before .momentum-number .ensures) (c .before .before .before .before .before .before .before .before .before .if3 .left) (moves-on-if _ _ _ (le-ltb _ _ (c .before .before .before .before .before .before .before .before .if4 .left)) (moves-on _ _ (c .before .before .before .before .before .before .before .bounded3 .ensures) (c .before .before .before .before .before .before .if5 .left) (moves-on _ _ (c .before .before .before .before .before .bounded4 .ensures) (c .before .before .before .before .if6 .left) (answers-last _ (simp (← c .before .before .before .u8-at .ensures, eq-eqb _ _ (c .before .before .if7 .taken), ← c .before .u8-at2 .ensures, ne-eqb _ _ (c .if8 .left)))))))))
 
 returns-9 : tie.Need-returns-9
 unfolding settingsNumbers
-returns-9 c = moves-on _ _ (c .before .before .before .before .before .before .before .before .before .before .before .before .bounded .ensures) (c .before .before .before .before .before .before .before .before .before .before .before .if1 .left) (moves-on _ _ (c .before .before .before .before .before .before .before .before .before .before .bounded2 .ensures) (c .before .before .before .before .before .before .before .before .before .if2 .left) (moves-on _ _ (c .before .before .before .before .before .before .before .before .rule-number-number .ensures) (c .before .before .before .before .before .before .before .if3 .left) (moves-on-if _ _ _ (le-ltb _ _ (c .before .before .before .before .before .before .if4 .left)) (moves-on _ _ (c .before .before .before .before .before .bounded3 .ensures) (c .before .before .before .before .if5 .left) (moves-on _ _ (c .before .before .before .bounded4 .ensures) (c .before .before .if6 .left) (answers-last _ (simp (← c .before .u8-at .ensures, ne-eqb _ _ (c .if7 .left)))))))))
+returns-9 c = moves-on _ _ (c .before .before .before .before .before .before .before .before .before .before .before .before .bounded .ensures) (c .before .before .before .before .before .before .before .before .before .before .before .if1 .left) (moves-on _ _ (c .before .before .before .before .before .before .before .before .before .before .bounded2 .ensures) (c .before .before .before .before .before .before .before .before .before .if2 .left) (moves-on _ _ (c .before .before .before .before .before .before .before .before .momentum-number .ensures) (c .before .before .before .before .before .before .before .if3 .left) (moves-on-if _ _ _ (le-ltb _ _ (c .before .before .before .before .before .before .if4 .left)) (moves-on _ _ (c .before .before .before .before .before .bounded3 .ensures) (c .before .before .before .before .if5 .left) (moves-on _ _ (c .before .before .before .bounded4 .ensures) (c .before .before .if6 .left) (answers-last _ (simp (← c .before .u8-at .ensures, ne-eqb _ _ (c .if7 .left)))))))))
 
 pub settings-number-spec : {M : Type 1} → statement M
 settings-number-spec =
@@ -91,7 +91,7 @@ settings-number-spec =
     add-bounded
     bounded-requires-2
     returns-2
-    rule-number-number-requires
+    momentum-number-requires
     returns-3
     add-if4
     returns-4

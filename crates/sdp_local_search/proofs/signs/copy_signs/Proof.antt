@@ -40,7 +40,7 @@ loop-less : tie.Need-loop-less Inv-loop μ-loop
 loop-less c = omega arith
 
 loop-again : tie.Need-loop-again Inv-loop μ-loop
-loop-again c = 
+loop-again c =
     let a = c .before .before .before .before .before .before .args in
     let l = c .before .before .before .loop in
     let h : l .i ≤ length (l .kept) = omega arith in (
@@ -54,7 +54,7 @@ same-length c = c .before .loop .inv .2
 
 returns : tie.Need-returns Inv-loop μ-loop
 unfolding signBytes
-returns c = 
+returns c =
     let a = c .before .before .before .before .args in
     let l = c .before .loop in
     let all : l .i ≡ length (now (a .kept)) = omega arith in

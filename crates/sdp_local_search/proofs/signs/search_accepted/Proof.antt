@@ -28,7 +28,7 @@ same-length-2 : tie.Need-same-length-2
 same-length-2 c = search needs
 
 returns : tie.Need-returns
-returns c = 
+returns c =
     let a = c .before .before .before .before .before .before .before .before .before .before .before .before .args in
     let v = c .before .before .before .before .search-from in
     let e = part-size (a .m) (now (a .out)) (c .before .before .before .before .before .before .before .before .before .before .before .before .pre .4) in

@@ -14,7 +14,7 @@ expand-level-requires : tie.Need-expand-level-requires
 expand-level-requires c κs = (c .before .before .before .before .before .before .before .before .before .before .before .pre .0 .expands, c .before .before .before .before .before .before .before .before .before .before .before .pre .1, c .before .before .before .before .before .before .before .before .before .before .before .pre .2, c .before .before .before .before .before .before .before .before .before .before .before .pre .3)
 
 mul-bytes : tie.Need-mul-bytes
-mul-bytes c = 
+mul-bytes c =
     let b : c .before .before .before .before .before .before .expand-level .result * c .before .before .before .before .before .before .before .before .before .before .before .before .before .before .before .before .before .before .args .m ≤ length (now (c .before .before .before .before .before .before .before .before .before .before .before .before .before .before .before .before .before .before .args .signs)) = omega (arith, mul-le-mul-right (c .before .before .before .before .before .before .before .before .before .before .before .before .before .before .before .before .before .before .args .m) (c .before .before .before .before .before .before .expand-level .ensures .0 .room), c .before .before .before .before .before .before .before .before .before .before .before .before .before .before .before .before .before .before .pre .0 .signs-room) in
     omega (arith, b, c .before .before .before .before .before .before .before .before .before .before .before .before .before .before .before .before .before .before .good .1 .1 .1 .1 .1 .1 .1 .1 .0 .0)
 
@@ -43,7 +43,7 @@ same-length-6 : tie.Need-same-length-6
 same-length-6 c = c .before .before .before .before .before .before .before .before .before .before .before .before .before .before .before .expand-level .kept .1 .1 .1 .1 .1 .1 .1 .1 .1 .1 .1 .0
 
 returns : tie.Need-returns
-returns c = 
+returns c =
     let a = c .before .before .before .before .before .before .before .before .before .before .before .before .before .before .before .before .before .before .before .before .before .before .before .before .before .before .before .args in
     let x = c .before .before .before .before .before .before .before .before .before .before .before .before .before .before .before .expand-level in (
       record {

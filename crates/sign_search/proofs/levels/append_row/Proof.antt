@@ -18,7 +18,7 @@ changes-of-requires : tie.Need-changes-of-requires
 changes-of-requires c κs = (c .before .before .before .before .before .pre .0 .table, c .before .before .before .before .before .pre .0 .changes-room, c .before .before .before .before .before .pre .1)
 
 first-level-requires : tie.Need-first-level-requires
-first-level-requires c κs = 
+first-level-requires c κs =
     let k = c .before .before .before .before .changes-of in
     let a = c .before .before .before .before .before .before .before .before .before .before .args in
     rw (toZ-ofZ (c .before .before .before .before .before .before .before .before .before .before .fits .objective))
@@ -35,7 +35,7 @@ same-length-3 : tie.Need-same-length-3
 same-length-3 c = search needs
 
 returns : tie.Need-returns
-returns c = 
+returns c =
     let e = c .before .before .before .first-level in
     let k = c .before .before .before .before .before .before .before .before .changes-of in
     let a = c .before .before .before .before .before .before .before .before .before .before .before .before .before .before .args in

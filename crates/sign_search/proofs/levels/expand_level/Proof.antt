@@ -30,7 +30,7 @@ abbrev μ-loop : tie.MeasureT-loop
     from-count - k
 
 loop-holds : tie.Need-loop-holds Inv-loop μ-loop
-loop-holds c = 
+loop-holds c =
     let a = c .before .before .before .before .before .args in (
       omega arith,
       refl,
@@ -64,7 +64,7 @@ part-expand-row-end : tie.Need-part-expand-row-end Inv-loop μ-loop
 part-expand-row-end c = row-room (c .before .before .before .before .before .before .before .before .args .m) (c .before .before .before .before .before .before .before .before .args .from-count) (c .before .before .loop .k) (length (now (c .before .before .before .before .before .before .before .before .args .from-signs))) (omega arith) (c .before .before .before .before .before .before .before .before .pre .0 .from-signs-room)
 
 expand-row-requires : tie.Need-expand-row-requires Inv-loop μ-loop
-expand-row-requires c κs = 
+expand-row-requires c κs =
     let a = c .before .before .before .before .before .before .before .before .before .before .before .before .before .args in
     let l = c .before .before .before .before .before .before .before .loop in
     let room = row-room (a .m) (a .from-count) (l .k) (length (now (a .from-signs))) (omega arith) (c .before .before .before .before .before .before .before .before .before .before .before .before .before .pre .0 .from-signs-room) in (
@@ -83,7 +83,7 @@ loop-less : tie.Need-loop-less Inv-loop μ-loop
 loop-less c = omega arith
 
 loop-again : tie.Need-loop-again Inv-loop μ-loop
-loop-again c = 
+loop-again c =
     let a = c .before .before .before .before .before .before .before .before .before .before .before .before .before .before .before .before .before .before .before .before .args in
     let l = c .before .before .before .before .before .before .before .before .before .before .before .before .before .before .loop in
     let v = c .before .before .before .before .before .before .expand-row in
@@ -116,11 +116,13 @@ same-length-4 : tie.Need-same-length-4 Inv-loop μ-loop
 same-length-4 c = c .before .loop .inv .3
 
 returns : tie.Need-returns Inv-loop μ-loop
-returns c = 
+returns c =
     let l = c .before .loop in
-    let a = c .before .before .before .before .before .before .before .args in
-    (next-level (tableOf (a .entries) (now (a .rows)) (now (a .cols)) (now (a .values))) (a .m) (a .width) (l .k) (a .from-count) (l .kept) (now (a .from-objectives)) (now (a .from-signs))
-    (levelOf (a .m) (l .kept) (l .objectives) (l .signs)) (omega arith) (l .inv .5), l .inv .6)
+    let a = c .before .before .before .before .before .before .before .args in (
+      next-level (tableOf (a .entries) (now (a .rows)) (now (a .cols)) (now (a .values))) (a .m) (a .width) (l .k) (a .from-count) (l .kept) (now (a .from-objectives)) (now (a .from-signs))
+          (levelOf (a .m) (l .kept) (l .objectives) (l .signs)) (omega arith) (l .inv .5),
+      l .inv .6,
+    )
 
 pub expand-level-spec : {M : Type 1} → statement M
 expand-level-spec =

@@ -18,7 +18,7 @@ move-to-requires : tie.Need-move-to-requires
 move-to-requires c κs = (c .before .before .before .before .before .before .before .pre .0 .table, c .before .before .before .before .before .before .before .pre .1, c .before .before .before .before .before .before .before .pre .2, c .before .before .before .before .before .before .before .pre .3)
 
 expand-parent-requires : tie.Need-expand-parent-requires
-expand-parent-requires c κs = 
+expand-parent-requires c κs =
     let k = c .before .before .before .before .before .before .move-to in
     let a = c .before .before .before .before .before .before .before .before .before .before .before .before .before .before .args in
     rw (toZ-ofZ (c .before .before .before .before .before .before .before .before .before .before .before .before .before .before .fits .objective))
@@ -38,7 +38,7 @@ same-length-4 : tie.Need-same-length-4
 same-length-4 c = c .before .before .before .expand-parent .kept .1 .1 .1 .1 .0
 
 returns : tie.Need-returns
-returns c = 
+returns c =
     let e = c .before .before .before .expand-parent in
     let k = c .before .before .before .before .before .before .before .before .before .before .move-to in
     let a = c .before .before .before .before .before .before .before .before .before .before .before .before .before .before .before .before .before .before .args in

@@ -32,7 +32,7 @@ turn-entries-requires : tie.Need-turn-entries-requires
 turn-entries-requires c κs = (record { usable = usable-of (c .before .before .before .before .before .before .before .before .pre .0); sign = c .before .before .before .before .before .before .before .before .pre .1; starts = c .before .before .before .row-start .ensures; ends = rw (add-one (c .before .before .before .before .before .before .before .before .args .i)) at (c .before .before .row-start2 .ensures); changes-are = c .before .before .before .before .before .before .before .before .pre .2 }, c .before .before .before .before .before .before .before .before .pre .3)
 
 sub-changes : tie.Need-sub-changes
-sub-changes c = 
+sub-changes c =
     let a = c .before .before .before .before .before .before .before .before .before .before .args in
     rw (held (getD (now (a .changes)) (a .i) (pos 0)) (c .before .before .before .before .before .before .own .given)) (negation-fits (getD (now (a .changes)) (a .i) (pos 0)) (rw (c .before .before .before .before .before .before .before .before .before .before .pre .2 .are (a .i) (c .before .before .before .before .before .before .before .before .before .before .pre .1)) (change-abs (now (a .current)) (usable-of (c .before .before .before .before .before .before .before .before .before .before .pre .0)) (a .i) (c .before .before .before .before .before .before .before .before .before .before .pre .1))))
 
@@ -52,7 +52,7 @@ same-length-2 : tie.Need-same-length-2
 same-length-2 c = simp length-set (c .before .before .before .before .before .turn-entries .kept .1 .1 .1 .1 .1 .1 .1 .1 .0)
 
 returns : tie.Need-returns
-returns c = 
+returns c =
     let a = c .before .before .before .before .before .before .before .before .before .before .before .before .before .before .args in
     let v = getD (now (a .changes)) (a .i) (pos 0) in (
       c .before .before .flip-sign .ensures,

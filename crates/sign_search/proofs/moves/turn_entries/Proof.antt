@@ -85,7 +85,7 @@ sign-at-requires-2 : tie.Need-sign-at-requires-2 Inv-loop μ-loop
 sign-at-requires-2 c κs = let h : c .before .before .before .before .before .loop .k < c .before .before .before .before .before .before .before .before .before .args .entries = omega (arith, c .before .before .before .before .before .before .before .before .before .pre .0 .ends .inside) in omega (arith, c .before .before .wide .ensures, c .before .before .before .before .before .before .before .before .before .pre .0 .usable .in-range .cols-in (c .before .before .before .before .before .loop .k) h)
 
 turned-value-requires : tie.Need-turned-value-requires Inv-loop μ-loop
-turned-value-requires c κs = 
+turned-value-requires c κs =
     let a = c .before .before .before .before .before .before .before .before .before .before .args in
     let h : c .before .before .before .before .before .before .loop .k < a .entries = omega (arith, c .before .before .before .before .before .before .before .before .before .before .pre .0 .ends .inside) in
     rw (held (elemZ (now (a .values)) (c .before .before .before .before .before .before .loop .k)) (c .before .before .turned-value-arg .given)) (value-small (tableOf (a .entries) (now (a .rows)) (now (a .cols)) (now (a .values))) (c .before .before .before .before .before .before .before .before .before .before .pre .0 .usable .small) (c .before .before .before .before .before .before .loop .k) h)
@@ -109,7 +109,7 @@ loop-less : tie.Need-loop-less Inv-loop μ-loop
 loop-less c = omega arith
 
 loop-again : tie.Need-loop-again Inv-loop μ-loop
-loop-again c = 
+loop-again c =
     let a = c .before .before .before .before .before .before .before .before .before .before .before .before .args in
     let l = c .before .before .before .before .before .before .before .before .loop in
     let t = tableOf (a .entries) (now (a .rows)) (now (a .cols)) (now (a .values)) in
@@ -127,7 +127,7 @@ same-length : tie.Need-same-length Inv-loop μ-loop
 same-length c = c .before .loop .inv .2
 
 returns : tie.Need-returns Inv-loop μ-loop
-returns c = 
+returns c =
     let a = c .before .before .before .before .before .args in
     let l = c .before .loop in
     turned-all (tableOf (a .entries) (now (a .rows)) (now (a .cols)) (now (a .values))) (now (a .current)) (a .i) (l .k) (a .to) (now (a .changes)) (l .changes) (omega arith) (l .inv .1) (c .before .before .before .before .before .pre .0 .ends) (l .inv .3)

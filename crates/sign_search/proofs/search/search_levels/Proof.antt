@@ -47,21 +47,23 @@ more-rounds c =
     searching-more (changeIn (tableOf (a .entries) (now (a .rows)) (now (a .cols)) (now (a .values)))) (improvesC (changeIn (tableOf (a .entries) (now (a .rows)) (now (a .cols)) (now (a .values))))) (a .width) (heightIn (tableOf (a .entries) (now (a .rows)) (now (a .cols)) (now (a .values))) (now (a .kept))) (parentOf (toZ w64 (ofZ w64 (a .objective))) (now (a .kept))) _ _ (l .rounds) (filled c) (l .inv .8)
 
 append-row-requires : tie.Need-append-row-requires Inv-loop μ-loop
-append-row-requires c κs = 
-    (rw (toZ-ofZ (c .before .before .before .before .before .before .before .before .before .before .fits .objective))
-    (record {
-      changes-room = c .before .before .before .before .before .before .before .before .before .before .pre .0 .changes-room;
-      objectives-room = c .before .before .before .before .before .before .before .before .before .before .pre .0 .first-objectives;
-      signs-room = c .before .before .before .before .before .before .before .before .before .before .pre .0 .first-signs;
-      table = usable-of (c .before .before .before .before .before .before .before .before .before .before .pre .1);
-      safe = start-safe _ _ _ _ (table-searches _ (parentOf (c .before .before .before .before .before .before .before .before .before .before .args .objective) (now (c .before .before .before .before .before .before .before .before .before .before .args .kept))) (c .before .before .before .before .before .before .before .before .before .before .pre .1) (c .before .before .before .before .before .before .before .before .before .before .pre .2));
-    }), c .before .before .before .before .before .before .before .before .before .before .pre .4)
+append-row-requires c κs = (
+  rw (toZ-ofZ (c .before .before .before .before .before .before .before .before .before .before .fits .objective))
+      (record {
+        changes-room = c .before .before .before .before .before .before .before .before .before .before .pre .0 .changes-room;
+        objectives-room = c .before .before .before .before .before .before .before .before .before .before .pre .0 .first-objectives;
+        signs-room = c .before .before .before .before .before .before .before .before .before .before .pre .0 .first-signs;
+        table = usable-of (c .before .before .before .before .before .before .before .before .before .before .pre .1);
+        safe = start-safe _ _ _ _ (table-searches _ (parentOf (c .before .before .before .before .before .before .before .before .before .before .args .objective) (now (c .before .before .before .before .before .before .before .before .before .before .args .kept))) (c .before .before .before .before .before .before .before .before .before .before .pre .1) (c .before .before .before .before .before .before .before .before .before .before .pre .2));
+      }),
+  c .before .before .before .before .before .before .before .before .before .before .pre .4,
+)
 
 copy-row-requires : tie.Need-copy-row-requires Inv-loop μ-loop
 copy-row-requires c κs = c .before .before .before .before .before .before .before .before .before .before .before .before .before .before .before .before .before .pre .3
 
 loop-holds : tie.Need-loop-holds Inv-loop μ-loop
-loop-holds c = 
+loop-holds c =
     let f = c .before .before .before .before .before .before .before .before .before .append-row in
     let a = c .before .before .before .before .before .before .before .before .before .before .before .before .before .before .before .before .before .before .before .before .args in
     let m = length (now (a .kept)) in (
@@ -80,12 +82,12 @@ loop-holds c =
     )
 
 keep-least-requires : tie.Need-keep-least-requires Inv-loop μ-loop
-keep-least-requires c κs = 
+keep-least-requires c κs =
     let l = c .before .before .before .before .loop in
     (l .inv .6, subst (λ (n : ℕ). l .count * n ≤ length (l .signs)) (sym (l .inv .0)) (l .inv .7))
 
 advance-requires : tie.Need-advance-requires Inv-loop μ-loop
-advance-requires c κs = 
+advance-requires c κs =
     let l = c .before .before .before .before .before .before .before .before .before .before .before .before .before .loop in
     let a = c .before .before .before .before .before .before .before .before .before .before .before .before .before .before .before .before .before .before .before .before .before .before .before .before .before .before .before .before .before .before .before .before .before .before .args in (
       record {
@@ -114,7 +116,7 @@ loop-less : tie.Need-loop-less Inv-loop μ-loop
 loop-less c = omega (arith, more-rounds (c .before .before .before .before .before .before .before .before .before .before .before .before .before .before .before .before .before .before .before .before .before .before))
 
 loop-again : tie.Need-loop-again Inv-loop μ-loop
-loop-again c = 
+loop-again c =
     let v = c .before .before .before .before .before .before .before .before .before .advance in
     let k = c .before .before .before .before .before .before .before .before .before .before .before .before .before .before .before .before .before .before .keep-least in
     let l = c .before .before .before .before .before .before .before .before .before .before .before .before .before .before .before .before .before .before .before .before .before .before .before .loop in
@@ -159,7 +161,7 @@ same-length-7 : tie.Need-same-length-7 Inv-loop μ-loop
 same-length-7 c = c .before .loop .inv .5
 
 returns : tie.Need-returns Inv-loop μ-loop
-returns c = 
+returns c =
     let l = c .before .loop in
     let a = c .before .before .before .before .before .before .before .before .before .before .before .before .before .before .before .before .before .before .before .before .before .before .args in
     let m = length (now (a .kept)) in

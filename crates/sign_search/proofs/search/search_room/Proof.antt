@@ -29,7 +29,7 @@ slice-aggregate-search-levels-3 : tie.Need-slice-aggregate-search-levels-3
 slice-aggregate-search-levels-3 c = search needs
 
 search-levels-requires : tie.Need-search-levels-requires
-search-levels-requires c κs = 
+search-levels-requires c κs =
     let r = c .before .before .before .before .before .before .before .before .before .before .before .before .before .pre .0 in
     let a = c .before .before .before .before .before .before .before .before .before .before .before .before .before .args in
     let m = length (now (a .kept)) in

@@ -24,7 +24,7 @@ same-length : tie.Need-same-length
 same-length c = search needs
 
 returns : tie.Need-returns
-returns c = 
+returns c =
     let a = c .before .before .before .before .before .before .before .args in
     found-none (tableOf (a .entries) (now (a .rows)) (now (a .cols)) (now (a .values))) (a .width) (now (a .kept)) _ (c .if1 .taken) (started (c .before))
 
@@ -35,7 +35,7 @@ slice-aggregate-search-room-2 : tie.Need-slice-aggregate-search-room-2
 slice-aggregate-search-room-2 c = search needs
 
 search-room-requires : tie.Need-search-room-requires
-search-room-requires c κs = 
+search-room-requires c κs =
     let r = c .before .before .before .before .before .before .before .before .before .before .before .pre .0 in
     (r, record { signs-few = r .signs-few; width-few = r .width-few; level-room = omega arith }, omega arith, omega arith, c .before .before .before .before .before .before .before .before .before .before .before .pre .1, started (c .before .before .before .before .before), c .before .before .before .before .before .before .before .before .before .before .before .pre .2)
 
@@ -46,7 +46,7 @@ same-length-3 : tie.Need-same-length-3
 same-length-3 c = c .before .before .before .before .before .before .search-room .kept .1 .1 .1 .1 .1 .1 .1 .1 .0
 
 returns-2 : tie.Need-returns-2
-returns-2 c = 
+returns-2 c =
     let v = c .before .before .before .before .before .before .search-room in
     let a = c .before .before .before .before .before .before .before .before .before .before .before .before .before .before .before .before .before .before .args in
     found-by (tableOf (a .entries) (now (a .rows)) (now (a .cols)) (now (a .values))) (a .width) (now (a .kept)) _ (parentOf (v .result .least) (v .last .1 .1 .1 .1 .1 .1 .0)) (v .result .rounds) (c .before .before .before .before .before .before .before .before .before .before .before .before .before .before .before .before .before .before .pre .1) (started (c .before .before .before .before .before .before .before .before .before .before .before .before)) (v .ensures .0) (v .ensures .1)
