@@ -130,6 +130,9 @@ fn cost_case(
     let many = small(word(numbers, 2 + 3 * count));
     read_signed(numbers, 3 + 3 * count, 1, many, &mut costs);
     let next = 3 + 3 * count + many;
+    if 65535 < next {
+        return false;
+    }
     read_bytes(numbers, next + 1, small(word(numbers, next)), &mut b);
     let at = c.given;
     if 65536 < at {

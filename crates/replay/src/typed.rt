@@ -25,11 +25,13 @@ pub fn read_indices(numbers: &[u64], from: usize, step: usize, count: usize, out
     ensures { λ _. ⌜ length (now (out .exit)) ≡ length (now (out .entry)) ⌝ }
 {
     let mut k = 0;
+    let mut at = from;
     while k < count {
         if out.len() <= k {
             return;
         }
-        out[k] = (word(numbers, from + k * step) % 65536) as u16;
+        out[k] = (word(numbers, at) % 65536) as u16;
+        at += step;
         k += 1;
     }
 }
@@ -39,11 +41,13 @@ pub fn read_signed(numbers: &[u64], from: usize, step: usize, count: usize, out:
     ensures { λ _. ⌜ length (now (out .exit)) ≡ length (now (out .entry)) ⌝ }
 {
     let mut k = 0;
+    let mut at = from;
     while k < count {
         if out.len() <= k {
             return;
         }
-        out[k] = signed_of(word(numbers, from + k * step));
+        out[k] = signed_of(word(numbers, at));
+        at += step;
         k += 1;
     }
 }
@@ -93,13 +97,15 @@ pub fn same_indices(numbers: &[u64], from: usize, step: usize, count: usize, xs:
     requires { ⌜ (from ≤ 65536) × (step ≤ 4) × (count ≤ 16384) ⌝ }
 {
     let mut k = 0;
+    let mut at = from;
     while k < count {
         if xs.len() <= k {
             return false;
         }
-        if word(numbers, from + k * step) != wide(xs[k]) {
+        if word(numbers, at) != wide(xs[k]) {
             return false;
         }
+        at += step;
         k += 1;
     }
     true
@@ -109,13 +115,15 @@ pub fn same_signed(numbers: &[u64], from: usize, step: usize, count: usize, xs: 
     requires { ⌜ (from ≤ 65536) × (step ≤ 4) × (count ≤ 16384) ⌝ }
 {
     let mut k = 0;
+    let mut at = from;
     while k < count {
         if xs.len() <= k {
             return false;
         }
-        if word(numbers, from + k * step) != bits_of_signed(xs[k]) {
+        if word(numbers, at) != bits_of_signed(xs[k]) {
             return false;
         }
+        at += step;
         k += 1;
     }
     true

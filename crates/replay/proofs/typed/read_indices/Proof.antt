@@ -1,15 +1,15 @@
-use borrow.Author.Needs.{needs}
-use Prim.Native.Nat.{_≤_, _<_, _-_}
+use Prim.Native.Nat.{_≤_, _<_, _-_, _+_, _*_}
 use mathlib.Core.Path.{_≡_}
 use lib.ListN.{length}
+use borrow.Author.Needs.{needs}
 use Rattle.replay.proofs.typed.read_indices.Statement.{statement}
 use Rattle.replay.proofs.typed.read_indices.Tie as tie
 
 abbrev Inv-loop : tie.InvT-loop
-Inv-loop numbers from step count out₀ k₀ out k = (k ≤ count) × (length out ≡ length out₀)
+Inv-loop numbers from step count out₀ k₀ at₀ out k at = (k ≤ count) × (at ≤ 65536 + 4 * k) × (length out ≡ length out₀)
 
 abbrev μ-loop : tie.MeasureT-loop
-μ-loop numbers from step count out₀ k₀ out k = count - k
+μ-loop numbers from step count out₀ k₀ at₀ out k at = count - k
 
 loop-holds : tie.Need-loop-holds Inv-loop μ-loop
 loop-holds c = search needs
@@ -19,12 +19,6 @@ same-length c = search needs
 
 returns : tie.Need-returns Inv-loop μ-loop
 returns c = search needs
-
-mul-word : tie.Need-mul-word Inv-loop μ-loop
-mul-word c = search needs
-
-add-word : tie.Need-add-word Inv-loop μ-loop
-add-word c = search needs
 
 word-requires : tie.Need-word-requires Inv-loop μ-loop
 word-requires c κs = search needs
@@ -37,6 +31,9 @@ mul-out c = search needs
 
 slice-write-out : tie.Need-slice-write-out Inv-loop μ-loop
 slice-write-out c = search needs
+
+add-at : tie.Need-add-at Inv-loop μ-loop
+add-at c = search needs
 
 add-k : tie.Need-add-k Inv-loop μ-loop
 add-k c = search needs
@@ -62,12 +59,11 @@ read-indices-spec =
     loop-holds
     same-length
     returns
-    mul-word
-    add-word
     word-requires
     cast-out
     mul-out
     slice-write-out
+    add-at
     add-k
     loop-less
     loop-again

@@ -1,15 +1,15 @@
-use borrow.Author.Needs.{needs}
-use Prim.Native.Nat.{_≤_, _<_, _-_}
+use Prim.Native.Nat.{_≤_, _<_, _-_, _+_, _*_}
 use mathlib.Core.Path.{_≡_}
 use lib.ListN.{length}
+use borrow.Author.Needs.{needs}
 use Rattle.replay.proofs.typed.read_signed.Statement.{statement}
 use Rattle.replay.proofs.typed.read_signed.Tie as tie
 
 abbrev Inv-loop : tie.InvT-loop
-Inv-loop numbers from step count out₀ k₀ out k = (k ≤ count) × (length out ≡ length out₀)
+Inv-loop numbers from step count out₀ k₀ at₀ out k at = (k ≤ count) × (at ≤ 65536 + 4 * k) × (length out ≡ length out₀)
 
 abbrev μ-loop : tie.MeasureT-loop
-μ-loop numbers from step count out₀ k₀ out k = count - k
+μ-loop numbers from step count out₀ k₀ at₀ out k at = count - k
 
 loop-holds : tie.Need-loop-holds Inv-loop μ-loop
 loop-holds c = search needs
@@ -20,23 +20,20 @@ same-length c = search needs
 returns : tie.Need-returns Inv-loop μ-loop
 returns c = search needs
 
-mul-word : tie.Need-mul-word Inv-loop μ-loop
-mul-word c = search needs
-
-add-word : tie.Need-add-word Inv-loop μ-loop
-add-word c = search needs
-
 word-requires : tie.Need-word-requires Inv-loop μ-loop
 word-requires c κs = search needs
 
 signed-of-requires : tie.Need-signed-of-requires Inv-loop μ-loop
 signed-of-requires c κs = search needs
 
-mul-t12 : tie.Need-mul-t12 Inv-loop μ-loop
-mul-t12 c = search needs
+mul-t9 : tie.Need-mul-t9 Inv-loop μ-loop
+mul-t9 c = search needs
 
 slice-set-from-out : tie.Need-slice-set-from-out Inv-loop μ-loop
 slice-set-from-out c = search needs
+
+add-at : tie.Need-add-at Inv-loop μ-loop
+add-at c = search needs
 
 add-k : tie.Need-add-k Inv-loop μ-loop
 add-k c = search needs
@@ -62,12 +59,11 @@ read-signed-spec =
     loop-holds
     same-length
     returns
-    mul-word
-    add-word
     word-requires
     signed-of-requires
-    mul-t12
+    mul-t9
     slice-set-from-out
+    add-at
     add-k
     loop-less
     loop-again

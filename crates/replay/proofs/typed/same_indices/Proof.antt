@@ -1,27 +1,21 @@
-use borrow.Author.Needs.{needs}
-use Prim.Native.Nat.{_≤_, _<_, _-_}
+use Prim.Native.Nat.{_≤_, _<_, _-_, _+_, _*_}
 use mathlib.Core.Path.{_≡_}
 use lib.ListN.{length}
+use borrow.Author.Needs.{needs}
 use Rattle.replay.proofs.typed.same_indices.Statement.{statement}
 use Rattle.replay.proofs.typed.same_indices.Tie as tie
 
 abbrev Inv-loop : tie.InvT-loop
-Inv-loop numbers from step count xs k₀ k = k ≤ count
+Inv-loop numbers from step count xs k₀ at₀ k at = (k ≤ count) × (at ≤ 65536 + 4 * k)
 
 abbrev μ-loop : tie.MeasureT-loop
-μ-loop numbers from step count xs k₀ k = count - k
+μ-loop numbers from step count xs k₀ at₀ k at = count - k
 
 loop-holds : tie.Need-loop-holds Inv-loop μ-loop
 loop-holds c = search needs
 
 returns : tie.Need-returns Inv-loop μ-loop
 returns c = search needs
-
-mul-word : tie.Need-mul-word Inv-loop μ-loop
-mul-word c = search needs
-
-add-word : tie.Need-add-word Inv-loop μ-loop
-add-word c = search needs
 
 word-requires : tie.Need-word-requires Inv-loop μ-loop
 word-requires c κs = search needs
@@ -37,6 +31,9 @@ wide-requires c κs = search needs
 
 returns-2 : tie.Need-returns-2 Inv-loop μ-loop
 returns-2 c = search needs
+
+add-at : tie.Need-add-at Inv-loop μ-loop
+add-at c = search needs
 
 add-k : tie.Need-add-k Inv-loop μ-loop
 add-k c = search needs
@@ -58,13 +55,12 @@ same-indices-spec =
     μ-loop
     loop-holds
     returns
-    mul-word
-    add-word
     word-requires
     mul-wide
     shared-slice-read-wide
     wide-requires
     returns-2
+    add-at
     add-k
     loop-less
     loop-again
