@@ -1,4 +1,4 @@
--- What holds where `compute_rounded_sol` is accepted, and how its 31 is put together.
+-- What holds where a call is accepted, and how its 31 is put together.
 -- Assumes nothing.
 use mathlib.Core.Path.{_≡_, refl, sym, ap, _∙_}
 use mathlib.Core.Bool.{Bool, true, false, _&&_}
@@ -26,7 +26,7 @@ use Rattle.tables.proofs.Ranks.{root-least}
 use Rattle.run_record.specs.Limits.{mostRank, mostDraws}
 use Rattle.table_calls.specs.Numbers.{badSigns, signTableNumber}
 use Rattle.table_calls.proofs.Accepting.{signs-passes, signs-parts}
-use Rattle.factor_calls.specs.Numbers.{rankMeant, badRank, badDraws, factorRefused, factorShort, drawsRefused, drawsShort, roundedShort, roundedNumber}
+use Rattle.factor_calls.specs.Numbers.{rankMeant, badRank, badDraws, factorRefused, factorShort, drawsRefused, drawsShort, roundedShort, roundedNumber, dualShort, dualNumber}
 
 -- the default rank of a sign table is below the greatest rank
 root-low : (m : ℕ) → m ≤ mostSigns → leastRoot (2 * m) ≤ 16
@@ -120,4 +120,33 @@ module _ (m count : ℕ) (rows cols : List ℕ) (values : List ℤ) (rank factor
         factor-long = long-enough (any-head _ _ (any-rest _ _ s)) (any-not _ _ signs (any-not _ _ low any-none));
         draws-long = long-enough (any-head _ _ (any-rest _ _ (any-rest _ _ s))) (any-not _ _ many (any-not _ _ low (any-not _ _ (and-right (eqb rank 0) (badSigns m) signs) any-none)));
         out-long = long-enough (any-head _ _ (any-rest _ _ (any-rest _ _ (any-rest _ _ s)))) signs;
+      }
+
+pub record DualUsable (m count : ℕ) (rows cols : List ℕ) (values : List ℤ) (rank factor out : ℕ) : Type 0 where
+  pub lent : Lent count rows cols values
+  pub table : Accepted mostSigns mostSignEntries mostSignMagnitude m (tableOf count rows cols values)
+  pub rank-low : rank ≤ mostRank
+  pub factor-long : m * rankMeant m rank ≤ factor
+  pub out-long : m ≤ out
+
+-- what `dual_variables` works on
+module _ (m count : ℕ) (rows cols : List ℕ) (values : List ℤ) (rank factor out : ℕ) where
+  pub dual-lent : dualShort m count (length rows) (length cols) (length values) rank factor out ≡ false → count ≤ mostSignEntries → Lent count rows cols values
+  unfolding dualShort
+  dual-lent s h = table-lent (any-head _ _ s) h
+
+  pub dual-accepted : dualNumber m count rows cols values rank factor out ≡ 0 → DualUsable m count rows cols values rank factor out
+  unfolding dualNumber dualShort factorShort factorRefused
+  dual-accepted ok =
+      let later = first-rest _ _ ok in
+      let s = clear (dualShort m count (length rows) (length cols) (length values) rank factor out) 30 (first-head _ _ ok) in
+      let t : Accepted mostSigns mostSignEntries mostSignMagnitude m (tableOf count rows cols values) = table-accepted (first-head _ _ later) in
+      let low : badRank rank ≡ false = clear (badRank rank) 16 (first-head _ _ (first-rest _ _ later)) in
+      let signs : badSigns m ≡ false = signs-passes m (t .some) (t .signs) in
+      record {
+        lent = dual-lent s (t .entries);
+        table = t;
+        rank-low = ltb-false mostRank rank low;
+        factor-long = long-enough (any-head _ _ (any-rest _ _ s)) (any-not _ _ signs (any-not _ _ low any-none));
+        out-long = long-enough (any-head _ _ (any-rest _ _ (any-rest _ _ s))) signs;
       }

@@ -1,5 +1,5 @@
--- The first number of `compute_rounded_sol` on a sign table given directly (01, "Numbers from the state" and "Numbers from the input"), or 0:
--- 31, 13 to 16, 17, 19. A length that rests on a number which is itself refused isn't tested.
+-- The first numbers of `compute_rounded_sol` and `dual_variables` on a sign table given directly (01, "Numbers from the state" and "Numbers from the input"), or 0:
+-- 31, 13 to 16, 17, and 19 of the draws. A length that rests on a number which is itself refused isn't tested.
 use mathlib.Core.Bool.{Bool, _&&_}
 use mathlib.Core.List.{List, [], _∷_}
 use Prim.Native.Nat.{ℕ, zero, suc, _*_}
@@ -57,4 +57,21 @@ roundedNumber m count rows cols values rank factor k draws out =
     ∷ signTableNumber m count rows cols values
     ∷ 17 if badRank rank
     ∷ 19 if badDraws k
+    ∷ [])
+
+-- the same without draws, for `dual_variables`; `out` is for the m multipliers
+unfoldable pub dualShort : ℕ → ℕ → ℕ → ℕ → ℕ → ℕ → ℕ → ℕ → Bool
+dualShort m count rows cols values rank factor out =
+    anyOf
+    (shortTable mostSignEntries count rows cols values
+    ∷ factorShort m rank factor
+    ∷ short (badSigns m) m out
+    ∷ [])
+
+unfoldable pub dualNumber : ℕ → ℕ → List ℕ → List ℕ → List ℤ → ℕ → ℕ → ℕ → ℕ
+dualNumber m count rows cols values rank factor out =
+    first
+    (31 if dualShort m count (length rows) (length cols) (length values) rank factor out
+    ∷ signTableNumber m count rows cols values
+    ∷ 17 if badRank rank
     ∷ [])

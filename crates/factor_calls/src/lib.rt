@@ -2,6 +2,8 @@
 // refusal writes nothing.
 mod numbers;
 
+use finalize::multipliers::multipliers;
+use numbers::dual_number;
 use numbers::rank_meant;
 use numbers::rounded_number;
 use run_record::MOST_RANK;
@@ -9,14 +11,15 @@ use table_calls::Eighths;
 use tables::limits::MOST_SIGNS;
 ghost use mathlib.Core.Path.{_≡_};
 ghost use Prim.Native.Nat.{_*_, _≤_, _^_};
-ghost use lib.ListN.{length};
+ghost use lib.ListN.{length, take};
 ghost use Rattle.laws.specs.Lists.{over};
 ghost use Rattle.tables.specs.Limits.{mostSigns};
 ghost use Rattle.tables.specs.Table.{tableOf, Lent, InRange, magnitudeOf};
 ghost use Rattle.run_record.specs.Limits.{mostRank};
 ghost use Rattle.rounding.specs.Rounding.{roundedSol, roundedObjective};
-ghost use Rattle.factor_calls.specs.Numbers.{rankMeant, roundedNumber};
-ghost use Rattle.factor_calls.specs.Answers.{Rounds};
+ghost use Rattle.maxcut_oracle.specs.Table.{dualVariables};
+ghost use Rattle.factor_calls.specs.Numbers.{rankMeant, roundedNumber, dualNumber};
+ghost use Rattle.factor_calls.specs.Answers.{Rounds, Multiplies};
 
 // Room for a direction.
 fn direction_room() -> [f64; MOST_RANK]
@@ -117,4 +120,30 @@ pub fn compute_rounded_sol(
         out,
     );
     Eighths::Value(objective)
+}
+
+// The multipliers of the factor's m rows over the table, the diagonal set aside and then added, in the first places of `out`; the number, 0
+// where the call is accepted. A rank of 0 means the default rank of m.
+pub fn dual_variables(
+    m: usize,
+    count: usize,
+    rows: &[u16],
+    cols: &[u16],
+    values: &[i64],
+    rank: usize,
+    factor: &[f64],
+    out: &mut [f64],
+) -> u8
+    ensures { λ r. ⌜ Multiplies (dualNumber m count (now (rows .entry)) (now (cols .entry)) (now (values .entry)) rank (length (now (factor .entry))) (length (now (out .entry))))
+        (dualVariables (tableOf count (now (rows .entry)) (now (cols .entry)) (now (values .entry))) m (rankMeant m rank) (take (m * rankMeant m rank) (now (factor .entry))))
+        (now (out .entry)) r (now (out .exit)) ⌝ }
+{
+    let number = dual_number(m, count, rows, cols, values, rank, factor.len(), out.len());
+    if number != 0 {
+        return number;
+    }
+    let meant = rank_meant(m, rank);
+    let size = m * meant;
+    multipliers(m, count, rows, cols, values, meant, &factor[..size], out);
+    0
 }

@@ -15,7 +15,7 @@ ghost use lib.ListN.{length};
 ghost use Rattle.tables.specs.Limits.{mostSigns};
 ghost use Rattle.run_record.specs.Limits.{mostRank};
 ghost use Rattle.table_calls.specs.Numbers.{badSigns};
-ghost use Rattle.factor_calls.specs.Numbers.{rankMeant, badRank, badDraws, factorShort, drawsRefused, drawsShort, roundedShort, roundedNumber};
+ghost use Rattle.factor_calls.specs.Numbers.{rankMeant, badRank, badDraws, factorShort, drawsRefused, drawsShort, roundedShort, roundedNumber, dualShort, dualNumber};
 
 // 13 of m.
 fn bad_signs(m: usize) -> bool
@@ -157,6 +157,63 @@ pub fn rounded_number(
     }
     if bad_draws(k) {
         return 19;
+    }
+    0
+}
+
+// 31 of `dual_variables`, whose last slices have these lengths.
+fn dual_short(
+    m: usize,
+    count: usize,
+    rows: &[u16],
+    cols: &[u16],
+    values: &[i64],
+    rank: usize,
+    factor: usize,
+    out: usize,
+) -> bool
+    ensures { λ r. ⌜ r ≡ dualShort m count (length (now (rows .entry))) (length (now (cols .entry))) (length (now (values .entry))) rank factor out ⌝ }
+{
+    if short_table(MOST_SIGN_ENTRIES, count, rows, cols, values) {
+        return true;
+    }
+    if factor_short(m, rank, factor) {
+        return true;
+    }
+    too_short(bad_signs(m), m, out)
+}
+
+// The first number of `dual_variables`, or 0.
+pub fn dual_number(
+    m: usize,
+    count: usize,
+    rows: &[u16],
+    cols: &[u16],
+    values: &[i64],
+    rank: usize,
+    factor: usize,
+    out: usize,
+) -> u8
+    ensures { λ r. ⌜ r ≡ dualNumber m count (now (rows .entry)) (now (cols .entry)) (now (values .entry)) rank factor out ⌝ }
+{
+    if dual_short(m, count, rows, cols, values, rank, factor, out) {
+        return 31;
+    }
+    let number = table_number(
+        MOST_SIGNS,
+        MOST_SIGN_ENTRIES,
+        MOST_SIGN_MAGNITUDE,
+        m,
+        count,
+        rows,
+        cols,
+        values,
+    );
+    if number != 0 {
+        return number;
+    }
+    if bad_rank(rank) {
+        return 17;
     }
     0
 }
