@@ -11,4 +11,4 @@ abbrev pub mostDraws : ℕ
 mostDraws = 1000
 
 abbrev pub finishWorkspace : ℕ
-finishWorkspace = 32768
+finishWorkspace = 16384

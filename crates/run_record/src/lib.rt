@@ -16,7 +16,7 @@ pub const MOST_WIDTH: usize = 128;
 pub const MOST_DRAWS: usize = 1000;
 
 // The bytes of workspace that a finish asks.
-pub const FINISH_WORKSPACE: usize = 32768;
+pub const FINISH_WORKSPACE: usize = 16384;
 
 pub enum Stage {
     Open,
