@@ -2,7 +2,7 @@
 // accepted settings.
 mod choice; // choice.rt: the rounded choice, the search from it, and what its answer decodes to
 pub mod multipliers; // multipliers.rt: the multipliers with the diagonal added, and the diagonal's sum
-mod room; // room.rt: local arrays
+pub mod room; // room.rt: local arrays
 
 use choice::choose;
 use multipliers::multipliers;

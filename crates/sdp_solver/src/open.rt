@@ -1,0 +1,131 @@
+// The open call: the start's factor, and the record of a run over it.
+use super::work::call_work;
+use finalize::room;
+use initialize::prepare_initial_factor;
+use maxcut_oracle::objective::obj;
+use run_contract::Opened;
+use run_record::lengths::resolved_rank;
+use run_record::numbers::open_number;
+use run_record::Run;
+use run_record::Stage;
+use step_rules::StepRule;
+ghost use mathlib.Core.Path.{_≡_};
+ghost use mathlib.Core.Bool.{_&&_};
+ghost use Prim.Native.Nat.{_+_, _*_};
+ghost use lib.Dec.{ltb};
+ghost use lib.ListN.{length};
+ghost use Rattle.maxcut_oracle.specs.Table.{workObjective};
+ghost use Rattle.run_record.specs.CostTable.{costTable};
+ghost use Rattle.run_sweep.specs.Work.{signsOf};
+ghost use Rattle.run_contract.specs.Calls.{ruleOf, firstStage, settingsOf, Opens};
+ghost use Rattle.sdp_solver.specs.Usable.{Usable};
+
+// The rule of a code from 0 to 4 with its number.
+fn rule_of(code: u8, number: f64) -> StepRule
+    ensures { λ r. ⌜ r ≡ ruleOf code number ⌝ }
+{
+    if code == 0 {
+        return StepRule::Grad(number);
+    }
+    if code == 1 {
+        return StepRule::GradAdv(number);
+    }
+    if code == 2 {
+        return StepRule::Coord(number);
+    }
+    if code == 3 { StepRule::CoordNoStep } else { StepRule::CoordMomentum(number) }
+}
+
+fn first_stage(most: u32) -> Stage
+    ensures { λ r. ⌜ r ≡ firstStage most ⌝ }
+{
+    if most == 0 { Stage::Stopped } else { Stage::Open }
+}
+
+// Whether a start of signs takes draws.
+fn takes_draws(most: u32, rank: usize) -> bool
+    ensures { λ r. ⌜ r ≡ (ltb 0 most && ltb 1 rank) ⌝ }
+{
+    if 0 < most { 1 < rank } else { false }
+}
+
+// The objective of the start, its diagonal left out.
+fn first_objective(
+    n: usize,
+    count: usize,
+    rows: &[u16],
+    cols: &[u16],
+    values: &[i64],
+    c: &[i64],
+    rank: usize,
+    factor: &[f64],
+) -> f64
+    requires { ⌜ Usable (costTable n count (now rows) (now cols) (now values) (now c)) × (length (now factor) ≡ (n + 1) * rank) ⌝ }
+    ensures { λ r. ⌜ r ≡ workObjective (signsOf (costTable n count (now (rows .entry)) (now (cols .entry)) (now (values .entry)) (now (c .entry)))) rank (now (factor .entry)) ⌝ }
+{
+    let mut work_rows = room::indices();
+    let mut work_cols = room::indices();
+    let mut work_values = room::units();
+    let mut starts = room::row_starts();
+    let stay = call_work(
+        n,
+        count,
+        rows,
+        cols,
+        values,
+        c,
+        &mut work_rows,
+        &mut work_cols,
+        &mut work_values,
+        &mut starts,
+    );
+    obj(&work_rows[..stay], &work_cols[..stay], &work_values[..stay], factor, rank)
+}
+
+// Opens a run: `number` is the rule's, `numbers` are the start's; the factor takes m rows of the rank that is meant.
+pub fn open(
+    n: usize,
+    count: usize,
+    rows: &[u16],
+    cols: &[u16],
+    values: &[i64],
+    c: &[i64],
+    rank: usize,
+    rule: u8,
+    number: f64,
+    most: u32,
+    minimum: u32,
+    objective_tolerance: f64,
+    stationarity_tolerance: f64,
+    start: u8,
+    numbers: &[f64],
+    factor: &mut [f64],
+) -> Opened
+    ensures { λ r. ⌜ Opens (settingsOf (costTable n count (now (rows .entry)) (now (cols .entry)) (now (values .entry)) (now (c .entry))) rank rule number most minimum «objective_tolerance» «stationarity_tolerance» start (now (numbers .entry)))
+        (now (factor .entry)) r (now (factor .exit)) ⌝ }
+{
+    let refusal = open_number(n, count, rows, cols, values, c, rank, rule, number, most, start, numbers.len(), factor.len());
+    if refusal != 0 {
+        return Opened::Refused(refusal);
+    }
+    let size = n + 1;
+    let meant = resolved_rank(rank, size);
+    let used = size * meant;
+    prepare_initial_factor(start == 2, takes_draws(most, meant), numbers, meant, size, factor);
+    let last_objective = first_objective(n, count, rows, cols, values, c, meant, &factor[..used]);
+    let step = rule_of(rule, number);
+    let stage = first_stage(most);
+    Opened::Started(Run {
+        size,
+        rank: meant,
+        rule: step,
+        sweeps: 0,
+        last_objective,
+        objective_tolerance,
+        stationarity_tolerance,
+        most,
+        minimum,
+        stage,
+        status: 0,
+    })
+}
