@@ -3,3 +3,4 @@ pub mod Lengths
 pub mod Follows
 pub mod Opening
 pub mod OnLists
+pub mod Chains
