@@ -31,7 +31,7 @@ use Rattle.run_contract.specs.Chain.{Lends, keptAfter, seenOf, givenOf, 
 use Rattle.run_contract.proofs.Accepting.{sweep-accepted, finish-accepted}
 use Rattle.run_contract.proofs.Lengths.{length-choice, length-multipliers}
 use Rattle.run_contract.proofs.Follows.{stateOf, turned, turns, sweeps-follow}
-use Rattle.run_contract.proofs.Opening.{Whole, open-whole, opens-plain, started-unrefused}
+use Rattle.run_contract.proofs.Opening.{Whole, open-whole, plain-open}
 
 -- ---- kept and lent
 
@@ -217,8 +217,8 @@ module _ (length-stepped : StepsKeep) where
       → seen ≡ plainTrace (plainOpen o) calls
   unfolding recordOf
   plain-run o factor factor′ run calls seen opens chain =
-      let ok = started-unrefused o factor (O.Started run) factor′ opens run refl in
-      let opened = opens-plain o factor (O.Started run) factor′ opens ok in
-      let started : run ≡ recordOf (plainOpen o) = ap (runOr run) (opened .record-is) in
+      let opened = plain-open o factor (O.Started run) factor′ opens in
+      let ok = opened .0 run refl in
+      let started : run ≡ recordOf (plainOpen o) = ap (runOr run) (opened .1 ok .0) in
       follows chain (plainOpen o) (open-whole o (length factor) ok) started
-      (ap (λ (h : Run). take (used h) factor′) started ∙ opened .factor-is)
+      (ap (λ (h : Run). take (used h) factor′) started ∙ opened .1 ok .1)

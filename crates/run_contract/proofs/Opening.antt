@@ -25,29 +25,24 @@ pub open-whole : (o : Settings) (lent : ℕ) → openNumberOf o lent ≡ 0 → W
 unfolding plainOpen startFactor
 open-whole o lent e = length-start (eqb (o .start) 2) (ltb 0 (o .most) && ltb 1 (openRank o)) (openRank o) (openSize o) (o .numbers) (open-accepted o lent e .numbers-room)
 
-pub open-record : (o : Settings) → openRun o ≡ recordOf (plainOpen o)
+open-front : (o : Settings) (lent : ℕ) (factor : List Float) → openNumberOf o lent ≡ 0 → take (plainOpen o .size * plainOpen o .rank) (over (startFactor o) factor) ≡ plainOpen o .factor
+unfolding plainOpen
+open-front o lent factor e = take-at (startFactor o) _ _ (open-whole o lent e)
+
+open-record : (o : Settings) → openRun o ≡ recordOf (plainOpen o)
 unfolding openRun firstStage plainOpen recordOf
 open-record o = refl
 
--- what an accepted open leaves
-pub record OpensPlain (o : Settings) (answer : Opened) (factor′ : List Float) : Type 0 where
-  pub record-is : answer ≡ O.Started (recordOf (plainOpen o))
-  pub factor-is : take (plainOpen o .size * plainOpen o .rank) factor′ ≡ plainOpen o .factor
-
-module _ (o : Settings) (factor : List Float) (answer : Opened) (factor′ : List Float) (opens : Opens o factor answer factor′) where
-  -- where no number applies
-  pub opens-plain : openNumberOf o (length factor) ≡ 0 → OpensPlain o answer factor′
-  unfolding plainOpen
-  opens-plain e =
-      let a = opens .accepted (opens .numbered ∙ e) in
-      record {
-        record-is = a .0 ∙ ap (λ (run : Run). O.Started run) (open-record o);
-        factor-is = ap (take (openSize o * openRank o)) (a .1) ∙ take-at (startFactor o) _ _ (open-whole o (length factor) e);
-      }
-
-  -- and nowhere else
-  pub started-unrefused : (run : Run) → answer ≡ O.Started run → openNumberOf o (length factor) ≡ 0
-  started-unrefused run e = sym (opens .numbered) ∙ ap openedNumber e
+-- accepted, no number applies; where none does, the answer is the plain run's record, and the factor begins with the plain run's
+pub plain-open : (o : Settings) (factor : List Float) (answer : Opened) (factor′ : List Float) → Opens o factor answer factor′
+    → ((run : Run) → answer ≡ O.Started run → openNumberOf o (length factor) ≡ 0)
+    × (openNumberOf o (length factor) ≡ 0
+        → (answer ≡ O.Started (recordOf (plainOpen o))) × (take (plainOpen o .size * plainOpen o .rank) factor′ ≡ plainOpen o .factor))
+plain-open o factor answer factor′ opens =
+    ((λ run e. sym (opens .numbered) ∙ ap openedNumber e),
+     (λ ok.
+       let a = opens .accepted (opens .numbered ∙ ok) in
+       (a .0 ∙ ap (λ (run : Run). O.Started run) (open-record o), ap (take (plainOpen o .size * plainOpen o .rank)) (a .1) ∙ open-front o (length factor) factor ok)))
 
 -- an open has an outcome
 pub open-has : (o : Settings) (factor : List Float) → (answer : Opened) × (factor′ : List Float) × Opens o factor answer factor′
