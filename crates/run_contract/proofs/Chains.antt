@@ -1,5 +1,5 @@
 -- Every list of calls has a chain: what the theorem on lists assumes is never empty. Assumes nothing.
-use Prim.Native.Nat.{ℕ, zero, suc, _+_, _*_, _≤_}
+use Prim.Native.Nat.{ℕ, zero, suc, _+_, _≤_}
 use mathlib.Core.Path.{_≡_, refl, sym, ap, _∙_, subst}
 use mathlib.Core.Bool.{Bool, true, false}
 use mathlib.Core.List.{List, [], _∷_, _++_}
@@ -14,7 +14,7 @@ use Rattle.run_record.specs.declared.Run.{Run}
 use Rattle.run_record.specs.CostTable.{CostTable, quadratic, linear}
 use Rattle.run_record.specs.Numbers.{sweepNumber, finishNumber}
 use Rattle.run_sweep.specs.Work.{callWork}
-use Rattle.run_sweep.specs.Sweep.{State, sweepsUpTo}
+use Rattle.run_sweep.specs.Sweep.{sweepsUpTo}
 use Rattle.finalize.specs.Finalize.{diagonalTotal}
 use Rattle.finalize.specs.Contracts.{Finalizes}
 use Rattle.finalize.specs.Demand3.{Demand3}
@@ -23,7 +23,7 @@ use Rattle.run_contract.specs.declared.FinishResult.{FinishResult}
 use Rattle.run_contract.specs.declared.Finished.{Finished}
 use Rattle.run_contract.specs.declared.Finished.the-variants as F
 use Rattle.run_contract.specs.Calls.{Sweeps, used, Finishes, finishLengths, finishResult, finishChoice, finishMultipliers}
-use Rattle.run_contract.specs.PlainRun.{SweepCall, FinishCall, Call, sweep, finish, Seen}
+use Rattle.run_contract.specs.PlainRun.{FinishCall, Call, sweep, finish, Seen}
 use Rattle.run_contract.specs.Chain.{Lends, keptAfter, Sized, Chain, ends, sweeps, finishes}
 use Rattle.run_contract.proofs.Accepting.{HallOf, finish-accepted}
 

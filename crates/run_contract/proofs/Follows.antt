@@ -1,18 +1,16 @@
 -- The port's sweeps on record and factor are the plain run's. Assumes nothing.
 use Prim.Native.Nat.{ℕ, zero, suc, _+_}
 use mathlib.Core.Path.{_≡_, refl, sym, ap, _∙_}
-use mathlib.Core.Bool.{Bool, true, false, not, _&&_, cond}
-use mathlib.Core.List.{List, [], _∷_}
+use mathlib.Core.Bool.{Bool, true, false, not, cond}
+use mathlib.Core.List.{[], _∷_}
 use native.Mathlib.Nat.{zero-add, suc-add}
-use lib.Dec.{leb, eqb, eqb·suc-zero}
+use lib.Dec.{eqb, eqb·suc-zero}
 use lib.Ieee.{Float}
 use Rattle.laws.specs.Refusal.{anyOf}
-use Rattle.step_rules.specs.Rule.{testsObjective}
 use Rattle.run_record.specs.declared.Stage.{Stage}
 use Rattle.run_record.specs.declared.Stage.the-variants.{Open, Stopped}
-use Rattle.run_record.specs.declared.Run.{Run}
 use Rattle.run_sweep.specs.Work.{Work}
-use Rattle.run_sweep.specs.Sweep.{State, checkDue, stopStatus, newObjective, stationary, settledAt, statusFound, lastAfter, stageAfter, statusAfter, advanced, runAfter, whileOpen, sweptOnce, sweepsUpTo}
+use Rattle.run_sweep.specs.Sweep.{State, checkDue, settledAt, statusFound, lastAfter, stageAfter, statusAfter, advanced, runAfter, whileOpen, sweepsUpTo}
 use Rattle.run_contract.specs.PlainRun.{Plain, sweptFactor, swept, standing, stops, foundStatus, objectiveAt, checked, atMost, ifOpen, plainSweeps, recordOf}
 
 -- record and factor of a plain run's state

@@ -7,9 +7,8 @@ use native.Mathlib.Omega.{arith}
 use lib.Ieee
 use lib.Ieee.{Float}
 use lib.IntN.{ℤ}
-use lib.ListN.{length, take, drop, set, replicate, length-append, length-drop, length-set, length-replicate, take-append-drop}
+use lib.ListN.{length, take, drop, set, length-append, length-drop, length-set, length-replicate, take-append-drop}
 use lib.Seq.{length-take-le}
-use Rattle.laws.specs.Turns.{upTo}
 use Rattle.laws.specs.Rows.{rowOf, setRow}
 use Rattle.laws.proofs.UpTo.{upTo-keeps}
 use Rattle.laws.proofs.MapFirst.{length-mapFirst}

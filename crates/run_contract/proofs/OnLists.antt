@@ -17,15 +17,14 @@ use Rattle.step_rules.specs.Rule.{stepped}
 use Rattle.run_record.specs.declared.Run.{Run}
 use Rattle.run_record.specs.declared.Stage.the-variants.{Open, Stopped}
 use Rattle.run_record.specs.CostTable.{quadratic, linear}
-use Rattle.run_record.specs.Numbers.{sweepNumber, FinishLengths, finishNumber}
+use Rattle.run_record.specs.Numbers.{sweepNumber, finishNumber}
 use Rattle.run_sweep.specs.Work.{Work, callWork}
 use Rattle.run_sweep.specs.Sweep.{State, sweepsUpTo, advanced, runAfter}
 use Rattle.run_contract.specs.declared.Opened.{Opened}
 use Rattle.run_contract.specs.declared.Opened.the-variants as O
-use Rattle.run_contract.specs.declared.FinishResult.{FinishResult}
 use Rattle.run_contract.specs.declared.Finished.{Finished}
 use Rattle.run_contract.specs.declared.Finished.the-variants as F
-use Rattle.run_contract.specs.Calls.{Settings, Opens, openNumberOf, Sweeps, used, Finishes, finishLengths, finishResult, finishChoice, finishMultipliers, finishedNumber}
+use Rattle.run_contract.specs.Calls.{Settings, Opens, Sweeps, used, Finishes, finishLengths, finishResult, finishChoice, finishMultipliers, finishedNumber}
 use Rattle.run_contract.specs.PlainRun.{Plain, SweepCall, FinishCall, Call, sweep, finish, plainOpen, sweptFactor, plainSweeps, ifOpen, recordOf, lengthsOf, plainNumber, plainAfter, Given, finishOf, Seen, seenAt, plainSeen, plainTrace}
 use Rattle.run_contract.specs.Chain.{Lends, keptAfter, seenOf, givenOf, Sized, Chain, ends, sweeps, finishes}
 use Rattle.run_contract.proofs.Accepting.{sweep-accepted, finish-accepted}

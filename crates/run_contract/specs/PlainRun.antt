@@ -1,6 +1,6 @@
 -- 01's plain run ("Run", second paragraph): sweep by sweep, on a state of its own. Definitions only.
 use Prim.Native.Nat.{ℕ, zero, suc, _+_}
-use mathlib.Core.Bool.{Bool, true, false, _&&_, cond}
+use mathlib.Core.Bool.{Bool, _&&_, cond}
 use mathlib.Core.List.{List, [], _∷_}
 use mathlib.Core.Option.{Option, some, none}
 use lib.ListN.{length}
