@@ -1,14 +1,12 @@
 -- What holds where a call is accepted: the table is a hall in slices that hold it, and every other slice is long enough. Assumes nothing.
-use Prim.Native.Nat.{ℕ, suc, _+_, _*_, _≤_, _<_}
-use mathlib.Core.Path.{_≡_, refl, sym, ap, _∙_}
+use Prim.Native.Nat.{ℕ, _+_, _*_, _≤_, _<_}
+use mathlib.Core.Path.{_≡_, refl, sym, ap}
 use mathlib.Core.Bool.{Bool, true, false, not, _&&_, _||_, cond}
-use mathlib.Core.List.{List, []}
 use native.Mathlib.Numerals.{add-one}
 use native.Mathlib.Omega.{arith}
 use borrow.Author.Tests.{ltb-false, le-ltb, eqb-true, eqb-false, not-false}
 use lib.Dec.{ltb, eqb}
 use lib.ListN.{length}
-use Rattle.laws.specs.Refusal.{short}
 use Rattle.laws.proofs.Refusal.{clear, first-head, first-rest}
 use Rattle.laws.proofs.Any.{any-head, any-rest, any-not, any-none, or-left}
 use Rattle.tables.specs.Limits.{mostWagons, mostEntries, mostMagnitude}
@@ -19,7 +17,7 @@ use Rattle.initialize.specs.Initialize.{startCount}
 use Rattle.run_record.specs.declared.Run.{Run}
 use Rattle.run_record.specs.CostTable.{CostTable, quadratic, linear}
 use Rattle.run_record.specs.Limits.{mostRank, mostWidth, mostDraws}
-use Rattle.run_record.specs.Numbers.{isStopped, tableShort, factorRefused, factorShort, recordRefused, tableNumber, badMomentum, sweepShort, sweepNumber, drawsRefused, drawsShort, choiceShort, FinishLengths, finishShort, widthRefused, finishNumber, openRankRefused, startLength, startShort, openFactorShort, openShort, ruleRefused, openNumber}
+use Rattle.run_record.specs.Numbers.{tableShort, factorRefused, factorShort, recordRefused, sweepShort, sweepNumber, drawsRefused, drawsShort, choiceShort, FinishLengths, finishShort, widthRefused, finishNumber, openRankRefused, startLength, startShort, openFactorShort, openShort, openNumber}
 use Rattle.run_record.proofs.Short.{tested}
 use Rattle.run_record.proofs.Holds.{table-lent, costs-lent}
 use Rattle.run_record.proofs.Ranked.{resolved-small, resolved-some}
