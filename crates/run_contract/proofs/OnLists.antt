@@ -1,5 +1,5 @@
 -- Demand 3's last sentence, one statement on the whole list: from an accepted open, every chain of sweep and finish calls, refused ones
--- included, is seen as 01's plain run has it. By induction on the list. Assumes nothing.
+-- included, is seen as 01's plain run has it. By induction on the list. Takes one fact as an argument, `StepsKeep`.
 use Prim.Native.Nat.{ℕ, zero, suc, _*_, _≤_}
 use mathlib.Core.Path.{_≡_, refl, sym, ap, _∙_, subst}
 use mathlib.Core.Bool.{Bool, true, false, cond}
@@ -63,7 +63,7 @@ either : (b : Bool) → cond {A = Option Given} b none none ≡ none
 either true = refl
 either false = refl
 
--- a step by a rule keeps the factor's length
+-- a step by a rule keeps the factor's length (rules 3 and 4 unfold only where coordinate_sweep is named)
 abbrev pub StepsKeep : Type 0
 StepsKeep = (rule : StepRule) (rows cols : List ℕ) (values : List Float) (starts : List ℕ) (m rank : ℕ) (factor : List Float) → length (stepped rule rows cols values starts m rank factor) ≡ length factor
 
