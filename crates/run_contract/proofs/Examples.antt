@@ -94,7 +94,7 @@ pub run-computed :
     map shown (plainTrace (plainOpen settings) (finishing ∷ sweeping 2 2 ∷ sweeping 2 1 ∷ sweeping 2 2 ∷ sweeping 2 2 ∷ finishing ∷ []))
     ≡ (look 32 0 false 0 none ∷ look 0 2 false 0 none ∷ look 31 2 false 0 none ∷ look 0 3 true 1 none ∷ look 32 3 true 1 none ∷ look 0 3 true 1 (some (1 ∷ [])) ∷ [])
 unfolding plainOpen PlainRun.sweptFactor PlainRun.swept PlainRun.checked PlainRun.atMost PlainRun.plainSweeps PlainRun.recordOf PlainRun.plainNumber PlainRun.plainAfter
-    PlainRun.finishOf PlainRun.plainSeen Calls.ruleOf Calls.startFactor Calls.finishResult
+    PlainRun.finishOf PlainRun.plainSeen Calls.startFactor Calls.finishResult
     Refusal.orElse Refusal.first Refusal.anyOf Refusal.short Numbers.tableShort Numbers.factorRefused Numbers.factorShort Numbers.recordRefused Numbers.sweepShort
     Numbers.sweepNumber Numbers.drawsRefused Numbers.drawsShort Numbers.choiceShort Numbers.finishShort Numbers.widthRefused Numbers.finishNumber
     Check.badSize Check.before Check.badEntry Check.badOrder Check.unmirrored Check.hallNumber Check.shortTable Sum.total

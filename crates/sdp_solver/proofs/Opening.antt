@@ -9,12 +9,13 @@ use lib.ListN.{length, take}
 use lib.Seq.{take-at}
 use Rattle.laws.specs.Lists.{over}
 use Rattle.step_rules.specs.declared.StepRule.{StepRule}
+use Rattle.step_rules.specs.Rule.{ruleOf}
 use Rattle.initialize.specs.Initialize.{startBy, startWithin}
 use Rattle.maxcut_oracle.specs.Table.{workObjective}
 use Rattle.run_record.specs.declared.Stage.{Stage}
 use Rattle.run_record.specs.declared.Run.{Run}
 use Rattle.run_sweep.specs.Work.{signsOf}
-use Rattle.run_contract.specs.Calls.{Settings, openSize, openRank, ruleOf, firstStage, startFactor, openRun, openNumberOf}
+use Rattle.run_contract.specs.Calls.{Settings, openSize, openRank, firstStage, startFactor, openRun, openNumberOf}
 use Rattle.run_contract.proofs.Accepting.{open-accepted}
 use Rattle.run_contract.proofs.Lengths.{length-start}
 use Rattle.sdp_solver.proofs.Written.{written-over}

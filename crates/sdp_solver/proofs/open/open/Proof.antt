@@ -81,6 +81,6 @@ open-spec =
     still-long
     (λ c. sym (length-take-le _ _ (still-long (c .before))))
     first-objective-requires
-    (λ c κs. search needs) (λ c κs. search needs)
+    (λ c κs. openable (c .before .before .before .before .before .before .before) .rule-few) (λ c κs. search needs)
     (λ c. search needs)
     returns-2)
