@@ -8,6 +8,7 @@ static uint8_t workspace[WAGONPLAN_WORKSPACE], answer[SLICE];
 int main(void) {
     char *line = 0;
     size_t room = 0;
+    setvbuf(stdout, NULL, _IOLBF, 1 << 16); // so that the last line tells the job where a call goes wrong
     while (getline(&line, &room, stdin) > 0) {
         const char *text = line;
         size_t job_len;
