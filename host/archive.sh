@@ -6,4 +6,4 @@ if [ -z "${RECORD_ARCHIVE:-}" ]; then
     rt staticlib record_call >target/log/staticlib-record_call.txt 2>&1 || { tail -n 20 target/log/staticlib-record_call.txt; exit 1; }
 fi
 # Builds target/host/NAME from host/NAME.c.
-build() { gcc -std=c11 -O2 -g -Wall -Wextra -Werror -D_GNU_SOURCE -Ihost -o "target/host/$1" "${2:-host/$1.c}" "$archive" -lm -lpthread; }
+build() { gcc -std=c11 -O2 -g -Wall -Wextra -D_GNU_SOURCE -Ihost -o "target/host/$1" "${2:-host/$1.c}" "$archive" -lm -lpthread; }

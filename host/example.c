@@ -66,7 +66,7 @@ static void print_answer(const uint8_t *a) {
     printf("  status %d (%s), rank %d, sweeps %u\n", a[WAGONPLAN_AT_STATUS], statuses[a[WAGONPLAN_AT_STATUS]], a[WAGONPLAN_AT_RANK],
            (unsigned)number_at(a, WAGONPLAN_AT_SWEEPS, 4));
     printf("  relaxed objective %.17g, float bound %.17g\n", double_at(a, WAGONPLAN_AT_RELAXED), double_at(a, WAGONPLAN_AT_BOUND));
-    printf("  cost %.3f, from %.3f by %llu rounds; no choice costs less than %.3f\n", cost_at(a, WAGONPLAN_AT_COST),
+    printf("  cost %.3f, searched from %.3f in %llu round(s); no choice costs less than %.3f\n", cost_at(a, WAGONPLAN_AT_COST),
            cost_at(a, WAGONPLAN_AT_ROUNDED_COST), (unsigned long long)number_at(a, WAGONPLAN_AT_ROUNDS, 8), cost_at(a, WAGONPLAN_AT_FLOOR));
     for (int i = 0; i < a[WAGONPLAN_AT_WAGONS]; i++) printf("  wagon %d goes into store %d\n", i, a[WAGONPLAN_AT_CHOICE + i]);
 }

@@ -36,7 +36,7 @@ static uint64_t number_at(const uint8_t *bytes, size_t at, size_t count) {
 
 static int64_t whole_at(const uint8_t *bytes, size_t at) { return (int64_t)number_at(bytes, at, 8); }
 
-// Where the costs stand in a job, and its rank; the limit of sweeps is ten bytes behind the rank, W 25 behind the limit.
+// Where the costs stand in a job, and its rank; the limit of sweeps stands 10 bytes behind the rank, W 34, the start 35.
 static size_t costs_at(const uint8_t *job) { return 8 + 10 * number_at(job, 6, 2); }
 static size_t rank_at(const uint8_t *job) { return costs_at(job) + 8 * (size_t)job[5]; }
 
