@@ -12,5 +12,5 @@ lines = [line.split()[0].strip("-") for line in open("host/jobs.txt") if line[0]
 for k, job in enumerate(x for x in lines if len(x) < 2 * int(sys.argv[1])):
     open(f"target/fuzz/corpus/stored-{k:04}", "wb").write(b"\x08" + bytes.fromhex(job))
 PY
-target/host/fuzz -runs="$runs" -seed="$seed" -max_len="$((longest + 1))" -timeout=20 -artifact_prefix=target/fuzz/ -print_final_stats=1 target/fuzz/corpus 2>target/log/fuzz.txt || { tail -n 30 target/log/fuzz.txt; exit 1; }
+target/host/fuzz -runs="$runs" -seed="$seed" -max_len="$((longest + 1))" -timeout=20 -rss_limit_mb=4096 -artifact_prefix=target/fuzz/ -print_final_stats=1 target/fuzz/corpus 2>target/log/fuzz.txt || { tail -n 30 target/log/fuzz.txt; exit 1; }
 grep -E '^number |number_of_executed_units|average_exec_per_sec' target/log/fuzz.txt
