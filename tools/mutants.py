@@ -6,7 +6,8 @@
 An edit changes one place in the body of a function or in the value of a constant, never a contract or a comment: a comparison, an
 arithmetic operator, && or ||, a number by 1, true or false, the operands of - or <, or two arguments next to each other whose types are the
 same. Each crate gets an equal share of COUNT; the kind of an edit is drawn first, then its place. It is tried by `rt dev` on a temporary copy
-of the crates and of what target/ has of them, proved before. --list prints the edits alone.
+of the crates and of what target/ has of them, proved before. Where + becomes - or *, the proof's name for that step is changed with it, if that
+is enough. --list prints the edits alone.
 """
 import argparse
 import collections
@@ -25,7 +26,8 @@ TOKEN = re.compile(r"0x[0-9a-fA-F_]+(?:[ui](?:8|16|32|64|size))?|\d[\d_]*e-?\d+|
 WORD, NUMBER = re.compile(r"[A-Za-z_]\w*$"), re.compile(r"\d")
 KEYWORDS = {"return", "if", "else", "while", "match", "let", "mut", "in", "as"}
 Token = collections.namedtuple("Token", "text start end")
-Edit = collections.namedtuple("Edit", "crate file line kind old new text")
+Edit = collections.namedtuple("Edit", "crate file line kind old new text put")
+STEPS = {"+": "add", "-": "sub", "*": "mul"}
 
 
 def blanked(text):
@@ -215,7 +217,7 @@ def edits(crate, types):
         for start, end in bodies(text):
             for kind, a, b, new in changes(text, start, end, types):
                 flat = lambda s: " ".join(s.split())
-                found[kind].append(Edit(crate, file, text.count("\n", 0, a) + 1, kind, flat(shown(whole, a, b, whole[a:b])), flat(shown(whole, a, b, new)), whole[:a] + new + whole[b:]))
+                found[kind].append(Edit(crate, file, text.count("\n", 0, a) + 1, kind, flat(shown(whole, a, b, whole[a:b])), flat(shown(whole, a, b, new)), whole[:a] + new + whole[b:], new))
     return found
 
 
@@ -263,6 +265,25 @@ def verdict(folder, crate, limit=600):
     return ("no verdict" if done.returncode == 3 else "not compiling"), first
 
 
+def tried(folder, e):
+    """The verdict on an edit: on the proof as it stands or, where an operator's step has another name now, with that name in the proof."""
+    path = os.path.join(folder, e.file)
+    stands = open(path).read()
+    open(path, "w").write(e.text)
+    said, why = verdict(folder, e.crate)
+    step = re.match(r"(\S+?Proof\.antt):\S+ error: `((?:add|sub|mul)(-[a-z0-9-]*?)(?:-\d+)?)`", why)
+    if said == "other shape" and e.kind == "arithmetic" and step:
+        proof = open(step.group(1)).read()
+        names = [STEPS[e.put[0]] + step.group(3) + number for number in ("", "-2", "-3", "-4")]
+        word = lambda name: r"(?<![\w-])(Need-)?" + re.escape(name) + r"(?![\w-])"
+        new = next((name for name in names if not re.search(word(name), proof)), names[0])
+        open(step.group(1), "w").write(re.sub(word(step.group(2)), lambda m: (m.group(1) or "") + new, proof))
+        said, why = verdict(folder, e.crate)
+        open(step.group(1), "w").write(proof)
+    open(path, "w").write(stands)
+    return said, why
+
+
 def main():
     options = argparse.ArgumentParser(description=__doc__, formatter_class=argparse.RawDescriptionHelpFormatter)
     options.add_argument("--crates", required=True)
@@ -287,11 +308,8 @@ def main():
                 proved.add(e.crate)
                 shutil.rmtree(kept := os.path.join(folder, "kept"), ignore_errors=True)
                 shutil.copytree(inc := os.path.join(folder, "target", "inc", e.crate), kept, symlinks=True)
-            path, began = os.path.join(folder, e.file), time.time()
-            stands = open(path).read()
-            open(path, "w").write(e.text)
-            said, why = verdict(folder, e.crate)
-            open(path, "w").write(stands)
+            began = time.time()
+            said, why = tried(folder, e)
             shutil.rmtree(inc)
             shutil.copytree(kept, inc, symlinks=True)
             tally[e.crate][said] += 1
