@@ -346,15 +346,39 @@ def roomy(rng, line):
     return " ".join([name, *rest])
 
 
+def changing(rng):
+    """Sweeps over two tables in turn, of any size, and finishes over both."""
+    n = gen.size(rng)
+    rank = rng.choice([0, 0, *range(1, 33)])
+    m, r, rule, start = n + 1, rank or gen.default_rank(n + 1), rng.randrange(5), rng.choice([0, 2] if rank == 0 else [0, 1, 2])
+    most, minimum = gen.limits(rng, 60 if n <= 20 else 25)
+    tables = [some_table(rng, n), some_table(rng, n)]
+    lines = ["new", open_line(rng.choice(tables), {
+        "rank": rank, "rule": rule, "number": gen.rule_number(rng, rule), "most": most, "minimum": minimum,
+        "objective": gen.tolerance(rng), "stationarity": gen.tolerance(rng), "start": start,
+        "numbers": gen.numbers(rng, gen.start_count(start, most, m, r)), "factor": m * r})]
+    for k in rng.choice([[most], [1, 19, 40], [3, 3, 14, 1, 5], [0, most // 2, most]]):
+        lines.append(sweep_line(rng.choice(tables), k, m * r + rng.choice([0, 2])))
+    for t in tables:
+        width = rng.choice([0, 1, 2, 5, 16]) if n > 20 else rng.choice([0, 1, 2, 7, 128])
+        lines.append(finish_line(t, finish_of(rng, m, r, width, rng.choice([1, 2, 5]), rng.choice([0, 3]))))
+    return lines
+
+
 def random_runs(rng, count):
+    """Lists of lines, each with its job where it is a whole run."""
     for k in range(count):
-        yield [roomy(rng, line) for line in gen.script(rng)] if k % 4 else whole(
-            rng, rng.randint(0, 32), rng.randrange(5), rng.choice([0, 2]))[0]
+        if k % 4 == 0:
+            yield whole(rng, rng.randint(0, 32), rng.randrange(5), rng.choice([0, 2]))
+        elif k % 4 == 1:
+            yield changing(rng), None
+        else:
+            yield [roomy(rng, line) for line in gen.script(rng)], None
 
 
 def large_runs(rng):
     pairs = [(i, j) for i in range(127) for j in range(i)]
-    for rank, rule, most, edges, start in ((0, 3, 21, 2048, 0), (9, 1, 3, 300, 2)):
+    for rank, rule, most, edges, start in ((0, 3, 21, 2048, 0), (4, 1, 3, 300, 2)):
         h = {}
         for i, j in rng.sample(pairs, edges):
             h[i, j] = h[j, i] = rng.randint(-100, 100)
@@ -434,22 +458,31 @@ ALL = {("rank", r) for r in range(33)} | {("status", k) for k in range(3)} | {
         ("finish", [0, 31, 32, 33, 13, 14, 15, 16, 18, 19])) for number in numbers}
 
 
+def answered(scripts):
+    """The scripts' answers; a whole run's must be those of one call of the Rust's solver."""
+    lines, ends = [], []
+    for script, _ in scripts:
+        lines += script
+        ends.append(len(lines) - 1)
+    answers = Answered(lines)
+    wholes = [(end, job) for end, (_, job) in zip(ends, scripts) if job]
+    for (end, _), answer in zip(wholes, oracle("answers", [job for _, job in wholes]) if wholes else [], strict=True):
+        assert answer_of(answers.results[end]) == answer, (lines[end], answer)
+    return answers
+
+
 def stored():
     rng = random.Random("runs 1")
-    scripts = list(whole_runs(rng))
-    lines = [line for script, _ in scripts for line in script]
-    answers = Answered(lines)
-    ends = [k - 1 for k, line in enumerate(lines) if line == "new"][1:] + [len(lines) - 1]
-    for end, answer in zip(ends, oracle("answers", [job for _, job in scripts]), strict=True):
-        assert answer_of(answers.results[end]) == answer, (lines[end], answer)
+    wholes = answered(list(whole_runs(rng)))
     faults = [pair for script in itertools.chain(fault_runs(rng), edge_runs(rng)) for pair in script]
     judged = Answered([line for line, _ in faults])
     for (line, wanted), number in zip(faults, judged.numbers, strict=True):
         assert wanted is None or wanted == number, (wanted, number, line)
-    rest = Answered([line for script in itertools.chain(
-        settings_runs(rng), random_runs(rng, 160), large_runs(rng)) for line in script])
-    assert answers.seen | judged.seen | rest.seen == ALL
-    return answers.out + judged.out + rest.out
+    rest = Answered([line for script in settings_runs(rng) for line in script])
+    short = [pair for pair in random_runs(rng, 190) if sum(map(len, pair[0])) < 10000]
+    others = answered(short + [(script, None) for script in large_runs(rng)])
+    assert wholes.seen | judged.seen | rest.seen | others.seen == ALL
+    return wholes.out + judged.out + rest.out + others.out
 
 
 def main():
@@ -461,8 +494,7 @@ def main():
         count, seed = map(int, arguments[1:])
         rng = random.Random(f"random runs {seed}")
         for at in range(0, count, 250):
-            scripts = random_runs(rng, min(250, count - at))
-            print("\n".join(Answered([line for script in scripts for line in script]).out))
+            print("\n".join(answered(list(random_runs(rng, min(250, count - at)))).out))
         return
     text = "\n".join(stored()) + "\n"
     if arguments == ["--check"]:
