@@ -418,7 +418,7 @@ class Answered:
     """The lines with their answers, and what was seen."""
 
     def __init__(self, lines):
-        self.out, self.numbers, self.results, self.seen = [], [], [], set()
+        self.out, self.numbers, self.results, self.factors, self.seen = [], [], [], [], set()
         before, last = [], None
         for line, full in zip(lines, oracle("run", lines), strict=True):
             given, said = full.split(" = ")
@@ -441,6 +441,7 @@ class Answered:
                 name, shortest(words), "=", shortest([number, *kept, *result])])))
             self.numbers.append(int(number, 16))
             self.results.append(result)
+            self.factors.append(state[13:])
             before = state
 
     def see(self, name, number, words, result):
@@ -465,10 +466,22 @@ def answered(scripts):
         lines += script
         ends.append(len(lines) - 1)
     answers = Answered(lines)
-    wholes = [(end, job) for end, (_, job) in zip(ends, scripts) if job]
-    for (end, _), answer in zip(wholes, oracle("answers", [job for _, job in wholes]) if wholes else [], strict=True):
-        assert answer_of(answers.results[end]) == answer, (lines[end], answer)
+    for end, (_, job) in zip(ends, scripts):
+        if job:
+            hold_whole(job, answers.results[end], answers.factors[end])
     return answers
+
+
+def hold_whole(job, result, factor):
+    """`oracle trace` runs the job by one call of `solve_maxcut_sdp`, and stops where its own steps differ from that."""
+    done = subprocess.run([PROGRAM, "trace"], input=bytes.fromhex(job), capture_output=True)
+    assert done.returncode == 0, done.stderr
+    last = {}
+    for name, *words in map(str.split, done.stdout.decode().splitlines()):
+        last[name] = words
+    assert last["answer"] == [answer_of(result)], (job, result)
+    assert last["dual_variables"] == result[len(result) - len(last["dual_variables"]):], (job, result)
+    assert last.get("factor", last["start_factor"]) == factor, (job, factor)
 
 
 def stored():
