@@ -219,13 +219,14 @@ fn open(w: &mut Words, t: &Table, state: &mut State, expected: &Expected) -> Dif
     let mut factor = Lent::new(&state.factor, w.number());
     w.end();
     let before = state.run;
-    let Record { size, rank: run_rank, rule: run_rule, number: run_number, sweeps, last_objective, objective_tolerance: run_objective, stationarity_tolerance: run_stationarity, minimum: run_minimum, most: run_most, stage, status } = &mut state.run;
+    let run = &mut state.run;
     let got = unsafe {
         host_open(
             t.n, t.count, t.rows.as_ptr(), t.rows.len(), t.cols.as_ptr(), t.cols.len(), t.values.as_ptr(), t.values.len(), t.c.as_ptr(), t.c.len(),
             rank, rule, number, most, minimum, objective_tolerance, stationarity_tolerance, start, numbers.as_ptr(), numbers.len(),
-            factor.now.as_mut_ptr(), factor.length, size, run_rank, run_rule, run_number, sweeps, last_objective, run_objective,
-            run_stationarity, run_minimum, run_most, stage, status,
+            factor.now.as_mut_ptr(), factor.length, &mut run.size, &mut run.rank, &mut run.rule, &mut run.number, &mut run.sweeps,
+            &mut run.last_objective, &mut run.objective_tolerance, &mut run.stationarity_tolerance, &mut run.minimum, &mut run.most,
+            &mut run.stage, &mut run.status,
         )
     };
     let mut differs = vec![];
@@ -248,10 +249,11 @@ fn sweep(w: &mut Words, t: &Table, state: &mut State, expected: &Expected) -> Di
     let _workspace: u64 = w.number();
     w.end();
     let before = state.run;
-    let Record { size, rank, rule, number, sweeps, last_objective, objective_tolerance, stationarity_tolerance, minimum, most, stage, status } = &mut state.run;
+    let run = &mut state.run;
     let got = unsafe {
         host_sweep(
-            size, rank, rule, number, sweeps, last_objective, objective_tolerance, stationarity_tolerance, minimum, most, stage, status,
+            &mut run.size, &mut run.rank, &mut run.rule, &mut run.number, &mut run.sweeps, &mut run.last_objective,
+            &mut run.objective_tolerance, &mut run.stationarity_tolerance, &mut run.minimum, &mut run.most, &mut run.stage, &mut run.status,
             t.n, t.count, t.rows.as_ptr(), t.rows.len(), t.cols.as_ptr(), t.cols.len(), t.values.as_ptr(), t.values.len(), t.c.as_ptr(), t.c.len(),
             k, factor.now.as_mut_ptr(), factor.length,
         )

@@ -325,6 +325,12 @@ def edge_runs(rng):
     for change in ({"rank": 0}, {"rank": 33}, {"size": 4}):
         lines += [(record_line({**stopped, **change}), None), (finish_line(t, {**f, "factor": 0}), 33),
                   (finish_line(t, {**f, "factor": 0, "b": 1}), 31)]
+    # 33 before 13, and sizes that agree though n is refused
+    for n, size, number in ((128, 3, 33), (128, 129, 13), (2**64 - 2, 2**64 - 1, 13), (2**64 - 1, 0, 33), (1, 3, 33), (3, 3, 31)):
+        lines += [(record_line({**stopped, "size": size}), None), (finish_line({**t, "n": n}, {**f, "factor": 0}), number),
+                  (record_line({**record, "size": size}), None), (sweep_line({**t, "n": n}, 1, 0), number)]
+    # open at the most: 33 for a sweep, 32 for a finish
+    lines += [(record_line({**record, "sweeps": 7}), None), (sweep_line(t, 0, 6), 33), (finish_line(t, f), 32)]
     for status in range(3):
         lines += [(record_line({**stopped, "status": status, "sweeps": 0}), None), (finish_line(t, f), 0)]
     yield lines
