@@ -6,7 +6,7 @@ use native.Mathlib.Omega.{arith}
 use lib.ListN.{length}
 use Rattle.laws.specs.Lists.{over, tabulate}
 use Rattle.coordinate_sweep.specs.Columns.{columnOf}
-use Rattle.coordinate_sweep.proofs.ByColumns.{block-next-put}
+use Rattle.factor.proofs.Written.{block-next-put}
 use Rattle.coordinate_sweep.proofs.gradient.put_blocks16.Statement.{statement}
 use Rattle.coordinate_sweep.proofs.gradient.put_blocks16.Tie as tie
 

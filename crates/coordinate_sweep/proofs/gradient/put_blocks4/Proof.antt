@@ -6,7 +6,7 @@ use native.Mathlib.Omega.{arith}
 use lib.ListN.{length}
 use Rattle.laws.specs.Lists.{over, tabulate}
 use Rattle.coordinate_sweep.specs.Columns.{columnOf}
-use Rattle.coordinate_sweep.proofs.ByColumns.{block-next-put, front-made}
+use Rattle.factor.proofs.Written.{block-next-put, front-made}
 use Rattle.coordinate_sweep.proofs.gradient.put_blocks4.Statement.{statement}
 use Rattle.coordinate_sweep.proofs.gradient.put_blocks4.Tie as tie
 

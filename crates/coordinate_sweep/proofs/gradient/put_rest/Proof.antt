@@ -6,7 +6,8 @@ use native.Mathlib.Omega.{arith}
 use lib.Ieee.{nan}
 use lib.ListN.{length}
 use Rattle.laws.proofs.Made.{tabulate-all, tabulate-next}
-use Rattle.coordinate_sweep.proofs.ByColumns.{block-next-put, front-made, gradient-columns}
+use Rattle.factor.proofs.Written.{block-next-put, front-made}
+use Rattle.coordinate_sweep.proofs.ByColumns.{gradient-columns}
 use Rattle.coordinate_sweep.proofs.gradient.put_rest.Statement.{statement}
 use Rattle.coordinate_sweep.proofs.gradient.put_rest.Tie as tie
 
