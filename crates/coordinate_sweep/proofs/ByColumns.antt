@@ -1,22 +1,26 @@
 -- The gradient of a row is one sum per column.
 --     block-start, block-next    a block of columns before the first entry, and after one more
 --     gradient-columns           the definition of the sweep, column by column
+--     first-block                a block at the start of a row
 -- Assumes nothing.
-use mathlib.Core.Path.{_≡_, refl, _∙_}
+use mathlib.Core.Path.{_≡_, refl, sym, _∙_}
 use mathlib.Core.Bool.{Bool, true, false}
 use mathlib.Core.List.{List}
 use Prim.Native.Nat.{ℕ, zero, suc, _+_, _*_, _<_}
-use native.Mathlib.Nat.{add-assoc}
+use native.Mathlib.Nat.{add-assoc, zero-add}
+use native.Mathlib.Omega.{arith}
 use native.Mathlib.Numerals.{add-one}
 use lib.Dec.{eqb}
 use lib.Ieee.{Float, nan}
-use lib.ListN.{length, getD, take, drop, replicate}
+use lib.ListN.{length, getD, set, take, drop, replicate}
 use lib.Seq.{getD-take, getD-drop}
 use Rattle.laws.specs.Rows.{mapFirst, rowOf}
-use Rattle.laws.specs.Lists.{tabulate}
-use Rattle.laws.proofs.Made.{length-tabulate, tabulate-ext, tabulate-replicate, mapFirst-tabulate}
+use Rattle.laws.specs.Lists.{tabulate, over}
+use Rattle.laws.proofs.Made.{length-tabulate, tabulate-all, tabulate-next, tabulate-ext, tabulate-replicate, mapFirst-tabulate}
 use Rattle.ieee.specs.Floats.{_-ᶠ_, _*ᶠ_, at, zero64}
 use Rattle.factor.specs.Vectors.{subScaled}
+use Rattle.factor.specs.Columns.{putBlock}
+use Rattle.factor.proofs.Written.{block-next-put}
 use Rattle.coordinate_sweep.specs.Sweep.{subEntry, gradientTo, gradientOf}
 use Rattle.coordinate_sweep.specs.Columns.{lessEntry, columnTo, columnOf, blockTo, blockEntry}
 
@@ -66,3 +70,33 @@ module _ (cols : List ℕ) (values factor : List Float) (vertex rank : ℕ) wher
   pub gradient-columns : gradientOf cols values factor vertex rank ≡ tabulate (columnOf cols values factor vertex rank) rank
   unfolding gradientOf
   gradient-columns = gradientTo-columns (length cols)
+
+-- the first block of columns
+pub first-block : (f : ℕ → Float) (width : ℕ) (g : List Float) → putBlock width 0 (tabulate (λ j. f (0 + j)) width) g ≡ over (tabulate f width) g
+unfolding tabulate
+first-block f width g = rw zero-add at (block-next-put f 0 0 width g g (omega arith) (omega arith) refl)
+
+-- rows of one block, of a block of 16 and a column, of two blocks of 16
+module _ (cols : List ℕ) (values factor : List Float) (vertex : ℕ) where
+  pub one-block : (rank : ℕ) (g g′ : List Float) → length g ≡ rank → g′ ≡ putBlock rank 0 (blockTo cols values factor vertex rank 0 rank (length cols)) g
+      → g′ ≡ gradientOf cols values factor vertex rank
+  one-block rank g g′ l e =
+      e
+      ∙ first-block (columnOf cols values factor vertex rank) rank g
+      ∙ tabulate-all (columnOf cols values factor vertex rank) rank g l
+      ∙ sym (gradient-columns cols values factor vertex rank)
+
+  pub block-and-one : (g g′ : List Float) (x : Float) → length g ≡ 17 → g′ ≡ putBlock 16 0 (blockTo cols values factor vertex 17 0 16 (length cols)) g
+      → x ≡ columnOf cols values factor vertex 17 16 → set g′ 16 x ≡ gradientOf cols values factor vertex 17
+  block-and-one g g′ x l e h =
+      rw h (tabulate-next (columnOf cols values factor vertex 17) 16 g g′ nan (omega arith) (e ∙ first-block (columnOf cols values factor vertex 17) 16 g))
+      ∙ tabulate-all (columnOf cols values factor vertex 17) 17 g l
+      ∙ sym (gradient-columns cols values factor vertex 17)
+
+  pub two-blocks : (g g′ g″ : List Float) → length g ≡ 32 → g′ ≡ putBlock 16 0 (blockTo cols values factor vertex 32 0 16 (length cols)) g
+      → g″ ≡ putBlock 16 16 (blockTo cols values factor vertex 32 16 16 (length cols)) g′ → g″ ≡ gradientOf cols values factor vertex 32
+  two-blocks g g′ g″ l e h =
+      h
+      ∙ block-next-put (columnOf cols values factor vertex 32) 16 16 16 g g′ (omega arith) (omega arith) (e ∙ first-block (columnOf cols values factor vertex 32) 16 g)
+      ∙ tabulate-all (columnOf cols values factor vertex 32) 32 g l
+      ∙ sym (gradient-columns cols values factor vertex 32)

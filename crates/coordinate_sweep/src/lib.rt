@@ -1,8 +1,10 @@
 // Rules 3 and 4: one coordinate sweep, each operation rounded once (001, `coordinate_sweep`).
 mod block4; // block4.rt: 4 columns of a row's gradient
+mod block8; // block8.rt: 8 columns
 mod block16; // block16.rt: 16 columns
 mod columns; // columns.rt: a column
-mod gradient; // gradient.rt: a row's gradient
+mod gradient; // gradient.rt: a row's gradient at any rank
+mod ranks; // ranks.rt: a row's gradient, some ranks by themselves
 mod pairs; // pairs.rt: two rows at once
 
 ghost use mathlib.Core.Path.{_≡_};
@@ -17,9 +19,9 @@ ghost use Rattle.coordinate_sweep.specs.Sweep.{exactRow, momentumRow, no
 use factor::rows::clear;
 use factor::rows::scale;
 use factor::sums::squared_norm;
-use gradient::gradient;
 use pairs::next_apart;
 use pairs::renew_pair;
+use ranks::gradient;
 
 // The exact update: the gradient times `inv`.
 fn set_exact(row: &mut [f64], g: &[f64], inv: f64)
