@@ -8,7 +8,8 @@ ghost use lib.ListN.{length, getD, take, drop};
 ghost use Rattle.laws.specs.Rows.{mapFirst};
 ghost use Rattle.ieee.specs.Floats.{at};
 ghost use Rattle.factor.specs.Shapes.{ColumnsWithin};
-ghost use Rattle.coordinate_sweep.specs.Columns.{blockEntry, blockTo, putBlock};
+ghost use Rattle.factor.specs.Columns.{putBlock};
+ghost use Rattle.coordinate_sweep.specs.Columns.{blockEntry, blockTo};
 
 // The 16 sums less weight times source.
 fn subtract(sums: &mut [f64; 16], weight: f64, source: &[f64])
@@ -71,20 +72,21 @@ fn gradient_block(
     copy(out, &sums);
 }
 
-// The columns from `offset` on, written where they lie in g.
+// The columns from `offset` on, written where they lie in g. The rank is the length of g; as a number that the compiler sees it makes
+// for shorter code.
 pub fn put_block(
     cols: &[u16],
     values: &[f64],
     factor: &[f64],
     vertex: usize,
+    rank: usize,
     offset: usize,
     g: &mut [f64],
 )
-    requires { ⌜ (offset + 16 ≤ length (now g)) × (length (now cols) ≡ length (now values)) ⌝ }
+    requires { ⌜ (offset + 16 ≤ length (now g)) × (length (now cols) ≡ length (now values)) × (rank ≡ length (now g)) ⌝ }
     requires { ⌜ ColumnsWithin (now cols) (length (now g)) (now factor) ⌝ }
-    ensures { λ _. ⌜ now (g .exit) ≡ putBlock 16 offset (blockTo (now (cols .entry)) (now (values .entry)) (now (factor .entry)) vertex (length (now (g .entry))) offset 16 (length (now (cols .entry)))) (now (g .entry)) ⌝ }
+    ensures { λ _. ⌜ now (g .exit) ≡ putBlock 16 offset (blockTo (now (cols .entry)) (now (values .entry)) (now (factor .entry)) vertex rank offset 16 (length (now (cols .entry)))) (now (g .entry)) ⌝ }
 {
-    let rank = g.len();
     let end = offset + 16;
     gradient_block(
         cols,
