@@ -10,7 +10,7 @@ ghost use Prim.Native.Nat.{_+_, _*_, _≤_};
 ghost use lib.ListN.{length};
 ghost use Rattle.tables.specs.Limits.{mostSigns};
 ghost use Rattle.factor.specs.Shapes.{Shaped, ObjFits};
-ghost use Rattle.run_record.specs.Limits.{mostRank};
+ghost use Rattle.run_limits.specs.Limits.{mostRank};
 ghost use Rattle.run_record.specs.CostTable.{costTable};
 ghost use Rattle.run_sweep.specs.Work.{work, callWork};
 ghost use Rattle.run_sweep.specs.Running.{Running};
