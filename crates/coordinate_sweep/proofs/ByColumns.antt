@@ -76,7 +76,7 @@ pub first-block : (f : ℕ → Float) (width : ℕ) (g : List Float) → putBloc
 unfolding tabulate
 first-block f width g = rw zero-add at (block-next-put f 0 0 width g g (omega arith) (omega arith) refl)
 
--- rows of one block, of a block of 16 and a column, of two blocks of 16
+-- rows of one block, and of a block of 16 and a column
 module _ (cols : List ℕ) (values factor : List Float) (vertex : ℕ) where
   pub one-block : (rank : ℕ) (g g′ : List Float) → length g ≡ rank → g′ ≡ putBlock rank 0 (blockTo cols values factor vertex rank 0 rank (length cols)) g
       → g′ ≡ gradientOf cols values factor vertex rank
@@ -92,11 +92,3 @@ module _ (cols : List ℕ) (values factor : List Float) (vertex : ℕ) where
       rw h (tabulate-next (columnOf cols values factor vertex 17) 16 g g′ nan (omega arith) (e ∙ first-block (columnOf cols values factor vertex 17) 16 g))
       ∙ tabulate-all (columnOf cols values factor vertex 17) 17 g l
       ∙ sym (gradient-columns cols values factor vertex 17)
-
-  pub two-blocks : (g g′ g″ : List Float) → length g ≡ 32 → g′ ≡ putBlock 16 0 (blockTo cols values factor vertex 32 0 16 (length cols)) g
-      → g″ ≡ putBlock 16 16 (blockTo cols values factor vertex 32 16 16 (length cols)) g′ → g″ ≡ gradientOf cols values factor vertex 32
-  two-blocks g g′ g″ l e h =
-      h
-      ∙ block-next-put (columnOf cols values factor vertex 32) 16 16 16 g g′ (omega arith) (omega arith) (e ∙ first-block (columnOf cols values factor vertex 32) 16 g)
-      ∙ tabulate-all (columnOf cols values factor vertex 32) 32 g l
-      ∙ sym (gradient-columns cols values factor vertex 32)

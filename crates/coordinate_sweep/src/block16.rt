@@ -22,7 +22,7 @@ fn subtract(sums: &mut [f64; 16], weight: f64, source: &[f64])
 }
 
 // One entry of row `vertex`, at column k, whose 16 elements of the factor lie from `start` on.
-fn subtract_entry(
+pub fn subtract_entry(
     sums: &mut [f64; 16],
     factor: &[f64],
     vertex: usize,
@@ -40,7 +40,7 @@ fn subtract_entry(
 }
 
 // The 16 sums, copied.
-fn copy(out: &mut [f64], sums: &[f64; 16])
+pub fn copy(out: &mut [f64], sums: &[f64; 16])
     requires { ⌜ length (now out) ≡ 16 ⌝ }
     ensures { λ _. ⌜ now (out .exit) ≡ mapFirst (λ j old. at (now (sums .entry)) j) 16 (now (out .entry)) ⌝ }
 {

@@ -2,6 +2,8 @@
 mod block4; // block4.rt: 4 columns of a row's gradient
 mod block8; // block8.rt: 8 columns
 mod block16; // block16.rt: 16 columns
+mod rank16; // rank16.rt: 16 columns at rank 16
+mod rank17; // rank17.rt: 16 columns at rank 17
 mod columns; // columns.rt: a column
 mod gradient; // gradient.rt: a row's gradient at any rank
 mod ranks; // ranks.rt: a row's gradient, some ranks by themselves

@@ -1,4 +1,4 @@
-// The gradient of a row at ranks that the code names, so that the compiler sees them: 8, 16, 17 (which 0 means at 128 signs) and 32.
+// The gradient of a row at ranks that the code names, so that the compiler sees them: 8, 16, and 17, which 0 means at 128 signs.
 
 ghost use mathlib.Core.Path.{_≡_};
 ghost use lib.ListN.{length};
@@ -22,7 +22,7 @@ fn gradient16(cols: &[u16], values: &[f64], factor: &[f64], vertex: usize, g: &m
     requires { ⌜ ColumnsWithin (now cols) (length (now g)) (now factor) ⌝ }
     ensures { λ _. ⌜ now (g .exit) ≡ gradientOf (now (cols .entry)) (now (values .entry)) (now (factor .entry)) vertex (length (now (g .entry))) ⌝ }
 {
-    super::block16::put_block(cols, values, factor, vertex, 16, 0, g);
+    super::rank16::put_block(cols, values, factor, vertex, 0, g);
 }
 
 // Rank 17: a block of 16 columns, and one.
@@ -31,18 +31,8 @@ fn gradient17(cols: &[u16], values: &[f64], factor: &[f64], vertex: usize, g: &m
     requires { ⌜ ColumnsWithin (now cols) (length (now g)) (now factor) ⌝ }
     ensures { λ _. ⌜ now (g .exit) ≡ gradientOf (now (cols .entry)) (now (values .entry)) (now (factor .entry)) vertex (length (now (g .entry))) ⌝ }
 {
-    super::block16::put_block(cols, values, factor, vertex, 17, 0, g);
+    super::rank17::put_block(cols, values, factor, vertex, 0, g);
     g[16] = column(cols, values, factor, vertex, 17, 16);
-}
-
-// Rank 32: two blocks of 16 columns.
-fn gradient32(cols: &[u16], values: &[f64], factor: &[f64], vertex: usize, g: &mut [f64])
-    requires { ⌜ (length (now g) ≡ 32) × (length (now cols) ≡ length (now values)) ⌝ }
-    requires { ⌜ ColumnsWithin (now cols) (length (now g)) (now factor) ⌝ }
-    ensures { λ _. ⌜ now (g .exit) ≡ gradientOf (now (cols .entry)) (now (values .entry)) (now (factor .entry)) vertex (length (now (g .entry))) ⌝ }
-{
-    super::block16::put_block(cols, values, factor, vertex, 32, 0, g);
-    super::block16::put_block(cols, values, factor, vertex, 32, 16, g);
 }
 
 // The negated gradient of row `vertex` without its diagonal: one sum per column over the row's entries.
@@ -58,10 +48,6 @@ pub fn gradient(cols: &[u16], values: &[f64], factor: &[f64], vertex: usize, g: 
     }
     if rank == 16 {
         gradient16(cols, values, factor, vertex, g);
-        return;
-    }
-    if rank == 32 {
-        gradient32(cols, values, factor, vertex, g);
         return;
     }
     if rank == 8 {
