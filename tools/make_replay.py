@@ -228,10 +228,14 @@ def extremes(rng):
     for size in (1, 2, 3, 7, 1024):
         entries = [(i, j, rng.choice([(1 << 63) - 1, -(1 << 63), (1 << 53) + 1, -(1 << 53), 1 << 53, 0])) for i in range(min(size, 5)) for j in range(min(size, 5))]
         mapped = rng.sample(range(min(size, 5)), rng.randrange(1, min(size, 5) + 1))
-        new = {old: k for k, old in enumerate(mapped)}
-        result = sorted((new[i], new[j], v) for i, j, v in entries if i in new and j in new)
-        cases.append((table_words(size, entries) + slice_words(mapped) + [0], [0] + table_words(0, result)[1:]))
+        cases.append((table_words(size, entries) + slice_words(mapped) + [0], [0] + table_words(0, picked(entries, mapped))[1:]))
     return cases
+
+
+def picked(entries, mapped):
+    """The entries whose row and column are mapped, under their new indices."""
+    new = {old: k for k, old in enumerate(mapped)}
+    return sorted((new[i], new[j], v) for i, j, v in entries if i in new and j in new)
 
 
 def answered(name, cases):
