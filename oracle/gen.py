@@ -339,7 +339,7 @@ def asymmetric(j, rng):
             j["entries"][k] = (i, l, v + 1)
         else:
             del j["entries"][k]
-            j["count"] -= 1
+            j["count"] = max(0, j["count"] - 1)
 
 
 def unordered(j, rng):
