@@ -1,2 +1,4 @@
 pub mod Bridge
 pub mod Lengths
+pub mod Stopping
+pub mod Unrefused
