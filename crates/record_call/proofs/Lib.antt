@@ -2,3 +2,4 @@ pub mod Bridge
 pub mod Lengths
 pub mod Stopping
 pub mod Unrefused
+pub mod Accepted
