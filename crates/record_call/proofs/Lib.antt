@@ -3,3 +3,5 @@ pub mod Lengths
 pub mod Stopping
 pub mod Unrefused
 pub mod Accepted
+pub mod Figures
+pub mod Promise
