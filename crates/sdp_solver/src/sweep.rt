@@ -118,3 +118,22 @@ pub fn sweep_run(
     let next = sweep_accepted(run, n, count, rows, cols, values, c, k, &mut factor[..used]);
     Swept { run: next, number: 0 }
 }
+
+// The sweep call on the caller's own record; its number.
+pub fn sweep(
+    run: &mut Run,
+    n: usize,
+    count: usize,
+    rows: &[u16],
+    cols: &[u16],
+    values: &[i64],
+    c: &[i64],
+    k: u32,
+    factor: &mut [f64],
+) -> u8
+    ensures { λ r. ⌜ Sweeps (now (run .entry)) (costTable n count (now (rows .entry)) (now (cols .entry)) (now (values .entry)) (now (c .entry))) k (now (factor .entry)) r (now (run .exit)) (now (factor .exit)) ⌝ }
+{
+    let swept = sweep_run(*run, n, count, rows, cols, values, c, k, &mut *factor);
+    *run = swept.run;
+    swept.number
+}

@@ -1,0 +1,49 @@
+-- `sdp_solver::sweep::sweep_work` meets its contract. The arrays are cut to the factor's rows. Assumes nothing.
+use borrow.Author.Needs.{needs}
+use Prim.Native.Nat.{_*_, _≤_}
+use mathlib.Core.Path.{_≡_, sym}
+use native.Mathlib.Nat.{mul-le-mul}
+use native.Mathlib.Omega.{arith}
+use lib.ListN.{length}
+use lib.Seq.{length-take-le}
+use Rattle.tables.specs.Limits.{mostSigns}
+use Rattle.run_record.specs.Limits.{mostRank}
+use Rattle.sdp_solver.proofs.sweep.sweep_work.Statement.{statement}
+use Rattle.sdp_solver.proofs.sweep.sweep_work.Tie as tie
+
+size-few : (s : tie.Start) → s .args .run .size * s .args .run .rank ≤ mostSigns * mostRank
+size-few s = mul-le-mul (s .pre .0 .1) (s .pre .0 .3)
+
+product-fits : (c : tie.After-numbers) → c .before .before .before .before .before .before .before .before .args .run .size * c .before .before .before .before .before .before .before .before .args .run .rank ≤ length (c .before .before .rows-of-numbers .result)
+product-fits c = omega (arith, size-few (c .before .before .before .before .before .before .before .before), c .before .before .rows-of-numbers .ensures)
+
+moved-fits : (c : tie.After-numbers) → c .before .before .before .before .before .before .before .before .args .run .size * c .before .before .before .before .before .before .before .before .args .run .rank ≤ length (c .before .rows-of-numbers2 .result)
+moved-fits c = omega (arith, size-few (c .before .before .before .before .before .before .before .before), c .before .rows-of-numbers2 .ensures)
+
+dual-fits : (c : tie.After-numbers) → c .before .before .before .before .before .before .before .before .args .run .size ≤ length (c .numbers .result)
+dual-fits c = omega (arith, c .before .before .before .before .before .before .before .before .pre .0 .1, c .numbers .ensures)
+
+sweeps-up-to-requires : tie.Need-sweeps-up-to-requires
+sweeps-up-to-requires c κs =
+    let p = c .before .before .before .before .before .before .before .before .before .before .before .before .before .pre in
+    (p .0 .0, record {
+      shaped = p .1 .0;
+      fits = p .1 .1;
+      product-is = length-take-le _ _ (product-fits (c .before .before .before .before .before));
+      moved-is = length-take-le _ _ (moved-fits (c .before .before .before .before .before));
+      dual-is = length-take-le _ _ (dual-fits (c .before .before .before .before .before));
+      some = mul-le-mul {b = c .before .before .before .before .before .before .before .before .before .before .before .before .before .args .run .size} {d = c .before .before .before .before .before .before .before .before .before .before .before .before .before .args .run .rank} (p .0 .2) (omega arith);
+    })
+
+pub sweep-work-spec : {M : Type 1} → statement M
+sweep-work-spec =
+    tie.close
+    (tie.spec
+    (λ c κs. search needs) (λ c κs. search needs) (λ c κs. search needs)
+    (λ c. omega (arith, size-few (c .before .before .before .before .before .before .before .before .before)))
+    (λ c. product-fits (c .before .before)) (λ c. sym (length-take-le _ _ (product-fits (c .before .before .before))))
+    (λ c. moved-fits (c .before .before .before)) (λ c. sym (length-take-le _ _ (moved-fits (c .before .before .before .before))))
+    (λ c. dual-fits (c .before .before .before .before)) (λ c. sym (length-take-le _ _ (dual-fits (c .before .before .before .before .before))))
+    sweeps-up-to-requires
+    (λ c. search needs)
+    (λ c. c .before .before .before .before .before .sweeps-up-to .ensures))
