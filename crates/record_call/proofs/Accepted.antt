@@ -4,8 +4,8 @@
 --     stops       the record after the sweeps, or just opened where the most is 0, is stopped
 --     finishes    its finish
 use Prim.Native.Nat.{ℕ, zero, suc, _+_, _*_, _≤_, _<_}
-use mathlib.Core.Path.{_≡_, refl, sym, ap, subst, _∙_}
-use mathlib.Core.Bool.{Bool, true, false, _&&_, cond}
+use mathlib.Core.Path.{_≡_, refl, sym, ap, _∙_}
+use mathlib.Core.Bool.{true, false, _&&_, cond}
 use mathlib.Core.List.{List}
 use native.Mathlib.Omega.{arith}
 use lib.Dec.{ltb, eqb}
@@ -13,34 +13,30 @@ use lib.ListN.{length}
 use lib.IntN.{ℤ, pos, natAbs}
 use lib.Ieee.{Float}
 use borrow.Author.Tests.{lt-ltb, ne-eqb}
-use Rattle.laws.specs.Refusal.{first, _if_}
-use Rattle.laws.specs.Sum.{total}
 use Rattle.laws.specs.Lists.{elem, elemZ, tabulate}
 use Rattle.laws.proofs.Made.{length-tabulate, getD-tabulate}
-use Rattle.tables.specs.Table.{Table, tableOf, magnitudeOf}
+use Rattle.tables.specs.Table.{tableOf}
 use Rattle.tables.specs.Limits.{mostWagons, mostEntries, mostMagnitude}
-use Rattle.tables.specs.Check.{badOrder, unmirrored, hallMagnitude, hallNumber}
-use Rattle.initialize.specs.Initialize as Initialize
-use Rattle.run_record.specs.declared.Stage.{Stage}
-use Rattle.run_record.specs.declared.Stage.the-variants.{Open, Stopped}
+use Rattle.tables.specs.Check.{hallNumber}
 use Rattle.run_record.specs.declared.Run.{Run}
-use Rattle.run_record.specs.CostTable.{CostTable, quadratic, linear}
 use Rattle.run_record.specs.Limits.{finishWorkspace}
-use Rattle.run_record.specs.Numbers.{isStopped, tableShort, tableNumber, recordRefused, badMomentum, sweepNumber, FinishLengths, widthRefused, finishNumber, resolvedRank, openRankRefused, startLength}
+use Rattle.run_record.specs.Numbers.{isStopped, tableShort, tableNumber, badMomentum, sweepNumber, FinishLengths, widthRefused, finishNumber, openRankRefused, startLength}
 use Rattle.run_record.proofs.Ranked.{resolved-small, resolved-some}
 use Rattle.run_sweep.specs.Work.{Work, callWork}
-use Rattle.run_sweep.specs.Sweep.{State, sweepsUpTo}
+use Rattle.run_sweep.specs.Sweep.{sweepsUpTo}
 use Rattle.run_sweep.specs.Running.{Running}
-use Rattle.run_contract.specs.Calls.{ruleOf, firstStage, Settings, openSize, openRank, openRun, startFactor, openNumberOf, used}
+use Rattle.run_contract.specs.Calls.{ruleOf, firstStage, openSize, openRank, openRun, startFactor, openNumberOf, used}
 use Rattle.job_record.specs.Fields.{wagons, entryCount, row, column, value, rankAt, mostAt, startAt}
 use Rattle.job_record.specs.Number.{jobNumber, isMomentum}
-use Rattle.job_record.specs.Values.{settingsOf, drawsOf, jobOf, jobTable, jobCost, jobRank, jobStartCount, jobStart, jobDrawn, jobDraw}
+use Rattle.job_record.specs.Values.{settingsOf, jobOf, jobCost, jobRank, jobStartCount, jobStart, jobDrawn}
 use Rattle.job_record.proofs.Same.{order-same, mirror-same, total-same}
-use Rattle.job_record.proofs.Accepted.{Fields, fields}
+use Rattle.job_record.proofs.Accepted.{fields}
 use Rattle.job_record.proofs.Halls.{hall}
-use Rattle.record_call.specs.Record.{jobCosts, jobSettings, jobDraws, opened, stopped}
+use Rattle.record_call.specs.Record.{jobCosts, jobSettings, opened, stopped}
 use Rattle.record_call.proofs.Bridge.{rank-same, start-same}
-use Rattle.record_call.proofs.Lengths.{start-long, sweeps-long}
+use Rattle.run_contract.proofs.Lengths.{length-start}
+use Rattle.run_contract.proofs.Accepting.{open-accepted}
+use Rattle.record_call.proofs.Lengths.{sweeps-long}
 use Rattle.record_call.proofs.Stopping.{Sound, Ended, ends}
 use Rattle.record_call.proofs.Unrefused.{table-there, rule-passes, momentum-passes, rank-passes, open-passes, stopped-record, open-record, sweep-passes, width-passes, finish-passes}
 
@@ -69,16 +65,6 @@ costs-there s =
   where
     exact : {a b : ℕ} → a ≡ b → b ≤ a
     exact e = omega (arith, e)
-
--- whether a start takes draws and what it takes, as the start's definition has it
-numbers-same : (kind m rank most : ℕ) → kind ≤ 2 → startLength kind m rank most ≡ Initialize.startCount (eqb kind 2) (ltb 0 most && ltb 1 rank) rank m
-unfolding startLength
-numbers-same kind m rank most h = go (eqb kind 2) (ltb 0 most && ltb 1 rank)
-  where
-    go : (a b : Bool) → cond a (m + cond b (m * rank) 0) (m * rank) ≡ Initialize.startCount a b rank m
-    go false b = refl
-    go true false = omega arith
-    go true true = refl
 
 is-open : (most : ℕ) → 0 < most → isStopped (firstStage most) ≡ false
 unfolding firstStage
@@ -149,11 +135,11 @@ module _ (s : List ℕ) (e : jobNumber s ≡ 0) where
 
   -- the start's factor has m rows of the rank that is meant
   pub start-whole : length (startFactor (jobSettings s)) ≡ openSize (jobSettings s) * openRank (jobSettings s)
-  unfolding startFactor jobSettings
+  unfolding startFactor
   start-whole =
-      let draws = ltb 0 (jobOf s .most) && ltb 1 (openRank (jobSettings s)) in
-      let enough = numbers-same (jobOf s .start) (jobCosts s .n + 1) (openRank (jobSettings s)) (jobOf s .most) kind-few in
-      start-long (eqb (jobOf s .start) 2) draws (openRank (jobSettings s)) (jobCosts s .n + 1) (tabulate (jobStart s) (jobStartCount s)) (subst (λ (k : ℕ). k ≤ length (tabulate (jobStart s) (jobStartCount s))) enough start-there)
+      let o = jobSettings s in
+      let ready = open-accepted o (openSize o * openRank o) (opens (openSize o * openRank o) (omega arith)) in
+      length-start (eqb (o .start) 2) (ltb 0 (o .most) && ltb 1 (openRank o)) (openRank o) (openSize o) (o .numbers) (ready .numbers-room)
 
   -- ---- the record
 

@@ -1,53 +1,33 @@
--- A start makes m rows of rank numbers, and sweeps keep the factor's length. Assumes nothing.
-use Prim.Native.Nat.{ℕ, zero, suc, _+_, _-_, _*_, _≤_, min}
-use mathlib.Core.Path.{_≡_, refl, sym, ap, _∙_}
+-- Sweeps keep the factor's length. Assumes nothing.
+use Prim.Native.Nat.{ℕ, zero, suc}
+use mathlib.Core.Path.{_≡_, refl, _∙_}
 use mathlib.Core.Bool.{Bool, true, false}
-use mathlib.Core.List.{List, _++_}
-use native.Mathlib.Omega.{arith}
-use lib.ListN.{length, take, drop, set, replicate, length-append, length-take, length-drop, length-set, length-replicate}
+use mathlib.Core.List.{List}
+use lib.ListN.{length}
 use lib.Ieee
 use lib.Ieee.{Float}
-use Rattle.laws.specs.Rows.{mapFirst, rowOf, setRow}
-use Rattle.laws.specs.Turns.{upTo}
+use Rattle.laws.specs.Rows.{rowOf}
 use Rattle.laws.proofs.MapFirst.{length-mapFirst}
-use Rattle.laws.proofs.UpTo.{upTo-keeps}
-use Rattle.ieee.specs.Floats.{_/ᶠ_, at, zero64, one64, hundredth}
+use Rattle.ieee.specs.Floats.{_/ᶠ_, zero64, one64}
 use Rattle.ieee.specs.Sqrt.{sqrtOf}
 use Rattle.factor.specs.Norms.{squaredNorm}
-use Rattle.factor.specs.Vectors.{subScaled, scaled, multiplied, divided, unit, unitRow, projected}
+use Rattle.factor.specs.Vectors.{subScaled, scaled, unit}
 use Rattle.factor.specs.Multiply.{gradOf}
 use Rattle.coordinate_sweep.specs.Sweep.{exactRow, momentumRow, normalized, pickRow, wrote, updateRow, gradientAt, rowBy, sweptRow, sweepTo}
 use Rattle.step_rules.specs.declared.StepRule.{StepRule}
 use Rattle.step_rules.specs.declared.StepRule.the-variants.{Grad, GradAdv, Coord, CoordNoStep, CoordMomentum}
 use Rattle.step_rules.specs.Steps.{gradStep, advAlpha, advBy, advStep, neighboursAt, coordBy, coordRow, coordTo}
 use Rattle.step_rules.specs.Rule.{stepped}
-use Rattle.initialize.specs.Initialize.{startRows, signBy, withSigns, startSigns, startDrawn, startBy, startCount}
 use Rattle.run_record.specs.declared.Stage.{Stage}
 use Rattle.run_record.specs.declared.Stage.the-variants.{Open, Stopped}
 use Rattle.run_record.specs.declared.Run.{Run}
 use Rattle.run_sweep.specs.Work.{Work}
+use Rattle.run_contract.proofs.Lengths.{length-setRow, length-unit, length-projected}
 use Rattle.run_sweep.specs.Sweep.{State, whileOpen, runAfter, sweptOnce, sweepsUpTo}
-
--- a row in the place of one as long, even where the list ends within it
-row-set : (rank i : ℕ) (xs row : List Float) → length row ≡ length (rowOf rank xs i) → length (setRow rank xs i row) ≡ length xs
-row-set rank i xs row e =
-    simp (length-append, length-take, length-drop, e) (omega arith)
-
-unit-long : (row : List Float) → length (unit row) ≡ length row
-unfolding unit divided
-unit-long row = length-mapFirst _ (length row) row
 
 sub-long : (weight : Float) (source acc : List Float) → length (subScaled weight source acc) ≡ length acc
 unfolding subScaled
 sub-long weight source acc = length-mapFirst _ (length acc) acc
-
-projected-long : (rank m : ℕ) (factor : List Float) → length (projected rank m factor) ≡ length factor
-unfolding projected
-projected-long rank m factor =
-    upTo-keeps (λ (t : List Float). length t ≡ length factor) (unitRow rank) m factor
-    (λ i t h. row-set rank i t (unit (rowOf rank t i)) (unit-long (rowOf rank t i)) ∙ h) refl
-
--- ---- rules
 
 pick-long : (wrote still : Bool) (g : List Float) (inv beta : Float) (row : List Float) → length (pickRow wrote still g inv beta row) ≡ length row
 unfolding exactRow momentumRow normalized scaled
@@ -59,7 +39,7 @@ row-long : (beta : Float) (g : List Float) (rank : ℕ) (factor : List Float) (i
 unfolding rowBy updateRow
 row-long beta g rank factor i =
     let norm = sqrtOf (squaredNorm g) in
-    row-set rank i factor (updateRow beta g norm (rowOf rank factor i)) (pick-long (wrote norm) (Ieee.eq beta zero64) g (one64 /ᶠ norm) beta (rowOf rank factor i))
+    length-setRow rank factor i (updateRow beta g norm (rowOf rank factor i)) (pick-long (wrote norm) (Ieee.eq beta zero64) g (one64 /ᶠ norm) beta (rowOf rank factor i))
 
 sweep-long : (cols : List ℕ) (values : List Float) (starts : List ℕ) (rank : ℕ) (beta : Float) (factor : List Float) (m : ℕ)
     → length (sweepTo cols values starts rank beta factor m) ≡ length factor
@@ -73,7 +53,7 @@ coord-row-long : (alpha : Float) (g : List Float) (rank : ℕ) (factor : List Fl
 unfolding coordBy
 coord-row-long alpha g rank factor i =
     let row = subScaled alpha g (rowOf rank factor i) in
-    row-set rank i factor (unit row) (unit-long row ∙ sub-long alpha g (rowOf rank factor i))
+    length-setRow rank factor i (unit row) (length-unit row ∙ sub-long alpha g (rowOf rank factor i))
 
 coord-long : (cols : List ℕ) (values : List Float) (starts : List ℕ) (rank : ℕ) (alpha : Float) (factor : List Float) (m : ℕ)
     → length (coordTo cols values starts rank alpha factor m) ≡ length factor
@@ -88,11 +68,11 @@ pub stepped-long : (rule : StepRule) (rows cols : List ℕ) (values : List Float
 unfolding stepped gradStep advStep advBy
 stepped-long (Grad alpha) rows cols values starts m rank factor =
     let g = gradOf cols values starts factor rank m in
-    projected-long rank m (subScaled alpha g factor) ∙ sub-long alpha g factor
+    length-projected rank m (subScaled alpha g factor) ∙ sub-long alpha g factor
 stepped-long (GradAdv alpha) rows cols values starts m rank factor =
     let g = gradOf cols values starts factor rank m in
     let step = advAlpha rows cols values rank factor g alpha in
-    projected-long rank m (subScaled step g factor) ∙ sub-long step g factor
+    length-projected rank m (subScaled step g factor) ∙ sub-long step g factor
 stepped-long (Coord alpha) rows cols values starts m rank factor = coord-long cols values starts rank alpha factor m
 stepped-long CoordNoStep rows cols values starts m rank factor = sweep-long cols values starts rank zero64 factor m
 stepped-long (CoordMomentum beta) rows cols values starts m rank factor = sweep-long cols values starts rank beta factor m
@@ -110,23 +90,3 @@ sweeps-long (suc k) w run factor =
     go : (stage : Stage) (next : State) → length (next .factor) ≡ length factor → length (whileOpen stage next (record { run = run; factor = factor }) .factor) ≡ length factor
     go Open next e = e
     go Stopped next e = refl
-
--- ---- starts
-
-signs-long : (rank m : ℕ) (signs factor : List Float) → length (withSigns rank m signs factor) ≡ length factor
-unfolding withSigns
-signs-long rank m signs factor =
-    upTo-keeps (λ (t : List Float). length t ≡ length factor) (λ i f. set f (i * rank) (signBy (Ieee.le zero64 (at signs i)))) m factor (λ i t h. length-set t _ _ ∙ h) refl
-
-pub start-long : (signs drawn : Bool) (rank m : ℕ) (numbers : List Float) → startCount signs drawn rank m ≤ length numbers
-    → length (startBy signs drawn rank m numbers) ≡ m * rank
-unfolding startRows startSigns startDrawn multiplied
-start-long false drawn rank m numbers h = projected-long rank m (take (m * rank) numbers) ∙ length-take (m * rank) numbers ∙ omega arith
-start-long true false rank m numbers h =
-    let zeros = replicate (m * rank) zero64 in
-    projected-long rank m (withSigns rank m numbers zeros) ∙ signs-long rank m numbers zeros ∙ length-replicate (m * rank) zero64
-start-long true true rank m numbers h =
-    let draws = take (m * rank) (drop m numbers) in
-    let small = multiplied hundredth (projected rank m draws) in
-    projected-long rank m (withSigns rank m numbers small) ∙ signs-long rank m numbers small ∙ length-mapFirst _ (length (projected rank m draws)) (projected rank m draws)
-    ∙ projected-long rank m draws ∙ length-take (m * rank) (drop m numbers) ∙ rw (length-drop m numbers) (omega arith)

@@ -1,39 +1,37 @@
 -- The controller's promise: for every job that the record call accepts with W ≥ 1, the answer's bytes satisfy demand 3. Assumes nothing.
-use Prim.Native.Nat.{ℕ, zero, suc, _+_, _*_, _^_, _≤_, _<_}
+use Prim.Native.Nat.{ℕ, _*_, _^_, _≤_, _<_}
 use native.Mathlib.Nat.{lt-of-le-of-lt}
 use native.Mathlib.Omega.{arith}
-use mathlib.Core.Path.{_≡_, refl, sym, ap, subst, _∙_}
-use mathlib.Core.Bool.{Bool, true, false, cond}
-use mathlib.Core.List.{List, [], _∷_, _++_}
-use lib.ListN.{length, take}
+use mathlib.Core.Path.{_≡_, refl, sym, _∙_}
+use mathlib.Core.Bool.{false}
+use mathlib.Core.List.{List}
+use lib.ListN.{length}
 use lib.Seq.{take-all}
-use lib.IntN.{ℤ, pos, negℤ, natAbs, _-ℤ_, _+ℤ_}
+use lib.IntN.{ℤ, pos, negℤ, natAbs, _-ℤ_}
 use lib.Ieee.{Float}
 use lib.Signed.{_≤ℤ_}
 use mir.Syntax.{w64}
 use mir.Val.{SFits}
 use Rattle.laws.specs.Lists.{over}
-use Rattle.laws.proofs.Integer.{integers, le-parts, abs-parts, add-parts, neg-⁺, neg-⁻, fits-abs}
+use Rattle.laws.proofs.Integer.{integers, abs-parts, add-parts, neg-⁺, neg-⁻, fits-abs}
 use Rattle.laws.proofs.Sums.{sum-bounded}
-use Rattle.laws.proofs.Made.{length-tabulate, over-all}
+use Rattle.laws.proofs.Made.{over-all}
 use Rattle.tables.specs.Table.{Table, magnitudeOf, floorTerm, floorOf}
-use Rattle.tables.specs.Cost.{decodedByte}
 use Rattle.tables.specs.Check.{Hall}
 use Rattle.tables.specs.Limits.{mostWagons, mostEntries, mostMagnitude}
 use Rattle.tables.proofs.Checks.{hall-accepted}
 use Rattle.tables.proofs.Shares.{abs-least}
 use Rattle.sign_table.specs.SignTable.{signTable}
 use Rattle.sign_table.proofs.Theorems.{house-sign-table}
-use Rattle.sign_search.specs.Search.{objectiveIn}
 use Rattle.sign_search.proofs.Lawful.{objective-abs}
 use Rattle.sign_search.proofs.HallTheorems.{hall-mirrors}
-use Rattle.finalize.specs.Finalize.{choiceOf, floorEighths, floatBound, diagonalTotal, multipliersOf, roundedSigns, roundedCost, searched, searchedChoice, searchedCost, searchedRounds}
-use Rattle.finalize.specs.Contracts.{Finalizes}
+use Rattle.finalize.specs.Finalize.{choiceOf, floorEighths, multipliersOf, roundedSigns, roundedCost, searched, searchedChoice, searchedCost, searchedRounds}
 use Rattle.finalize.specs.Demand3.{Demand3}
 use Rattle.finalize.proofs.Demand3.{demand3}
 use Rattle.laws.proofs.Refusal.{clear, first-head, first-rest}
 use Rattle.run_record.specs.CostTable.{quadratic, linear}
 use Rattle.run_contract.specs.Calls.{finishResult}
+use Rattle.run_contract.proofs.Lengths.{length-choice}
 use Rattle.job_record.specs.Number.{jobNumber}
 use Rattle.job_record.specs.Values.{jobOf}
 use Rattle.answer_record.specs.Answer as Read
@@ -45,10 +43,6 @@ use Rattle.record_call.proofs.Figures.{floor-back, rounded-back, cost-b
 
 -- a finish's figures, in any slices that hold just them
 module _ {n : ℕ} {h : Table} {c : ℕ → ℤ} (hall : Hall mostWagons mostEntries mostMagnitude n h c) (rank : ℕ) (factor draws : List Float) (drawCount width : ℕ) where
-  pub choice-long : length (searchedChoice n h c rank factor draws drawCount width) ≡ n
-  unfolding searchedChoice choiceOf
-  choice-long = length-tabulate (decodedByte n (searched n h c rank factor draws drawCount width .answer)) n
-
   small : magnitudeOf (signTable n h c) ≤ 2 ^ 42
   small = house-sign-table hall .magnitude
 
@@ -120,7 +114,7 @@ module _ (s : List ℕ) (e : jobNumber s ≡ 0) where
 
   pub choice-size : length (jobChoice s) ≡ jobCosts s .n
   unfolding jobChoice
-  choice-size = choice-long job-hall (stopped s .run .rank) (stopped s .factor) (jobDraws s) (jobOf s .«draw_count») (jobOf s .width)
+  choice-size = length-choice (jobCosts s .n) (quadratic (jobCosts s)) (linear (jobCosts s)) (stopped s .run .rank) (stopped s .factor) (jobDraws s) (jobOf s .«draw_count») (jobOf s .width)
 
   pub n-is : jobResult s .n ≡ jobCosts s .n
   unfolding jobResult finishResult

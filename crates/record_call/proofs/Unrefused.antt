@@ -1,20 +1,16 @@
 -- When open, sweep and finish refuse nothing. Assumes nothing.
 use Prim.Native.Nat.{ℕ, zero, suc, _+_, _*_, _≤_, _<_}
 use mathlib.Core.Path.{_≡_, refl, sym, ap, _∙_}
-use mathlib.Core.Bool.{Bool, true, false, not, _&&_, _||_, cond}
-use mathlib.Core.List.{List, [], _∷_}
+use mathlib.Core.Bool.{Bool, true, false, not, _&&_}
 use native.Mathlib.Omega.{arith}
 use lib.Dec.{ltb, eqb}
 use lib.ListN.{length}
 use lib.Ieee.{Float}
-use borrow.Author.Tests.{ltb-false, le-ltb, eq-eqb, ne-eqb, eqb-true}
-use Rattle.laws.specs.Refusal.{_if_, first, anyOf, short}
+use borrow.Author.Tests.{le-ltb, eq-eqb, ne-eqb, eqb-true}
+use Rattle.laws.specs.Refusal.{short}
 use Rattle.laws.proofs.Refusal.{first-end, first-next, first-skip}
 use Rattle.laws.proofs.Any.{any-none, any-not, or-none}
 use Rattle.tables.specs.Check.{shortTable}
-use Rattle.step_rules.specs.declared.StepRule.{StepRule}
-use Rattle.step_rules.specs.declared.StepRule.the-variants.{Grad, GradAdv, Coord, CoordNoStep, CoordMomentum}
-use Rattle.run_record.specs.declared.Stage.{Stage}
 use Rattle.run_record.specs.declared.Run.{Run}
 use Rattle.run_record.specs.CostTable.{CostTable}
 use Rattle.run_record.specs.Limits.{mostRank, mostWidth, mostDraws, finishWorkspace}
