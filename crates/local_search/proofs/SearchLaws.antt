@@ -41,7 +41,7 @@ module _ {X : Type 0} (less : X → X → Bool) where
 -- ---- what holds of the choices put in holds of those that come out
 
 module _ {X : Type 0} (less : X → X → Bool) (P : X → Type 0) where
-  all-insert : (y : X) (l : List X) → P y → All P l → All P (insert less y l)
+  pub all-insert : (y : X) (l : List X) → P y → All P l → All P (insert less y l)
   unfolding insert
   all-insert y [] p a = (p, tt)
   all-insert y (x ∷ xs) p a = go (less y x) (all-insert y xs p (a .1))

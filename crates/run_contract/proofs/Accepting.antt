@@ -17,7 +17,7 @@ use Rattle.initialize.specs.Initialize.{startCount}
 use Rattle.run_record.specs.declared.Run.{Run}
 use Rattle.run_record.specs.CostTable.{CostTable, quadratic, linear}
 use Rattle.run_record.specs.Limits.{mostRank, mostWidth, mostDraws}
-use Rattle.run_record.specs.Numbers.{tableShort, factorRefused, factorShort, recordRefused, sweepShort, sweepNumber, drawsRefused, drawsShort, choiceShort, FinishLengths, finishShort, widthRefused, finishNumber, openRankRefused, startLength, startShort, openFactorShort, openShort, openNumber}
+use Rattle.run_record.specs.Numbers.{tableShort, factorRefused, factorShort, recordRefused, sweepShort, sweepNumber, drawsRefused, drawsShort, choiceShort, FinishLengths, finishShort, widthRefused, finishNumber, openRankRefused, startLength, startShort, openFactorShort, openShort, openNumber, ruleRefused}
 use Rattle.run_record.proofs.Short.{tested}
 use Rattle.run_record.proofs.Holds.{table-lent, costs-lent}
 use Rattle.run_record.proofs.Ranked.{resolved-small, resolved-some}
@@ -85,6 +85,7 @@ pub record Openable (o : Settings) (factor : ℕ) : Type 0 where
   pub slices : LentOf (o .table)
   pub costs : o .table .n ≤ length (o .table .c)
   pub hall : HallOf (o .table)
+  pub rule-few : o .rule ≤ 4
   pub rank-some : 1 ≤ openRank o
   pub rank-few : openRank o ≤ mostRank
   pub numbers-room : startCount (eqb (o .start) 2) (ltb 0 (o .most) && ltb 1 (openRank o)) (openRank o) (openSize o) ≤ length (o .numbers)
@@ -97,12 +98,13 @@ count-is true true rank m = refl
 
 module _ (o : Settings) (factor : ℕ) where
   pub open-accepted : openNumberOf o factor ≡ 0 → Openable o factor
-  unfolding openNumber openShort startShort startLength openFactorShort
+  unfolding openNumber openShort startShort startLength openFactorShort ruleRefused
   open-accepted ok =
       let s = clear (openShort (o .table) (o .rank) (o .most) (o .start) (length (o .numbers)) factor) 30 (first-head _ _ ok) in
       let past = first-rest _ _ ok in
       let hall : HallOf (o .table) = hall-accepted (first-head _ _ past) in
       let rank-good = clear (openRankRefused (o .rank) (o .start)) 16 (first-head _ _ (first-rest _ _ past)) in
+      let rule-good = clear (ruleRefused (o .rule) (o .number)) 17 (first-head _ _ (first-rest _ _ (first-rest _ _ past))) in
       let kind-good = clear (ltb 2 (o .start)) 18 (first-head _ _ (first-rest _ _ (first-rest _ _ (first-rest _ _ past)))) in
       let few = few-wagons (o .table) hall in
       let table : tableShort (o .table) ≡ false = any-head _ _ s in
@@ -110,6 +112,7 @@ module _ (o : Settings) (factor : ℕ) where
         slices = table-lent (o .table) table (hall .entries);
         costs = costs-lent (o .table) table (hall .wagons);
         hall = hall;
+        rule-few = ltb-false 4 (o .rule) (or-left (ltb 4 (o .rule)) _ rule-good);
         rank-some = resolved-some (o .rank) (openSize o);
         rank-few = resolved-small (o .rank) (o .start) (openSize o) (omega (arith, hall .wagons)) rank-good;
         numbers-room = rw (← (count-is (eqb (o .start) 2) (ltb 0 (o .most) && ltb 1 (openRank o)) (openRank o) (openSize o)))

@@ -4,3 +4,4 @@ pub mod Follows
 pub mod Opening
 pub mod OnLists
 pub mod Chains
+pub mod Examples

@@ -12,8 +12,6 @@ use lib.Dec.{eqb}
 use lib.Ieee.{Float}
 use borrow.Author.Tests.{eq-eqb, ne-eqb}
 use Rattle.laws.specs.Lists.{over}
-use Rattle.step_rules.specs.declared.StepRule.{StepRule}
-use Rattle.step_rules.specs.Rule.{stepped}
 use Rattle.run_record.specs.declared.Run.{Run}
 use Rattle.run_record.specs.declared.Stage.the-variants.{Open, Stopped}
 use Rattle.run_record.specs.CostTable.{quadratic, linear}
@@ -28,7 +26,7 @@ use Rattle.run_contract.specs.Calls.{Settings, Opens, Sweeps, used, Fini
 use Rattle.run_contract.specs.PlainRun.{Plain, SweepCall, FinishCall, Call, sweep, finish, plainOpen, sweptFactor, plainSweeps, ifOpen, recordOf, lengthsOf, plainNumber, plainAfter, Given, finishOf, Seen, seenAt, plainSeen, plainTrace}
 use Rattle.run_contract.specs.Chain.{Lends, keptAfter, seenOf, givenOf, Sized, Chain, ends, sweeps, finishes}
 use Rattle.run_contract.proofs.Accepting.{sweep-accepted, finish-accepted}
-use Rattle.run_contract.proofs.Lengths.{length-choice, length-multipliers}
+use Rattle.run_contract.proofs.Lengths.{length-stepped, length-choice, length-multipliers}
 use Rattle.run_contract.proofs.Follows.{stateOf, turned, turns, sweeps-follow}
 use Rattle.run_contract.proofs.Opening.{Whole, open-whole, plain-open}
 
@@ -63,161 +61,156 @@ either : (b : Bool) → cond {A = Option Given} b none none ≡ none
 either true = refl
 either false = refl
 
--- a step by a rule keeps the factor's length
-abbrev pub StepsKeep : Type 0
-StepsKeep = (rule : StepRule) (rows cols : List ℕ) (values : List Float) (starts : List ℕ) (m rank : ℕ) (factor : List Float) → length (stepped rule rows cols values starts m rank factor) ≡ length factor
+keeps-turned : (w : Work) (p : Plain) → Keeps p (turned w p)
+unfolding stateOf recordOf runAfter advanced sweptFactor
+keeps-turned w p =
+    let e = turns w p in
+    (ap (λ (s : State). length (s .factor)) e ∙ length-stepped (p .rule) _ _ _ _ (p .size) (p .rank) (p .factor), ap (λ (s : State). s .run .size) e, ap (λ (s : State). s .run .rank) e)
 
-module _ (length-stepped : StepsKeep) where
-  keeps-turned : (w : Work) (p : Plain) → Keeps p (turned w p)
-  unfolding stateOf recordOf runAfter advanced sweptFactor
-  keeps-turned w p =
-      let e = turns w p in
-      (ap (λ (s : State). length (s .factor)) e ∙ length-stepped (p .rule) _ _ _ _ (p .size) (p .rank) (p .factor), ap (λ (s : State). s .run .size) e, ap (λ (s : State). s .run .rank) e)
+keeps-sweeps : (k : ℕ) (w : Work) (p : Plain) → Keeps p (plainSweeps k w p)
+unfolding plainSweeps
+keeps-sweeps zero w p = (refl, refl, refl)
+keeps-sweeps (suc k) w p =
+    let one = keeps-turned w p in
+    let more = keeps-sweeps k w (turned w p) in
+    elim (p .stage) as (λ stage. Keeps p (ifOpen stage (plainSweeps k w (turned w p)) p)) [ Open ↦ (more .0 ∙ one .0, more .1 ∙ one .1, more .2 ∙ one .2) | Stopped ↦ (refl, refl, refl) ]
 
-  keeps-sweeps : (k : ℕ) (w : Work) (p : Plain) → Keeps p (plainSweeps k w p)
-  unfolding plainSweeps
-  keeps-sweeps zero w p = (refl, refl, refl)
-  keeps-sweeps (suc k) w p =
-      let one = keeps-turned w p in
-      let more = keeps-sweeps k w (turned w p) in
-      elim (p .stage) as (λ stage. Keeps p (ifOpen stage (plainSweeps k w (turned w p)) p)) [ Open ↦ (more .0 ∙ one .0, more .1 ∙ one .1, more .2 ∙ one .2) | Stopped ↦ (refl, refl, refl) ]
+-- ---- a sweep call from a plain run's state
 
-  -- ---- a sweep call from a plain run's state
+module _ (p : Plain) (call : SweepCall) (factor : List Float) (number : ℕ) (run′ : Run) (factor′ : List Float) (w : Whole p)
+    (lends : Lends (p .factor) (call .factor-length) factor) (says : Sweeps (recordOf p) (call .table) (call .k) factor number run′ factor′) where
+  sweep-number : number ≡ plainNumber p (sweep call)
+  unfolding plainNumber
+  sweep-number = says .numbered ∙ ap (sweepNumber (recordOf p) (call .table)) (lends .sized)
 
-  module _ (p : Plain) (call : SweepCall) (factor : List Float) (number : ℕ) (run′ : Run) (factor′ : List Float) (w : Whole p)
-      (lends : Lends (p .factor) (call .factor-length) factor) (says : Sweeps (recordOf p) (call .table) (call .k) factor number run′ factor′) where
-    sweep-number : number ≡ plainNumber p (sweep call)
-    unfolding plainNumber
-    sweep-number = says .numbered ∙ ap (sweepNumber (recordOf p) (call .table)) (lends .sized)
+  -- record and factor that the call leaves
+  abbrev Left : Plain → Type 0
+  Left q = (run′ ≡ recordOf q) × (keptAfter (p .factor) (call .factor-length) factor′ ≡ q .factor) × Whole q
 
-    -- record and factor that the call leaves
-    abbrev Left : Plain → Type 0
-    Left q = (run′ ≡ recordOf q) × (keptAfter (p .factor) (call .factor-length) factor′ ≡ q .factor) × Whole q
+  sweep-stays : (number ≡ 0 → ⊥) → Left p
+  sweep-stays n =
+      let r = says .refused n in
+      (r .0, ap (keptAfter (p .factor) (call .factor-length)) (r .1) ∙ kept-stays (p .factor) (call .factor-length) factor lends, w)
 
-    sweep-stays : (number ≡ 0 → ⊥) → Left p
-    sweep-stays n =
-        let r = says .refused n in
-        (r .0, ap (keptAfter (p .factor) (call .factor-length)) (r .1) ∙ kept-stays (p .factor) (call .factor-length) factor lends, w)
+  sweep-acts : number ≡ 0 → Left (plainSweeps (call .k) (callWork (call .table)) p)
+  unfolding recordOf stateOf plainNumber
+  sweep-acts z =
+      let a = says .accepted z in
+      let t = callWork (call .table) in
+      let room : p .size * p .rank ≤ call .factor-length = sweep-accepted (recordOf p) (call .table) (call .factor-length) (sym sweep-number ∙ z) .factor-room in
+      let state = ap (λ (v : List Float). sweepsUpTo (call .k) t (recordOf p) v) (lent-factor p (call .factor-length) factor w lends room) ∙ sweeps-follow (call .k) t p in
+      let keeps = keeps-sweeps (call .k) t p in
+      (a .0 ∙ ap (λ (s : State). s .run) state,
+       ap (keptAfter (p .factor) (call .factor-length)) (a .1 ∙ ap (λ (s : State). over (s .factor) factor) state)
+       ∙ kept-written (p .factor) (call .factor-length) (plainSweeps (call .k) t p .factor) factor (rw w room) (keeps .0),
+       whole-kept p (plainSweeps (call .k) t p) keeps w)
 
-    sweep-acts : number ≡ 0 → Left (plainSweeps (call .k) (callWork (call .table)) p)
-    unfolding recordOf stateOf plainNumber
-    sweep-acts z =
-        let a = says .accepted z in
-        let t = callWork (call .table) in
-        let room : p .size * p .rank ≤ call .factor-length = sweep-accepted (recordOf p) (call .table) (call .factor-length) (sym sweep-number ∙ z) .factor-room in
-        let state = ap (λ (v : List Float). sweepsUpTo (call .k) t (recordOf p) v) (lent-factor p (call .factor-length) factor w lends room) ∙ sweeps-follow (call .k) t p in
-        let keeps = keeps-sweeps (call .k) t p in
-        (a .0 ∙ ap (λ (s : State). s .run) state,
-         ap (keptAfter (p .factor) (call .factor-length)) (a .1 ∙ ap (λ (s : State). over (s .factor) factor) state)
-         ∙ kept-written (p .factor) (call .factor-length) (plainSweeps (call .k) t p .factor) factor (rw w room) (keeps .0),
-         whole-kept p (plainSweeps (call .k) t p) keeps w)
+  sweep-by : (m : ℕ) → number ≡ m → Left (plainAfter p (sweep call))
+  unfolding plainAfter
+  sweep-by zero e = rw (eq-eqb _ _ (sym sweep-number ∙ e)) (sweep-acts e)
+  sweep-by (suc m) e = let n : number ≡ 0 → ⊥ = (λ z. omega arith) in rw (ne-eqb (plainNumber p (sweep call)) 0 (λ z. n (sweep-number ∙ z))) (sweep-stays n)
 
-    sweep-by : (m : ℕ) → number ≡ m → Left (plainAfter p (sweep call))
-    unfolding plainAfter
-    sweep-by zero e = rw (eq-eqb _ _ (sym sweep-number ∙ e)) (sweep-acts e)
-    sweep-by (suc m) e = let n : number ≡ 0 → ⊥ = (λ z. omega arith) in rw (ne-eqb (plainNumber p (sweep call)) 0 (λ z. n (sweep-number ∙ z))) (sweep-stays n)
+  sweep-left : Left (plainAfter p (sweep call))
+  sweep-left = sweep-by number refl
 
-    sweep-left : Left (plainAfter p (sweep call))
-    sweep-left = sweep-by number refl
+  sweep-seen : seenOf number none run′ (keptAfter (p .factor) (call .factor-length) factor′) ≡ plainSeen p (sweep call)
+  unfolding plainSeen
+  sweep-seen = rw (sweep-left .0, sweep-left .1, sweep-number, either (eqb (plainNumber p (sweep call)) 0))
 
-    sweep-seen : seenOf number none run′ (keptAfter (p .factor) (call .factor-length) factor′) ≡ plainSeen p (sweep call)
-    unfolding plainSeen
-    sweep-seen = rw (sweep-left .0, sweep-left .1, sweep-number, either (eqb (plainNumber p (sweep call)) 0))
+-- ---- a finish call from a plain run's state
 
-  -- ---- a finish call from a plain run's state
+module _ (p : Plain) (call : FinishCall) (factor : List Float) (b : List ℕ) (dual : List Float) (workspace : List ℕ) (answer : Finished) (b′ : List ℕ) (dual′ : List Float) (workspace′ : List ℕ) (w : Whole p)
+    (lends : Lends (p .factor) (call .factor-length) factor) (sized : Sized call b dual workspace)
+    (says : Finishes (recordOf p) (call .table) (call .width) (call .draw-count) (call .draws) factor b dual workspace answer b′ dual′ workspace′) where
+  lengths-lent : finishLengths (call .draws) factor b dual workspace ≡ lengthsOf call
+  lengths-lent = rw (lends .sized, sized .b-sized, sized .dual-sized, sized .workspace-sized)
 
-  module _ (p : Plain) (call : FinishCall) (factor : List Float) (b : List ℕ) (dual : List Float) (workspace : List ℕ) (answer : Finished) (b′ : List ℕ) (dual′ : List Float) (workspace′ : List ℕ) (w : Whole p)
-      (lends : Lends (p .factor) (call .factor-length) factor) (sized : Sized call b dual workspace)
-      (says : Finishes (recordOf p) (call .table) (call .width) (call .draw-count) (call .draws) factor b dual workspace answer b′ dual′ workspace′) where
-    lengths-lent : finishLengths (call .draws) factor b dual workspace ≡ lengthsOf call
-    lengths-lent = rw (lends .sized, sized .b-sized, sized .dual-sized, sized .workspace-sized)
+  finish-number : finishedNumber answer ≡ plainNumber p (finish call)
+  unfolding plainNumber
+  finish-number = says .numbered ∙ ap (finishNumber (recordOf p) (call .table) (call .width) (call .draw-count)) lengths-lent
 
-    finish-number : finishedNumber answer ≡ plainNumber p (finish call)
-    unfolding plainNumber
-    finish-number = says .numbered ∙ ap (finishNumber (recordOf p) (call .table) (call .width) (call .draw-count)) lengths-lent
+  abbrev gives : List Float → Given
+  gives v =
+      record {
+        result = finishResult (recordOf p) (call .table) (call .width) (call .draw-count) (call .draws) v;
+        b = finishChoice (recordOf p) (call .table) (call .width) (call .draw-count) (call .draws) v;
+        dual = finishMultipliers (recordOf p) (call .table) v;
+      }
 
-    abbrev gives : List Float → Given
-    gives v =
-        record {
-          result = finishResult (recordOf p) (call .table) (call .width) (call .draw-count) (call .draws) v;
-          b = finishChoice (recordOf p) (call .table) (call .width) (call .draw-count) (call .draws) v;
-          dual = finishMultipliers (recordOf p) (call .table) v;
-        }
+  -- what an accepted finish gives is the definition at the plain run's factor
+  finish-gives : finishedNumber answer ≡ 0 → givenOf answer (call .table .n) b′ dual′ ≡ some (finishOf p call)
+  unfolding finishOf recordOf plainNumber
+  finish-gives z =
+      let a = says .accepted z in
+      let t = call .table in
+      let v = take (p .size * p .rank) factor in
+      let room : p .size * p .rank ≤ call .factor-length = finish-accepted (recordOf p) t (call .width) (call .draw-count) (lengthsOf call) (sym finish-number ∙ z) .factor-room in
+      let bytes : take (t .n) b′ ≡ finishChoice (recordOf p) t (call .width) (call .draw-count) (call .draws) v =
+          ap (take (t .n)) (a .1) ∙ take-at _ _ _ (length-choice (t .n) (quadratic t) (linear t) (p .rank) v (call .draws) (call .draw-count) (call .width)) in
+      let multipliers : take (suc (t .n)) dual′ ≡ finishMultipliers (recordOf p) t v =
+          ap (take (suc (t .n))) (a .2) ∙ take-at _ _ _ (length-multipliers (t .n) (quadratic t) (linear t) (p .rank) v) in
+      ap (λ (x : Finished). givenOf x (t .n) b′ dual′) (a .0)
+      ∙ ap (λ (bs : List ℕ). some (record { result = gives v .result; b = bs; dual = take (suc (t .n)) dual′ })) bytes
+      ∙ ap (λ (ds : List Float). some (record { result = gives v .result; b = gives v .b; dual = ds })) multipliers
+      ∙ ap (λ (u : List Float). some (gives u)) (lent-factor p (call .factor-length) factor w lends room)
 
-    -- what an accepted finish gives is the definition at the plain run's factor
-    finish-gives : finishedNumber answer ≡ 0 → givenOf answer (call .table .n) b′ dual′ ≡ some (finishOf p call)
-    unfolding finishOf recordOf plainNumber
-    finish-gives z =
-        let a = says .accepted z in
-        let t = call .table in
-        let v = take (p .size * p .rank) factor in
-        let room : p .size * p .rank ≤ call .factor-length = finish-accepted (recordOf p) t (call .width) (call .draw-count) (lengthsOf call) (sym finish-number ∙ z) .factor-room in
-        let bytes : take (t .n) b′ ≡ finishChoice (recordOf p) t (call .width) (call .draw-count) (call .draws) v =
-            ap (take (t .n)) (a .1) ∙ take-at _ _ _ (length-choice (t .n) (quadratic t) (linear t) (p .rank) v (call .draws) (call .draw-count) (call .width)) in
-        let multipliers : take (suc (t .n)) dual′ ≡ finishMultipliers (recordOf p) t v =
-            ap (take (suc (t .n))) (a .2) ∙ take-at _ _ _ (length-multipliers (t .n) (quadratic t) (linear t) (p .rank) v) in
-        ap (λ (x : Finished). givenOf x (t .n) b′ dual′) (a .0)
-        ∙ ap (λ (bs : List ℕ). some (record { result = gives v .result; b = bs; dual = take (suc (t .n)) dual′ })) bytes
-        ∙ ap (λ (ds : List Float). some (record { result = gives v .result; b = gives v .b; dual = ds })) multipliers
-        ∙ ap (λ (u : List Float). some (gives u)) (lent-factor p (call .factor-length) factor w lends room)
+  -- a refused one gives nothing
+  gives-none : (x : Finished) → (finishedNumber x ≡ 0 → ⊥) → givenOf x (call .table .n) b′ dual′ ≡ none
+  gives-none (F.Result result) n = absurd (n refl)
+  gives-none (F.Refused number) n = refl
 
-    -- a refused one gives nothing
-    gives-none : (x : Finished) → (finishedNumber x ≡ 0 → ⊥) → givenOf x (call .table .n) b′ dual′ ≡ none
-    gives-none (F.Result result) n = absurd (n refl)
-    gives-none (F.Refused number) n = refl
+  finish-by : (m : ℕ) → finishedNumber answer ≡ m
+      → (givenOf answer (call .table .n) b′ dual′ ≡ cond (eqb (plainNumber p (finish call)) 0) (some (finishOf p call)) none) × (p ≡ plainAfter p (finish call))
+  unfolding plainAfter
+  finish-by zero e = rw (eq-eqb _ _ (sym finish-number ∙ e)) (finish-gives e, refl)
+  finish-by (suc m) e =
+      let n : finishedNumber answer ≡ 0 → ⊥ = (λ z. omega arith) in
+      rw (ne-eqb (plainNumber p (finish call)) 0 (λ z. n (finish-number ∙ z))) (gives-none answer n, refl)
 
-    finish-by : (m : ℕ) → finishedNumber answer ≡ m
-        → (givenOf answer (call .table .n) b′ dual′ ≡ cond (eqb (plainNumber p (finish call)) 0) (some (finishOf p call)) none) × (p ≡ plainAfter p (finish call))
-    unfolding plainAfter
-    finish-by zero e = rw (eq-eqb _ _ (sym finish-number ∙ e)) (finish-gives e, refl)
-    finish-by (suc m) e =
-        let n : finishedNumber answer ≡ 0 → ⊥ = (λ z. omega arith) in
-        rw (ne-eqb (plainNumber p (finish call)) 0 (λ z. n (finish-number ∙ z))) (gives-none answer n, refl)
+  finish-seen : seenOf (finishedNumber answer) (givenOf answer (call .table .n) b′ dual′) (recordOf p) (p .factor) ≡ plainSeen p (finish call)
+  unfolding plainSeen
+  finish-seen =
+      let both = finish-by (finishedNumber answer) refl in
+      ap (λ (q : Plain). seenAt (finishedNumber answer) (givenOf answer (call .table .n) b′ dual′) q) (both .1)
+      ∙ ap (λ (m : ℕ). seenAt m (givenOf answer (call .table .n) b′ dual′) (plainAfter p (finish call))) finish-number
+      ∙ ap (λ (g : Option Given). seenAt (plainNumber p (finish call)) g (plainAfter p (finish call))) (both .0)
 
-    finish-seen : seenOf (finishedNumber answer) (givenOf answer (call .table .n) b′ dual′) (recordOf p) (p .factor) ≡ plainSeen p (finish call)
-    unfolding plainSeen
-    finish-seen =
-        let both = finish-by (finishedNumber answer) refl in
-        ap (λ (q : Plain). seenAt (finishedNumber answer) (givenOf answer (call .table .n) b′ dual′) q) (both .1)
-        ∙ ap (λ (m : ℕ). seenAt m (givenOf answer (call .table .n) b′ dual′) (plainAfter p (finish call))) finish-number
-        ∙ ap (λ (g : Option Given). seenAt (plainNumber p (finish call)) g (plainAfter p (finish call))) (both .0)
+-- ---- the list
 
-  -- ---- the list
+-- from any state of the plain run
+follows : {run : Run} {kept : List Float} {calls : List Call} {seen : List Seen} → Chain run kept calls seen
+    → (p : Plain) → Whole p → run ≡ recordOf p → kept ≡ p .factor → seen ≡ plainTrace p calls
+follows ends p w r f = refl
+follows (sweeps {call = call} {calls = calls} {seen = seen} factor number run′ factor′ lends says chain) p w r f =
+    let lends′ = subst (λ (v : List Float). Lends v (call .factor-length) factor) f lends in
+    let says′ = subst (λ (h : Run). Sweeps h (call .table) (call .k) factor number run′ factor′) r says in
+    let left = sweep-left p call factor number run′ factor′ w lends′ says′ in
+    let kept′ = ap (λ (v : List Float). keptAfter v (call .factor-length) factor′) f in
+    ap (λ (v : List Float). seenOf number none run′ v ∷ seen) kept′
+    ∙ ap (λ (x : Seen). x ∷ seen) (sweep-seen p call factor number run′ factor′ w lends′ says′)
+    ∙ ap (λ (xs : List Seen). plainSeen p (sweep call) ∷ xs) (follows chain (plainAfter p (sweep call)) (left .2) (left .0) (kept′ ∙ left .1))
+follows (finishes {kept = kept} {call = call} {calls = calls} {seen = seen} factor b dual workspace answer b′ dual′ workspace′ lends sized says chain) p w r f =
+    let lends′ = subst (λ (v : List Float). Lends v (call .factor-length) factor) f lends in
+    let says′ = subst (λ (h : Run). Finishes h (call .table) (call .width) (call .draw-count) (call .draws) factor b dual workspace answer b′ dual′ workspace′) r says in
+    let stays = finish-by p call factor b dual workspace answer b′ dual′ workspace′ w lends′ sized says′ (finishedNumber answer) refl .1 in
+    ap (λ (h : Run). seenOf (finishedNumber answer) (givenOf answer (call .table .n) b′ dual′) h kept ∷ seen) r
+    ∙ ap (λ (v : List Float). seenOf (finishedNumber answer) (givenOf answer (call .table .n) b′ dual′) (recordOf p) v ∷ seen) f
+    ∙ ap (λ (x : Seen). x ∷ seen) (finish-seen p call factor b dual workspace answer b′ dual′ workspace′ w lends′ sized says′)
+    ∙ ap (λ (xs : List Seen). plainSeen p (finish call) ∷ xs) (follows chain p w r f ∙ ap (λ (q : Plain). plainTrace q calls) stays)
 
-  -- from any state of the plain run
-  follows : {run : Run} {kept : List Float} {calls : List Call} {seen : List Seen} → Chain run kept calls seen
-      → (p : Plain) → Whole p → run ≡ recordOf p → kept ≡ p .factor → seen ≡ plainTrace p calls
-  follows ends p w r f = refl
-  follows (sweeps {call = call} {calls = calls} {seen = seen} factor number run′ factor′ lends says chain) p w r f =
-      let lends′ = subst (λ (v : List Float). Lends v (call .factor-length) factor) f lends in
-      let says′ = subst (λ (h : Run). Sweeps h (call .table) (call .k) factor number run′ factor′) r says in
-      let left = sweep-left p call factor number run′ factor′ w lends′ says′ in
-      let kept′ = ap (λ (v : List Float). keptAfter v (call .factor-length) factor′) f in
-      ap (λ (v : List Float). seenOf number none run′ v ∷ seen) kept′
-      ∙ ap (λ (x : Seen). x ∷ seen) (sweep-seen p call factor number run′ factor′ w lends′ says′)
-      ∙ ap (λ (xs : List Seen). plainSeen p (sweep call) ∷ xs) (follows chain (plainAfter p (sweep call)) (left .2) (left .0) (kept′ ∙ left .1))
-  follows (finishes {kept = kept} {call = call} {calls = calls} {seen = seen} factor b dual workspace answer b′ dual′ workspace′ lends sized says chain) p w r f =
-      let lends′ = subst (λ (v : List Float). Lends v (call .factor-length) factor) f lends in
-      let says′ = subst (λ (h : Run). Finishes h (call .table) (call .width) (call .draw-count) (call .draws) factor b dual workspace answer b′ dual′ workspace′) r says in
-      let stays = finish-by p call factor b dual workspace answer b′ dual′ workspace′ w lends′ sized says′ (finishedNumber answer) refl .1 in
-      ap (λ (h : Run). seenOf (finishedNumber answer) (givenOf answer (call .table .n) b′ dual′) h kept ∷ seen) r
-      ∙ ap (λ (v : List Float). seenOf (finishedNumber answer) (givenOf answer (call .table .n) b′ dual′) (recordOf p) v ∷ seen) f
-      ∙ ap (λ (x : Seen). x ∷ seen) (finish-seen p call factor b dual workspace answer b′ dual′ workspace′ w lends′ sized says′)
-      ∙ ap (λ (xs : List Seen). plainSeen p (finish call) ∷ xs) (follows chain p w r f ∙ ap (λ (q : Plain). plainTrace q calls) stays)
+abbrev runOr : Run → Opened → Run
+runOr other (O.Started run) = run
+runOr other (O.Refused number) = other
 
-  abbrev runOr : Run → Opened → Run
-  runOr other (O.Started run) = run
-  runOr other (O.Refused number) = other
-
-  -- from an accepted open, whatever start, rule, settings and tables
-  pub plain-run : (o : Settings) (factor factor′ : List Float) (run : Run) (calls : List Call) (seen : List Seen)
-      → Opens o factor (O.Started run) factor′
-      → Chain run (take (used run) factor′) calls seen
-      → seen ≡ plainTrace (plainOpen o) calls
-  unfolding recordOf
-  plain-run o factor factor′ run calls seen opens chain =
-      let opened = plain-open o factor (O.Started run) factor′ opens in
-      let ok = opened .0 run refl in
-      let started : run ≡ recordOf (plainOpen o) = ap (runOr run) (opened .1 ok .0) in
-      follows chain (plainOpen o) (open-whole o (length factor) ok) started
-      (ap (λ (h : Run). take (used h) factor′) started ∙ opened .1 ok .1)
+-- from an accepted open, whatever start, rule, settings and tables
+pub plain-run : (o : Settings) (factor factor′ : List Float) (run : Run) (calls : List Call) (seen : List Seen)
+    → Opens o factor (O.Started run) factor′
+    → Chain run (take (used run) factor′) calls seen
+    → seen ≡ plainTrace (plainOpen o) calls
+unfolding recordOf
+plain-run o factor factor′ run calls seen opens chain =
+    let opened = plain-open o factor (O.Started run) factor′ opens in
+    let ok = opened .0 run refl in
+    let started : run ≡ recordOf (plainOpen o) = ap (runOr run) (opened .1 ok .0) in
+    follows chain (plainOpen o) (open-whole o (length factor) ok) started
+    (ap (λ (h : Run). take (used h) factor′) started ∙ opened .1 ok .1)

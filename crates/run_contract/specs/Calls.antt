@@ -8,8 +8,7 @@ use lib.Ieee.{Float}
 use lib.ListN.{length, take}
 use Rattle.laws.specs.Lists.{over}
 use Rattle.ieee.specs.Floats.{_+ᶠ_}
-use Rattle.step_rules.specs.declared.StepRule.{StepRule}
-use Rattle.step_rules.specs.declared.StepRule.the-variants.{Grad, GradAdv, Coord, CoordNoStep, CoordMomentum}
+use Rattle.step_rules.specs.Rule.{ruleOf}
 use Rattle.initialize.specs.Initialize.{startBy}
 use Rattle.maxcut_oracle.specs.Table.{workObjective}
 use Rattle.run_record.specs.declared.Stage.{Stage}
@@ -37,11 +36,6 @@ finishedNumber (F.Result result) = 0
 finishedNumber (F.Refused number) = number
 
 -- ---- open
-
--- the rule of a code from 0 to 4 with its number
-unfoldable pub ruleOf : ℕ → Float → StepRule
-ruleOf code number =
-    cond (eqb code 0) (Grad number) (cond (eqb code 1) (GradAdv number) (cond (eqb code 2) (Coord number) (cond (eqb code 3) CoordNoStep (CoordMomentum number))))
 
 -- most sweeps 0 opens as stopped
 unfoldable pub firstStage : ℕ → Stage

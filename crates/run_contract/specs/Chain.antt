@@ -36,7 +36,7 @@ pub record Sized (call : FinishCall) (b : List ℕ) (dual : List Float) (workspa
   pub dual-sized : length dual ≡ call .dual-length
   pub workspace-sized : length workspace ≡ call .workspace-length
 
--- from a run record and its factor, a list of calls, and what is seen after each
+-- from a run record and its factor, a list of calls, and what is seen after each; a finish is given record and factor to read only
 pub data Chain : Run → List Float → List Call → List Seen → Type 0 where
   ends : {run : Run} {kept : List Float} → Chain run kept [] []
   sweeps : {run : Run} {kept : List Float} {call : SweepCall} {calls : List Call} {seen : List Seen}

@@ -8,7 +8,7 @@ use lib.Dec.{leb, eqb}
 use lib.Ieee.{Float}
 use Rattle.maxcut_oracle.specs.Table.{workObjective}
 use Rattle.step_rules.specs.declared.StepRule.{StepRule}
-use Rattle.step_rules.specs.Rule.{testsObjective, stepped}
+use Rattle.step_rules.specs.Rule.{ruleOf, testsObjective, stepped}
 use Rattle.run_record.specs.declared.Stage.{Stage}
 use Rattle.run_record.specs.declared.Stage.the-variants.{Open, Stopped}
 use Rattle.run_record.specs.declared.Run.{Run}
@@ -17,7 +17,7 @@ use Rattle.run_record.specs.Numbers.{sweepNumber, FinishLengths, finishNumber}
 use Rattle.run_sweep.specs.Work.{Work, signsOf, callWork}
 use Rattle.run_sweep.specs.Sweep.{checkDue, stopStatus, newObjective, stationary}
 use Rattle.run_contract.specs.declared.FinishResult.{FinishResult}
-use Rattle.run_contract.specs.Calls.{Settings, ruleOf, openSize, openRank, startFactor, finishResult, finishChoice, finishMultipliers}
+use Rattle.run_contract.specs.Calls.{Settings, openSize, openRank, startFactor, finishResult, finishChoice, finishMultipliers}
 
 -- "Its state: factor, size, rank, rule, tolerances, limits, sweeps done, last objective, stage, status."
 pub record Plain : Type 0 where

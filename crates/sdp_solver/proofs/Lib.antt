@@ -1,1 +1,4 @@
 pub mod Prepared
+pub mod Written
+pub mod Opening
+pub mod Finishing

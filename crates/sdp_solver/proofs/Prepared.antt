@@ -59,12 +59,12 @@ module _ {t : CostTable} (u : Usable t) where
   unfolding callWork workOf
   fits rank = preparing.work-fits (signsOf t) (t .n + 1) rank in-range
 
-  pub cut : {stay : ℕ} {rows cols starts rows′ cols′ starts′ : List ℕ} {values values′ : List Float}
+  pub cut : {stay : ℕ} (rows cols : List ℕ) (values : List Float) (starts : List ℕ) {rows′ cols′ starts′ : List ℕ} {values′ : List Float}
       → (stay ≡ length (callWork t .rows)) × (rows′ ≡ over (callWork t .rows) rows) × (cols′ ≡ over (callWork t .cols) cols) × (values′ ≡ over (callWork t .values) values) × (starts′ ≡ over (callWork t .starts) starts)
       → (mostSignEntries ≡ length rows) × (length rows′ ≡ length rows) → (mostSignEntries ≡ length cols) × (length cols′ ≡ length cols)
       → (mostSignEntries ≡ length values) × (length values′ ≡ length values) → (mostSigns + 1 ≡ length starts) × (length starts′ ≡ length starts)
       → Cut t stay rows′ cols′ values′ starts′
-  cut {stay} {rows} {cols} {starts} {values = values} e r k v s =
+  cut {stay} rows cols values starts e r k v s =
       record {
         rows-fit = omega (arith, work-few, e .0, r .0, r .1);
         cols-fit = omega (arith, work-few, e .0, k .0, k .1);

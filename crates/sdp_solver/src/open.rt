@@ -8,7 +8,7 @@ use run_record::lengths::resolved_rank;
 use run_record::numbers::open_number;
 use run_record::Run;
 use run_record::Stage;
-use step_rules::StepRule;
+use step_rules::rule_of;
 ghost use mathlib.Core.Path.{_≡_};
 ghost use mathlib.Core.Bool.{_&&_};
 ghost use Prim.Native.Nat.{_+_, _*_};
@@ -17,24 +17,8 @@ ghost use lib.ListN.{length};
 ghost use Rattle.maxcut_oracle.specs.Table.{workObjective};
 ghost use Rattle.run_record.specs.CostTable.{costTable};
 ghost use Rattle.run_sweep.specs.Work.{signsOf};
-ghost use Rattle.run_contract.specs.Calls.{ruleOf, firstStage, settingsOf, Opens};
+ghost use Rattle.run_contract.specs.Calls.{firstStage, settingsOf, Opens};
 ghost use Rattle.sdp_solver.specs.Usable.{Usable};
-
-// The rule of a code from 0 to 4 with its number.
-fn rule_of(code: u8, number: f64) -> StepRule
-    ensures { λ r. ⌜ r ≡ ruleOf code number ⌝ }
-{
-    if code == 0 {
-        return StepRule::Grad(number);
-    }
-    if code == 1 {
-        return StepRule::GradAdv(number);
-    }
-    if code == 2 {
-        return StepRule::Coord(number);
-    }
-    if code == 3 { StepRule::CoordNoStep } else { StepRule::CoordMomentum(number) }
-}
 
 fn first_stage(most: u32) -> Stage
     ensures { λ r. ⌜ r ≡ firstStage most ⌝ }

@@ -9,6 +9,8 @@ use mir.Facts.{toZ-ofZ}
 use Rattle.local_search.specs.Level.{levelOf}
 use Rattle.local_search.specs.SignSearch.{improvesC, childrenC}
 use Rattle.local_search.specs.Children.{changeOf, parentOf, Kept}
+use Rattle.local_search.proofs.LevelLaws.{objectives-are}
+use Rattle.local_search.proofs.OrderLaws.{kept-rising}
 use Rattle.local_search.proofs.ExpandLaws.{children-none, children-one-more}
 use Rattle.local_search.proofs.children.expand_parent.Statement.{statement}
 use Rattle.local_search.proofs.children.expand_parent.Tie as tie
@@ -31,7 +33,7 @@ loop-holds c =
       refl,
       refl,
       children-none (a .width) (levelOf (length (now (a .parent))) (a .count) (now (a .objectives)) (now (a .signs))) (changeOf (now (a .changes))) (improvesC (changeOf (now (a .changes))))
-          (parentOf (toZ w64 (ofZ w64 (a .objective))) (now (a .parent))) (a .count) (c .before .before .pre .used),
+          (parentOf (toZ w64 (ofZ w64 (a .objective))) (now (a .parent))) (a .count) (c .before .before .pre .0 .used),
     )
 
 consider-child-requires : tie.Need-consider-child-requires Inv-loop μ-loop
@@ -40,14 +42,18 @@ consider-child-requires c κs =
     let s = c .before .before .before .before .before .before in (
       rw (toZ-ofZ (s .fits .objective))
           (record {
-            some = s .pre .some;
+            some = s .pre .0 .some;
             used = l .inv .3 .room;
-            objectives-room = omega (arith, l .inv .1, s .pre .objectives-room);
-            signs-room = omega (arith, l .inv .2, s .pre .signs-room);
-            changes-many = s .pre .changes-many;
-            safe = s .pre .safe;
+            objectives-room = omega (arith, l .inv .1, s .pre .0 .objectives-room);
+            signs-room = omega (arith, l .inv .2, s .pre .0 .signs-room);
+            changes-many = s .pre .0 .changes-many;
+            safe = s .pre .0 .safe;
           }),
       omega arith,
+      kept-rising (s .args .width) (length (now (s .args .parent))) (l .kept) (l .objectives) (l .signs) _ _ (l .kept)
+          (omega (arith, l .inv .1, l .inv .3 .room, s .pre .0 .objectives-room))
+          (rw (objectives-are (length (now (s .args .parent))) (s .args .count) (now (s .args .objectives)) (now (s .args .signs)) (omega (arith, s .pre .0 .used, s .pre .0 .objectives-room))) (s .pre .1))
+          (l .inv .3),
     )
 
 add-i : tie.Need-add-i Inv-loop μ-loop

@@ -16,7 +16,7 @@ written : (c : tie.After-starts2) → let w = c .before .before .before .before 
     Cut (table (c .before .before .before .before .before .before .before .before .before .before .before .before .before .before .before .before)) (w .result) (w .last .1 .1 .1 .1 .1 .1 .0) (w .last .1 .1 .1 .1 .1 .1 .1 .0) (w .last .1 .1 .1 .1 .1 .1 .1 .1 .0) (w .last .1 .1 .1 .1 .1 .1 .1 .1 .1 .0)
 written c =
     let w = c .before .before .before .before .call-work in
-    cut (c .before .before .before .before .before .before .before .before .before .before .before .before .before .before .before .before .pre .0) (w .ensures)
+    cut (c .before .before .before .before .before .before .before .before .before .before .before .before .before .before .before .before .pre .0) _ _ _ _ (w .ensures .0, w .ensures .1 .0, w .ensures .1 .1 .0, w .ensures .1 .1 .1 .0, w .ensures .1 .1 .1 .1)
     (c .before .before .before .before .before .before .before .before .before .before .before .before .indices .ensures, w .kept .1 .1 .1 .1 .1 .1 .0) (c .before .before .before .before .before .before .before .before .before .before .before .indices2 .ensures, w .kept .1 .1 .1 .1 .1 .1 .1 .0)
     (c .before .before .before .before .before .before .before .before .before .before .units .ensures, w .kept .1 .1 .1 .1 .1 .1 .1 .1 .0) (c .before .before .before .before .before .before .before .before .before .row-starts .ensures, w .kept .1 .1 .1 .1 .1 .1 .1 .1 .1 .0)
 
@@ -28,7 +28,7 @@ obj-requires : tie.Need-obj-requires
 obj-requires c κs =
     let p = c .before .before .before .before .before .before .before .before .before .before .before .before .before .before .before .before .before .before .before .pre in
     let f = cut-fits (p .0) (written (c .before .before .before)) (c .before .before .before .before .before .before .before .before .before .before .before .before .before .before .before .before .before .before .before .args .rank) in
-    ((f .paired, f .valued), (λ e l. rw (p .1) (f .rows-in e l)), (λ e l. rw (p .1) (f .cols-in e l)))
+    ((f .paired, f .valued), ((λ e l. rw (p .1) (f .rows-in e l)), (λ e l. rw (p .1) (f .cols-in e l))))
 
 pub first-objective-spec : {M : Type 1} → statement M
 first-objective-spec =

@@ -19,7 +19,7 @@ written : (c : tie.After-starts2) → let w = c .before .before .before .before 
     Cut (table (c .before .before .before .before .before .before .before .before .before .before .before .before .before .before .before .before)) (w .result) (w .last .1 .1 .1 .1 .1 .1 .0) (w .last .1 .1 .1 .1 .1 .1 .1 .0) (w .last .1 .1 .1 .1 .1 .1 .1 .1 .0) (w .last .1 .1 .1 .1 .1 .1 .1 .1 .1 .0)
 written c =
     let w = c .before .before .before .before .call-work in
-    cut (c .before .before .before .before .before .before .before .before .before .before .before .before .before .before .before .before .pre .0) (w .ensures)
+    cut (c .before .before .before .before .before .before .before .before .before .before .before .before .before .before .before .before .pre .0) _ _ _ _ (w .ensures .0, w .ensures .1 .0, w .ensures .1 .1 .0, w .ensures .1 .1 .1 .0, w .ensures .1 .1 .1 .1)
     (c .before .before .before .before .before .before .before .before .before .before .before .before .indices .ensures, w .kept .1 .1 .1 .1 .1 .1 .0) (c .before .before .before .before .before .before .before .before .before .before .before .indices2 .ensures, w .kept .1 .1 .1 .1 .1 .1 .1 .0)
     (c .before .before .before .before .before .before .before .before .before .before .units .ensures, w .kept .1 .1 .1 .1 .1 .1 .1 .1 .0) (c .before .before .before .before .before .before .before .before .before .row-starts .ensures, w .kept .1 .1 .1 .1 .1 .1 .1 .1 .1 .0)
 

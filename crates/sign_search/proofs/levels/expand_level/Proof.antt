@@ -15,6 +15,7 @@ use Rattle.local_search.specs.LocalSearch.{childrenOf}
 use Rattle.local_search.specs.Level.{levelOf}
 use Rattle.local_search.specs.Children.{Kept}
 use Rattle.local_search.proofs.LevelLaws.{level-empty}
+use Rattle.local_search.proofs.OrderLaws.{kept-rising}
 use Rattle.local_search.proofs.ExpandLaws.{parents-none, parents-one-more, part-long, parent-is}
 use Rattle.sign_search.specs.Contracts.{tableChildren, Changes}
 use Rattle.sign_search.proofs.ExpandLaws.{parent-expands, parent-kept, next-level, row-room}
@@ -74,6 +75,8 @@ expand-row-requires c κs =
       l .inv .4 ∙ sym (part-long (a .m) (now (a .from-objectives)) (now (a .from-signs)) (l .k) room),
       l .inv .6,
       c .before .before .before .before .before .before .before .before .before .before .before .before .before .pre .3,
+      kept-rising (a .width) (a .m) (l .kept) (l .objectives) (l .signs) [] _ (l .kept)
+          (omega (arith, l .inv .2, l .inv .5 .room, c .before .before .before .before .before .before .before .before .before .before .before .before .before .pre .0 .objectives-room)) tt (l .inv .5),
     )
 
 add-k : tie.Need-add-k Inv-loop μ-loop

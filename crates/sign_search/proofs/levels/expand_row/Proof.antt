@@ -20,10 +20,13 @@ move-to-requires c κs = (c .before .before .before .before .before .before .bef
 expand-parent-requires : tie.Need-expand-parent-requires
 expand-parent-requires c κs =
     let k = c .before .before .before .before .before .before .move-to in
-    let a = c .before .before .before .before .before .before .before .before .before .before .before .before .before .before .args in
-    rw (toZ-ofZ (c .before .before .before .before .before .before .before .before .before .before .before .before .before .before .fits .objective))
-    (row-expands (tableOf (a .entries) (now (a .rows)) (now (a .cols)) (now (a .values))) (parentOf (a .objective) (now (a .parent))) (k .last .1 .1 .1 .1 .1 .0) (k .ensures .1)
-    (a .count) (a .width) (length (now (a .objectives))) (length (now (a .signs))) (rw (k .kept .1 .1 .1 .1 .1 .0) (c .before .before .before .before .before .before .before .before .before .before .before .before .before .before .pre .0)))
+    let s = c .before .before .before .before .before .before .before .before .before .before .before .before .before .before in
+    let a = s .args in (
+      rw (toZ-ofZ (s .fits .objective))
+          (row-expands (tableOf (a .entries) (now (a .rows)) (now (a .cols)) (now (a .values))) (parentOf (a .objective) (now (a .parent))) (k .last .1 .1 .1 .1 .1 .0) (k .ensures .1)
+          (a .count) (a .width) (length (now (a .objectives))) (length (now (a .signs))) (rw (k .kept .1 .1 .1 .1 .1 .0) (s .pre .0))),
+      s .pre .4,
+    )
 
 same-length : tie.Need-same-length
 same-length c = c .before .before .before .before .before .before .before .before .before .before .move-to .kept .1 .1 .1 .1 .0

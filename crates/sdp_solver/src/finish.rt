@@ -1,32 +1,12 @@
-// The calls of a run on (H, c). None has a `requires`: what can't be used is refused by its number, and a refusal writes nothing.
+// The finish call: rounding, search and figures of a stopped run.
 use finalize::finalize;
+use run_contract::FinishResult;
+use run_contract::Finished;
 use run_record::lengths::FinishSlices;
 use run_record::numbers::finish_number;
 use run_record::Run;
-ghost use mathlib.Core.Path.{_≡_};
-ghost use lib.ListN.{length};
 ghost use Rattle.run_record.specs.CostTable.{costTable};
-ghost use Rattle.run_record.specs.Numbers.{finishNumber};
-ghost use Rattle.sdp_solver.specs.Finish.{Finishes, finishLengths};
-
-// What a finish gives; the choice and the multipliers are in the slices lent for them. Floor and costs are in eighths.
-pub struct FinishResult {
-    pub status: u8,
-    pub rank: usize,
-    pub n: usize,
-    pub sweeps: u32,
-    pub relaxed_objective: f64,
-    pub float_bound: f64,
-    pub floor: i64,
-    pub rounded_cost: i64,
-    pub cost: i64,
-    pub rounds: u64,
-}
-
-pub enum Finished {
-    Result(FinishResult),
-    Refused(u8),
-}
+ghost use Rattle.run_contract.specs.Calls.{Finishes};
 
 // Finishes a stopped run over the table given; it changes no run record and no factor, and may be repeated.
 pub fn finish(
@@ -45,8 +25,8 @@ pub fn finish(
     dual_variables: &mut [f64],
     workspace: &mut [u8],
 ) -> Finished
-    ensures { λ r. ⌜ Finishes (finishNumber run (costTable n count (now (rows .entry)) (now (cols .entry)) (now (values .entry)) (now (c .entry))) width «draw_count» (finishLengths (now (draws .entry)) (now (factor .entry)) (now (b .entry)) (now («dual_variables» .entry)) (now (workspace .entry))))
-        run (costTable n count (now (rows .entry)) (now (cols .entry)) (now (values .entry)) (now (c .entry))) width «draw_count» (now (draws .entry)) (now (factor .entry)) (now (b .entry)) (now (b .exit)) (now («dual_variables» .entry)) (now («dual_variables» .exit)) (now (workspace .entry)) (now (workspace .exit)) r ⌝ }
+    ensures { λ r. ⌜ Finishes run (costTable n count (now (rows .entry)) (now (cols .entry)) (now (values .entry)) (now (c .entry))) width «draw_count» (now (draws .entry)) (now (factor .entry)) (now (b .entry)) (now («dual_variables» .entry)) (now (workspace .entry))
+        r (now (b .exit)) (now («dual_variables» .exit)) (now (workspace .exit)) ⌝ }
 {
     let lent = FinishSlices {
         draws: draws.len(),
