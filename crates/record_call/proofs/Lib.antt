@@ -5,3 +5,4 @@ pub mod Unrefused
 pub mod Accepted
 pub mod Figures
 pub mod Promise
+pub mod Decoding
