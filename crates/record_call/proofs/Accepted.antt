@@ -25,7 +25,8 @@ use Rattle.run_record.proofs.Ranked.{resolved-small, resolved-some}
 use Rattle.run_sweep.specs.Work.{Work, callWork}
 use Rattle.run_sweep.specs.Sweep.{sweepsUpTo}
 use Rattle.run_sweep.specs.Running.{Running}
-use Rattle.run_contract.specs.Calls.{ruleOf, firstStage, openSize, openRank, openRun, startFactor, openNumberOf, used}
+use Rattle.step_rules.specs.Rule.{ruleOf}
+use Rattle.run_contract.specs.Calls.{firstStage, openSize, openRank, openRun, startFactor, openNumberOf, used}
 use Rattle.job_record.specs.Fields.{wagons, entryCount, row, column, value, rankAt, mostAt, startAt}
 use Rattle.job_record.specs.Number.{jobNumber, isMomentum}
 use Rattle.job_record.specs.Values.{settingsOf, jobOf, jobCost, jobRank, jobStartCount, jobStart, jobDrawn}
@@ -36,8 +37,7 @@ use Rattle.record_call.specs.Record.{jobCosts, jobSettings, opened, stop
 use Rattle.record_call.proofs.Bridge.{rank-same, start-same}
 use Rattle.run_contract.proofs.Lengths.{length-start}
 use Rattle.run_contract.proofs.Accepting.{open-accepted}
-use Rattle.record_call.proofs.Lengths.{sweeps-long}
-use Rattle.record_call.proofs.Stopping.{Sound, Ended, ends}
+use Rattle.record_call.proofs.Stopping.{Sound, Ended, ends, sweeps-long}
 use Rattle.record_call.proofs.Unrefused.{table-there, rule-passes, momentum-passes, rank-passes, open-passes, stopped-record, open-record, sweep-passes, width-passes, finish-passes}
 
 -- ---- H and c
@@ -52,10 +52,12 @@ listed n count row column value c =
     let k : (i : ℕ) → i < count → elem (tabulate column count) i ≡ column i = λ i l. getD-tabulate column count i 0 l in
     let v : (i : ℕ) → i < count → elemZ (tabulate value count) i ≡ value i = λ i l. getD-tabulate value count i (pos 0) l in
     let d : (i : ℕ) → i < n → elemZ (tabulate c n) i ≡ c i = λ i l. getD-tabulate c n i (pos 0) l in
-    rw (order-same (elem (tabulate row count)) (elem (tabulate column count)) row column value value count r k n,
-    mirror-same (elem (tabulate row count)) (elem (tabulate column count)) row column (elemZ (tabulate value count)) value count r k v,
-    total-same (λ i. natAbs (elemZ (tabulate value count) i)) (λ i. natAbs (value i)) count (λ i l. ap natAbs (v i l)),
-    total-same (λ i. natAbs (elemZ (tabulate c n) i)) (λ i. natAbs (c i)) n (λ i l. ap natAbs (d i l)))
+    rw (
+      order-same (elem (tabulate row count)) (elem (tabulate column count)) row column value value count r k n,
+      mirror-same (elem (tabulate row count)) (elem (tabulate column count)) row column (elemZ (tabulate value count)) value count r k v,
+      total-same (λ i. natAbs (elemZ (tabulate value count) i)) (λ i. natAbs (value i)) count (λ i l. ap natAbs (v i l)),
+      total-same (λ i. natAbs (elemZ (tabulate c n) i)) (λ i. natAbs (c i)) n (λ i l. ap natAbs (d i l)),
+    )
 
 pub costs-there : (s : List ℕ) → tableShort (jobCosts s) ≡ false
 unfolding jobCosts
@@ -188,7 +190,7 @@ module _ (s : List ℕ) (e : jobNumber s ≡ 0) where
   unfolding jobOf
   settings-pass = let f = fields s e in width-passes _ _ (f .settings .width) (f .draws .some) (f .draws .few)
 
-  size-is : openSize (jobSettings s) ≡ jobCosts s .n + 1
+  pub size-is : openSize (jobSettings s) ≡ jobCosts s .n + 1
   unfolding jobSettings
   size-is = refl
 

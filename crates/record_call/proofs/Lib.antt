@@ -1,8 +1,8 @@
 pub mod Bridge
-pub mod Lengths
 pub mod Stopping
 pub mod Unrefused
 pub mod Accepted
 pub mod Figures
 pub mod Promise
 pub mod Decoding
+pub mod Answering

@@ -1,12 +1,14 @@
 -- A run that makes as many sweeps as it has left is stopped, and its record is sound all along. Assumes nothing.
---     ends     after sweeps up to the most
+--     ends           after sweeps up to the most
+--     sweeps-long    sweeps keep the factor's length
 use Prim.Native.Nat.{ℕ, zero, suc, _+_, _≤_, _<_}
-use mathlib.Core.Path.{_≡_, refl, sym, subst}
+use mathlib.Core.Path.{_≡_, refl, sym, subst, _∙_}
 use mathlib.Core.Bool.{Bool, true, false, _&&_, cond}
 use mathlib.Core.List.{List, [], _∷_}
 use native.Mathlib.Omega.{arith}
 use lib.Dec.{eqb}
 use lib.Ieee.{Float, lt}
+use lib.ListN.{length}
 use Rattle.laws.specs.Refusal.{_if_, orElse, first}
 use Rattle.ieee.specs.Floats.{_-ᶠ_}
 use Rattle.step_rules.specs.declared.StepRule.{StepRule}
@@ -19,6 +21,7 @@ use Rattle.run_sweep.specs.Work.{Work}
 use Rattle.run_sweep.specs.Sweep.{State, whileOpen, checkDue, magnitude, stopStatus, newObjective, settledAt, statusFound, statusAfter, advanced, runAfter, sweptOnce, sweepsUpTo}
 use Rattle.run_sweep.specs.Running.{Running}
 use Rattle.run_sweep.proofs.Loop.{running-after}
+use Rattle.run_contract.proofs.Lengths.{length-stepped}
 
 -- a record of this size, rank, rule and most that a call doesn't refuse
 pub record Sound (size rank : ℕ) (rule : StepRule) (most : ℕ) (run : Run) : Type 0 where
@@ -100,3 +103,16 @@ module _ {size rank : ℕ} {rule : StepRule} {most : ℕ} where
           → Ended size rank rule most (whileOpen stage next (record { run = run; factor = factor }) .run)
       go Open e next h = h (left (subst (λ (x : Stage). isStopped x ≡ false) (sym e) refl))
       go Stopped e next h = record { sound = s; is-stopped = subst (λ (x : Stage). isStopped x ≡ true) (sym e) refl }
+
+-- sweeps keep the factor's length
+pub sweeps-long : (k : ℕ) (w : Work) (run : Run) (factor : List Float) → length (sweepsUpTo k w run factor .factor) ≡ length factor
+unfolding sweepsUpTo
+sweeps-long zero w run factor = refl
+sweeps-long (suc k) w run factor =
+    go (run .stage) (sweepsUpTo k w (runAfter run w (sweptOnce w run factor)) (sweptOnce w run factor))
+    (sweeps-long k w (runAfter run w (sweptOnce w run factor)) (sweptOnce w run factor)
+    ∙ length-stepped (run .rule) (w .rows) (w .cols) (w .values) (w .starts) (run .size) (run .rank) factor)
+  where
+    go : (stage : Stage) (next : State) → length (next .factor) ≡ length factor → length (whileOpen stage next (record { run = run; factor = factor }) .factor) ≡ length factor
+    go Open next e = e
+    go Stopped next e = refl

@@ -15,7 +15,7 @@ use Rattle.run_record.specs.declared.Run.{Run}
 use Rattle.run_record.specs.CostTable.{CostTable}
 use Rattle.run_record.specs.Limits.{mostRank, mostWidth, mostDraws, finishWorkspace}
 use Rattle.run_record.specs.Numbers.{isStopped, tableShort, factorShort, recordRefused, tableNumber, badBeta, badMomentum, sweepShort, sweepNumber, drawsRefused, drawsShort, choiceShort, FinishLengths, finishShort, widthRefused, finishNumber, resolvedRank, openRankRefused, startLength, startShort, openFactorShort, openShort, ruleRefused, openNumber}
-use Rattle.run_contract.specs.Calls.{ruleOf}
+use Rattle.step_rules.specs.Rule.{ruleOf}
 use Rattle.job_record.specs.Number.{isMomentum}
 
 -- a slice that is long enough, whatever its length rests on
@@ -47,7 +47,6 @@ rule-passes code number h m =
     (and-none (eqb code 4) (badBeta number) (λ four bad. let no : true ≡ false = sym bad ∙ ap not (m (eqb-true code 4 four)) in let z : _≡_ {A = ℕ} 0 1 = cc in omega arith))
 
 pub momentum-passes : (code : ℕ) (number : Float) → code ≤ 4 → (code ≡ 4 → isMomentum number ≡ true) → badMomentum (ruleOf code number) ≡ false
-unfolding ruleOf
 momentum-passes zero number h m = refl
 momentum-passes (suc zero) number h m = refl
 momentum-passes (suc (suc zero)) number h m = refl
