@@ -6,3 +6,4 @@ pub mod Figures
 pub mod Promise
 pub mod Decoding
 pub mod Answering
+pub mod Framed
