@@ -44,7 +44,7 @@ fn settings_at(job: &[u8]) -> usize
 }
 
 // The rank that the job's means.
-fn job_rank(job: &[u8]) -> usize
+pub fn job_rank(job: &[u8]) -> usize
     requires { ⌜ jobNumber (now job) ≡ 0 ⌝ }
     ensures { λ r. ⌜ (r ≡ jobRank (now (job .entry))) × (r ≤ mostRank) ⌝ }
 {
@@ -53,7 +53,7 @@ fn job_rank(job: &[u8]) -> usize
 }
 
 // How many doubles its start has.
-fn job_start_count(job: &[u8]) -> usize
+pub fn job_start_count(job: &[u8]) -> usize
     requires { ⌜ jobNumber (now job) ≡ 0 ⌝ }
     ensures { λ r. ⌜ (r ≡ jobStartCount (now (job .entry))) × (r ≤ mostStart) ⌝ }
 {
