@@ -7,11 +7,12 @@ ghost use Rattle.run_host.specs.Numbers.{stageOf, stageNumber, ruleValue
 use run_contract::FinishResult;
 use run_contract::Finished;
 use run_contract::Opened;
+use run_contract::Swept;
 use run_record::Run;
 use run_record::Stage;
 use sdp_solver::finish::finish;
 use sdp_solver::open::open;
-use sdp_solver::sweep::sweep_run;
+use sdp_solver::sweep::sweep;
 use step_rules::rule_of;
 use step_rules::StepRule;
 
@@ -132,6 +133,24 @@ fn put(
     *status = run.status;
 }
 
+// The sweep call on a record in a local, from a record to the record after it: whoever calls this needs no walk by hand.
+fn sweep_kept(
+    mut run: Run,
+    n: usize,
+    count: usize,
+    rows: &[u16],
+    cols: &[u16],
+    values: &[i64],
+    c: &[i64],
+    k: u32,
+    factor: &mut [f64],
+) -> Swept
+    ensures { λ r. ⌜ Sweeps run (costTable n count (now (rows .entry)) (now (cols .entry)) (now (values .entry)) (now (c .entry))) k (now (factor .entry)) (r .number) (r .run) (now (factor .exit)) ⌝ }
+{
+    let number = sweep(&mut run, n, count, rows, cols, values, c, k, factor);
+    Swept { run, number }
+}
+
 #[no_mangle]
 pub extern "C" fn host_sweep(
     size: &mut usize,
@@ -173,7 +192,7 @@ pub extern "C" fn host_sweep(
         *stage,
         *status,
     );
-    let swept = sweep_run(run, n, count, rows, cols, values, c, k, factor);
+    let swept = sweep_kept(run, n, count, rows, cols, values, c, k, factor);
     let after = swept.run;
     put(
         after,
