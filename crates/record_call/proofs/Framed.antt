@@ -76,7 +76,8 @@ pub framed : (job workspace answer answer′ : List ℕ) (rest : ℕ) → leastW
 framed job workspace answer answer′ rest w a e is =
     let bytes = answerOf job .bytes in
     let left : answer′ ≡ over bytes answer = e ∙ after job workspace answer (roomy job workspace answer a w) in
-    let size : 4 + rest ≡ length bytes = rw (is, left) (record-length job answer) in
-    (rw (size, left) (take-at bytes (drop (length bytes) answer) (length bytes) refl),
-     rw (size, left, length-append bytes (drop (length bytes) answer)) (omega arith),
-     rw size (record-few job answer))
+    let size : 4 + rest ≡ length bytes = rw (is, left) (record-length job answer) in (
+      rw (size, left) (take-at bytes (drop (length bytes) answer) (length bytes) refl),
+      rw (size, left, length-append bytes (drop (length bytes) answer)) (omega arith),
+      rw size (record-few job answer),
+    )

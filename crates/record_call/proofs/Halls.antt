@@ -46,7 +46,6 @@ use Rattle.job_reader.specs.Encode as Encode
 use Rattle.job_record.specs.Fields as Fields
 use Rattle.job_record.specs.Number as Number
 use Rattle.job_record.specs.Values as Values
-
 use Rattle.job_record.proofs.Examples.{example}
 use Rattle.answer_record.specs.Answer as Answer
 use Rattle.record_call.specs.Record as Record

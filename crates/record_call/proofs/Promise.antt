@@ -14,9 +14,9 @@ use mir.Syntax.{w64}
 use mir.Val.{SFits}
 use Rattle.laws.specs.Lists.{over}
 use Rattle.laws.proofs.Integer.{integers, abs-parts, add-parts, neg-⁺, neg-⁻, fits-abs}
-use Rattle.laws.proofs.Sums.{sum-bounded}
-use Rattle.laws.proofs.Made.{over-all}
-use Rattle.tables.specs.Table.{Table, magnitudeOf, floorTerm, floorOf}
+use Rattle.laws.proofs.Sums.{sum-bounded, sum-ext}
+use Rattle.laws.proofs.Made.{over-all, getD-tabulate}
+use Rattle.tables.specs.Table.{Table, valueAt, magnitudeOf, floorTerm, floorOf}
 use Rattle.tables.specs.Check.{Hall}
 use Rattle.tables.specs.Limits.{mostWagons, mostEntries, mostMagnitude}
 use Rattle.tables.proofs.Checks.{hall-accepted}
@@ -33,7 +33,8 @@ use Rattle.run_record.specs.CostTable.{quadratic, linear}
 use Rattle.run_contract.specs.Calls.{finishResult}
 use Rattle.run_contract.proofs.Lengths.{length-choice}
 use Rattle.job_record.specs.Number.{jobNumber}
-use Rattle.job_record.specs.Values.{jobOf}
+use Rattle.job_record.specs.Fields.{wagons, entryCount, row, column, value}
+use Rattle.job_record.specs.Values.{jobOf, jobTable, jobCost}
 use Rattle.answer_record.specs.Answer as Read
 use Rattle.answer_record.specs.Answer.{answerBytes}
 use Rattle.record_call.specs.Record.{jobCosts, jobDraws, stopped, jobResult, jobChoice, fieldsOf, answerOf, tooShort, callNumber, answerAfter}
@@ -95,6 +96,19 @@ module _ {n : ℕ} {h : Table} {c : ℕ → ℤ} (hall : Hall mostWagons mostEnt
       where
         few : (rounds : ℕ) (a b : ℤ) → pos (4 * rounds) ≤ℤ (a -ℤ b) → natAbs a ≤ 2 ^ 43 → natAbs b ≤ 2 ^ 43 → rounds < 2 ^ 64
         few rounds a b d x y = omega (integers, add-parts a (negℤ b), neg-⁺ b, neg-⁻ b, abs-parts a, abs-parts b)
+
+-- ---- H and c of the promise are the record's
+
+module _ (s : List ℕ) where
+  pub same-values : (i j : ℕ) → valueAt (quadratic (jobCosts s)) i j ≡ valueAt (jobTable s) i j
+  unfolding jobCosts valueAt
+  same-values i j =
+      sum-ext (entryCount s) _ _
+      (λ k l. rw (getD-tabulate (row s) (entryCount s) k 0 l, getD-tabulate (column s) (entryCount s) k 0 l, getD-tabulate (value s) (entryCount s) k (pos 0) l))
+
+  pub same-linear : (i : ℕ) → i < wagons s → linear (jobCosts s) i ≡ jobCost s i
+  unfolding jobCosts
+  same-linear i l = getD-tabulate (jobCost s) (wagons s) i (pos 0) l
 
 -- ---- the answer of a job
 

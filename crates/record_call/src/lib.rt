@@ -1,9 +1,9 @@
 // The record call: a job's bytes in, the answer's bytes and a number out (01, "Job and answer records").
 mod run; // run.rt: an accepted job's open, sweeps and finish
 
+use answer_record::answer::Answer;
 use answer_record::answer::write_answer;
 use answer_record::answer::write_refusal;
-use answer_record::answer::Answer;
 use job_record::number::job_number;
 use run::job_result;
 use run_contract::FinishResult;

@@ -1,8 +1,8 @@
 // The run of an accepted job: its open, a sweep up to its most, its finish.
+use job_record::job::Job;
 use job_record::job::job_rank;
 use job_record::job::job_start_count;
 use job_record::job::read_job;
-use job_record::job::Job;
 use job_record::limits::MOST_DRAWN;
 use job_record::limits::MOST_START;
 use run_contract::FinishResult;

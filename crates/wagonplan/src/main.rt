@@ -1,7 +1,7 @@
 // `wagonplan`: the job record of standard input, its answer record to standard output (01, "Job and answer records").
 use job_reader::fields::u32_at;
-use record_call::answer_record;
 use record_call::LEAST_ANSWER;
+use record_call::answer_record;
 use run_limits::SEARCH_WORKSPACE;
 ghost use mathlib.Core.Path.{_≡_};
 ghost use Prim.Native.Nat.{_≤_};
