@@ -49,6 +49,15 @@ pub fn copy(out: &mut [f64], sums: &[f64; 16])
     }
 }
 
+// The 16 sums, written from `offset` on.
+pub fn put_sums(g: &mut [f64], offset: usize, sums: &[f64; 16])
+    requires { ⌜ offset + 16 ≤ length (now g) ⌝ }
+    ensures { λ _. ⌜ now (g .exit) ≡ putBlock 16 offset (mapFirst (λ j old. at (now (sums .entry)) j) 16 (take 16 (drop offset (now (g .entry))))) (now (g .entry)) ⌝ }
+{
+    let end = offset + 16;
+    copy(&mut g[offset..end], sums);
+}
+
 // The sums of 16 columns from `offset` on.
 fn gradient_block(
     cols: &[u16],
