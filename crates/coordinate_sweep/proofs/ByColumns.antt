@@ -6,7 +6,7 @@
 use mathlib.Core.Path.{_≡_, refl, sym, _∙_}
 use mathlib.Core.Bool.{Bool, true, false}
 use mathlib.Core.List.{List}
-use Prim.Native.Nat.{ℕ, zero, suc, _+_, _*_, _<_}
+use Prim.Native.Nat.{ℕ, zero, suc, _+_, _*_, _≤_, _<_}
 use native.Mathlib.Nat.{add-assoc, zero-add}
 use native.Mathlib.Omega.{arith}
 use native.Mathlib.Numerals.{add-one}
@@ -92,3 +92,13 @@ module _ (cols : List ℕ) (values factor : List Float) (vertex : ℕ) where
       rw h (tabulate-next (columnOf cols values factor vertex 17) 16 g g′ nan (omega arith) (e ∙ first-block (columnOf cols values factor vertex 17) 16 g))
       ∙ tabulate-all (columnOf cols values factor vertex 17) 17 g l
       ∙ sym (gradient-columns cols values factor vertex 17)
+
+  -- the first columns and the last ones, which together are all
+  pub two-ends : (rank a b second : ℕ) (g g′ g″ : List Float) → length g ≡ rank → second + b ≡ rank → second ≤ a → a ≤ rank
+      → g′ ≡ putBlock a 0 (blockTo cols values factor vertex rank 0 a (length cols)) g
+      → g″ ≡ putBlock b second (blockTo cols values factor vertex rank second b (length cols)) g′ → g″ ≡ gradientOf cols values factor vertex rank
+  two-ends rank a b second g g′ g″ l s k m e h =
+      h
+      ∙ (rw s at (block-next-put (columnOf cols values factor vertex rank) a second b g g′ k (omega arith) (e ∙ first-block (columnOf cols values factor vertex rank) a g)))
+      ∙ tabulate-all (columnOf cols values factor vertex rank) rank g l
+      ∙ sym (gradient-columns cols values factor vertex rank)

@@ -49,6 +49,15 @@ pub fn copy(out: &mut [f64], sums: &[f64; 16])
     }
 }
 
+// The 16 sums, written from `offset` on.
+pub fn put_sums(g: &mut [f64], offset: usize, sums: &[f64; 16])
+    requires { ⌜ offset + 16 ≤ length (now g) ⌝ }
+    ensures { λ _. ⌜ now (g .exit) ≡ putBlock 16 offset (mapFirst (λ j old. at (now (sums .entry)) j) 16 (take 16 (drop offset (now (g .entry))))) (now (g .entry)) ⌝ }
+{
+    let end = offset + 16;
+    copy(&mut g[offset..end], sums);
+}
+
 // The sums of 16 columns from `offset` on.
 fn gradient_block(
     cols: &[u16],
@@ -72,8 +81,7 @@ fn gradient_block(
     copy(out, &sums);
 }
 
-// The columns from `offset` on, written where they lie in g. The rank is the length of g; as a number that the compiler sees it makes
-// for shorter code.
+// The columns from `offset` on, written where they lie in g. The rank is the length of g.
 pub fn put_block(
     cols: &[u16],
     values: &[f64],

@@ -22,7 +22,7 @@ fn subtract(sums: &mut [f64; 4], weight: f64, source: &[f64])
 }
 
 // One entry of row `vertex`, at column k, whose 4 elements of the factor lie from `start` on.
-fn subtract_entry(
+pub fn subtract_entry(
     sums: &mut [f64; 4],
     factor: &[f64],
     vertex: usize,
@@ -40,13 +40,22 @@ fn subtract_entry(
 }
 
 // The 4 sums, copied.
-fn copy(out: &mut [f64], sums: &[f64; 4])
+pub fn copy(out: &mut [f64], sums: &[f64; 4])
     requires { ⌜ length (now out) ≡ 4 ⌝ }
     ensures { λ _. ⌜ now (out .exit) ≡ mapFirst (λ j old. at (now (sums .entry)) j) 4 (now (out .entry)) ⌝ }
 {
     for j in 0..4 {
         out[j] = sums[j];
     }
+}
+
+// The 4 sums, written from `offset` on.
+pub fn put_sums(g: &mut [f64], offset: usize, sums: &[f64; 4])
+    requires { ⌜ offset + 4 ≤ length (now g) ⌝ }
+    ensures { λ _. ⌜ now (g .exit) ≡ putBlock 4 offset (mapFirst (λ j old. at (now (sums .entry)) j) 4 (take 4 (drop offset (now (g .entry))))) (now (g .entry)) ⌝ }
+{
+    let end = offset + 4;
+    copy(&mut g[offset..end], sums);
 }
 
 // The sums of 4 columns from `offset` on.
@@ -72,8 +81,7 @@ fn gradient_block(
     copy(out, &sums);
 }
 
-// The columns from `offset` on, written where they lie in g. The rank is the length of g; as a number that the compiler sees it makes
-// for shorter code.
+// The columns from `offset` on, written where they lie in g. The rank is the length of g.
 pub fn put_block(
     cols: &[u16],
     values: &[f64],

@@ -72,8 +72,7 @@ fn gradient_block(
     copy(out, &sums);
 }
 
-// The columns from `offset` on, written where they lie in g. The rank is the length of g; as a number that the compiler sees it makes
-// for shorter code.
+// The columns from `offset` on, written where they lie in g. The rank is the length of g.
 pub fn put_block(
     cols: &[u16],
     values: &[f64],

@@ -5,6 +5,8 @@ mod block16; // block16.rt: 16 columns
 mod rank16; // rank16.rt: 16 columns at rank 16
 mod rank17; // rank17.rt: 16 columns at rank 17
 mod columns; // columns.rt: a column
+mod two_fours; // two_fours.rt: a row's gradient at ranks 5 to 8
+mod block20; // block20.rt: a row's gradient at ranks 17 to 20
 mod gradient; // gradient.rt: a row's gradient at any rank
 mod ranks; // ranks.rt: a row's gradient, some ranks by themselves
 mod pairs; // pairs.rt: two rows at once

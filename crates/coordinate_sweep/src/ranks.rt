@@ -1,4 +1,4 @@
-// The gradient of a row at ranks that the code names, so that the compiler sees them: 8, 16, and 17, which 0 means at 128 signs.
+// The gradient of a row, by its rank. Some ranks the code names, so that the compiler sees them: 8, 16, and 17, which 0 means at 128 signs.
 
 ghost use mathlib.Core.Path.{_≡_};
 ghost use lib.ListN.{length};
@@ -35,6 +35,28 @@ fn gradient17(cols: &[u16], values: &[f64], factor: &[f64], vertex: usize, g: &m
     g[16] = column(cols, values, factor, vertex, 17, 16);
 }
 
+// Ranks 5 to 7 and 18 to 20 in one go over the entries, the others by blocks.
+fn gradient_between(cols: &[u16], values: &[f64], factor: &[f64], vertex: usize, g: &mut [f64])
+    requires { ⌜ length (now cols) ≡ length (now values) ⌝ }
+    requires { ⌜ ColumnsWithin (now cols) (length (now g)) (now factor) ⌝ }
+    ensures { λ _. ⌜ now (g .exit) ≡ gradientOf (now (cols .entry)) (now (values .entry)) (now (factor .entry)) vertex (length (now (g .entry))) ⌝ }
+{
+    let rank = g.len();
+    if 4 < rank {
+        if rank < 8 {
+            super::two_fours::gradient_at_once(cols, values, factor, vertex, g);
+            return;
+        }
+    }
+    if 17 < rank {
+        if rank < 21 {
+            super::block20::gradient_at_once(cols, values, factor, vertex, g);
+            return;
+        }
+    }
+    gradient_blocks(cols, values, factor, vertex, g);
+}
+
 // The negated gradient of row `vertex` without its diagonal: one sum per column over the row's entries.
 pub fn gradient(cols: &[u16], values: &[f64], factor: &[f64], vertex: usize, g: &mut [f64])
     requires { ⌜ length (now cols) ≡ length (now values) ⌝ }
@@ -54,5 +76,5 @@ pub fn gradient(cols: &[u16], values: &[f64], factor: &[f64], vertex: usize, g: 
         gradient8(cols, values, factor, vertex, g);
         return;
     }
-    gradient_blocks(cols, values, factor, vertex, g);
+    gradient_between(cols, values, factor, vertex, g);
 }
