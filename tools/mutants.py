@@ -259,7 +259,7 @@ def verdict(folder, crate, limit=600):
     if done.returncode == 0 and re.search(r"^logic=proved", said, re.M):
         return "survived", ""
     if done.returncode == 1 and re.search(r"^logic=not-proved", said, re.M):
-        return ("other shape" if "that can be named from here" in first else "refused"), first
+        return ("other shape" if re.search(r"`tie\.Need-\S+: module|: record `", first) else "refused"), first
     return ("no verdict" if done.returncode == 3 else "not compiling"), first
 
 

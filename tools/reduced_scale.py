@@ -4,9 +4,10 @@
   tools/reduced_scale.py [--problems 10000] [--seed 1]
 
 A problem is a table, a map, fixed indices, fixed values and a reduced solution; it is one case of `from_principal_submatrix` and one of
-`lift_solution`. Refusals are the oracle's numbers; tables whose magnitudes add up to more than 2^53, which the oracle doesn't take, are reduced
-by make_replay.picked. The program compares doubles by their bits, zeros of either sign as equal. It lends 4,608 places for each slice of a table and 1,536 for any
-other, so lists are shorter here, and 31 is met in `lift_solution` alone, by too few fixed values or too short a solution. The exit status is 0 where nothing differs.
+`lift_solution`. Refusals are the oracle's numbers, and must be make_replay's too; tables whose magnitudes add up to more than 2^53, which the
+oracle doesn't take, are reduced by make_replay.picked. The program compares doubles by their bits, zeros of either sign as equal. It lends 4,608
+places for each slice of a table and 1,536 for any other, so lists are shorter here, and 31 is met in `lift_solution` alone, by too few fixed
+values or too short a solution. The exit status is 0 where nothing differs.
 """
 import argparse
 import collections

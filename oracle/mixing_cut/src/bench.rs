@@ -2,26 +2,33 @@
 
 use crate::answer::{answer, solve, step_rule};
 use crate::job;
-use crate::problem::{argument, factor, hall, rule_number, sign_bytes};
+use crate::problem::{argument, factor, hall, meant, rule_number, sign_bytes, Size};
 use crate::sdp_local_search::beam_search;
 use crate::sdp_project::project;
 use crate::sdp_solver::inside_solver::separate_diagonal;
 use crate::search::by_levels;
 use crate::step_rules::apply_step;
 use crate::table::{sign_matrix, signs};
+use ndarray::Array2;
 use sprs::CsMat;
 use std::hint::black_box;
 use std::time::Instant;
 
 const BATCHES: usize = 25;
 
-const USAGE: &str = "usage: oracle bench sweep RULE RANK CALLS | beam SEED CALLS \
-                     | answer CALLS (job on standard input)";
+const USAGE: &str = "usage: oracle bench [of WAGONS PAIRS] sweep RULE RANK CALLS \
+                     | beam SEED CALLS [WIDTH] | answer CALLS (job on standard input)";
 
 pub fn bench(what: &[&str], read: impl Fn() -> Result<Vec<u8>, String>) -> Result<String, String> {
+    let (size, what) = meant(what)?;
     match what {
-        ["sweep", rule, rank, calls] => sweeps(argument(rule)?, argument(rank)?, argument(calls)?),
-        ["beam", seed, calls] => beam(argument(seed)?, argument(calls)?),
+        ["sweep", rule, rank, calls] => {
+            sweeps(size, argument(rule)?, argument(rank)?, argument(calls)?)
+        }
+        ["beam", seed, calls] => beam(size, argument(seed)?, argument(calls)?, 128),
+        ["beam", seed, calls, width] => {
+            beam(size, argument(seed)?, argument(calls)?, argument(width)?)
+        }
         ["answer", calls] => answers(&read()?, argument(calls)?),
         _ => Err(USAGE.to_string()),
     }
@@ -46,27 +53,34 @@ fn timed(name: &str, calls: u32, mut call: impl FnMut()) -> Result<String, Strin
     ))
 }
 
-fn sign_table() -> CsMat<f64> {
-    let (h, c) = hall();
+fn sign_table(size: Size) -> CsMat<f64> {
+    let (h, c) = hall(size);
     let q = sign_matrix(&h, &c);
-    assert_eq!((q.rows(), q.nnz()), (128, 4478), "the hall's sign table");
+    assert_eq!((q.rows(), q.nnz()), (size.signs(), size.entries()), "the hall's sign table");
     q
 }
 
-fn sweeps(rule: u8, rank: usize, calls: u32) -> Result<String, String> {
+fn sweeps(size: Size, rule: u8, rank: usize, calls: u32) -> Result<String, String> {
     if rule > 4 || rank == 0 {
         return Err(USAGE.to_string());
     }
-    let q = sign_table();
+    let q = sign_table(size);
     let (work, _) = separate_diagonal(&q);
-    let whole = sweep(&q, rule, rank, calls)?;
-    Ok(whole + &sweep(&work, rule, rank, calls)?)
+    let start = || project(factor(size, rank, 1));
+    let whole = sweep(&q, start(), rule, rank, calls)?;
+    Ok(whole + &sweep(&work, start(), rule, rank, calls)?)
 }
 
 /// One sweep after another, each from the factor of the one before.
-fn sweep(q: &CsMat<f64>, rule: u8, rank: usize, calls: u32) -> Result<String, String> {
+fn sweep(
+    q: &CsMat<f64>,
+    start: Array2<f64>,
+    rule: u8,
+    rank: usize,
+    calls: u32,
+) -> Result<String, String> {
     let step = step_rule(rule, rule_number(rule));
-    let mut v = Some(project(factor(rank, 1)));
+    let mut v = Some(start);
     let name = format!("sweep, rule {rule}, rank {rank}, {} entries", q.nnz());
     timed(&name, calls, || {
         let swept = apply_step(black_box(q), v.take().expect("a factor"), step);
@@ -74,13 +88,13 @@ fn sweep(q: &CsMat<f64>, rule: u8, rank: usize, calls: u32) -> Result<String, St
     })
 }
 
-fn beam(seed: u64, calls: u32) -> Result<String, String> {
-    let q = sign_table();
-    let start = signs(&sign_bytes(seed));
-    let rounds = by_levels(&q, 128, &start).levels.len();
-    let name = format!("beam_search, W 128, seed {seed}, {rounds} rounds");
+fn beam(size: Size, seed: u64, calls: u32, width: usize) -> Result<String, String> {
+    let q = sign_table(size);
+    let start = signs(&sign_bytes(size, seed));
+    let rounds = by_levels(&q, width, &start).levels.len();
+    let name = format!("beam_search, W {width}, seed {seed}, {rounds} rounds");
     timed(&name, calls, || {
-        black_box(beam_search(black_box(&q), 128, vec![start.clone()]));
+        black_box(beam_search(black_box(&q), width, vec![start.clone()]));
     })
 }
 

@@ -36,22 +36,56 @@ impl SplitMix {
     }
 }
 
-pub const WAGONS: usize = 127;
-const PAIRS: u64 = 2048;
+/// A hall's wagons, and its pairs of wagons that have a cost.
+#[derive(Clone, Copy)]
+pub struct Size {
+    wagons: usize,
+    pairs: u64,
+}
+
+impl Size {
+    const LARGE: Self = Self { wagons: 127, pairs: 2048 };
+
+    pub fn signs(self) -> usize {
+        self.wagons + 1
+    }
+
+    /// The sign table's entries.
+    pub fn entries(self) -> usize {
+        2 * self.pairs as usize + 3 * self.wagons + 1
+    }
+}
+
+/// The hall meant, and the words left: `of WAGONS PAIRS` in front of them names another than the
+/// large one.
+pub fn meant<'a>(what: &'a [&'a str]) -> Result<(Size, &'a [&'a str]), String> {
+    let ["of", wagons, pairs, rest @ ..] = what else {
+        return Ok((Size::LARGE, what));
+    };
+    let size = Size { wagons: argument(wagons)?, pairs: argument(pairs)? };
+    let most = Size::LARGE;
+    let possible = (size.wagons * size.wagons.saturating_sub(1) / 2) as u64;
+    if size.wagons > most.wagons || size.pairs > most.pairs || size.pairs > possible {
+        return Err("at most 127 wagons and 2,048 of their pairs".to_string());
+    }
+    Ok((size, rest))
+}
+
 const HALL_SEED: u64 = 1;
 
-/// 127 wagons, 4,096 entries off the diagonal, all c and all row sums other than 0, so that the
-/// sign table has 4,478 entries. Pairs (i, j), i < j, in rising order: each is kept where the next
-/// number modulo the pairs left is below the pairs still wanted, and then gets a cost. Then c, one
-/// cost each; where row i's sum with 2·c_i is 0, c_i is doubled.
-pub fn hall() -> (Table, Vec<i64>) {
+/// The large one has 127 wagons, 4,096 entries off the diagonal, all c and all row sums other than
+/// 0, so that the sign table has 4,478 entries. Pairs (i, j), i < j, in rising order: each is kept
+/// where the next number modulo the pairs left is below the pairs still wanted, and then gets a
+/// cost. Then c, one cost each; where row i's sum with 2·c_i is 0, c_i is doubled.
+pub fn hall(size: Size) -> (Table, Vec<i64>) {
+    let wagons = size.wagons;
     let mut random = SplitMix::new(HALL_SEED);
     let mut entries = Vec::new();
-    let mut sums = vec![0; WAGONS];
-    let mut left = (WAGONS * (WAGONS - 1) / 2) as u64;
-    let mut wanted = PAIRS;
-    for row in 0..WAGONS {
-        for col in row + 1..WAGONS {
+    let mut sums = vec![0; wagons];
+    let mut left = (wagons * wagons.saturating_sub(1) / 2) as u64;
+    let mut wanted = size.pairs;
+    for row in 0..wagons {
+        for col in row + 1..wagons {
             if random.next() % left < wanted {
                 wanted -= 1;
                 let value = random.cost();
@@ -64,25 +98,25 @@ pub fn hall() -> (Table, Vec<i64>) {
         }
     }
     entries.sort_by_key(|e| (e.row, e.col));
-    let mut c: Vec<i64> = (0..WAGONS).map(|_| random.cost()).collect();
-    for i in 0..WAGONS {
+    let mut c: Vec<i64> = (0..wagons).map(|_| random.cost()).collect();
+    for i in 0..wagons {
         if sums[i] + 2 * c[i] == 0 {
             c[i] *= 2;
         }
     }
-    (Table { size: WAGONS, entries }, c)
+    (Table { size: wagons, entries }, c)
 }
 
 /// m·rank numbers from a seed, not yet projected.
-pub fn factor(rank: usize, seed: u64) -> Array2<f64> {
-    let m = WAGONS + 1;
+pub fn factor(size: Size, rank: usize, seed: u64) -> Array2<f64> {
+    let m = size.signs();
     Array2::from_rows((m, rank), SplitMix::new(seed).numbers(m * rank))
 }
 
 /// m signs from a seed: 1 (−) where the number is odd.
-pub fn sign_bytes(seed: u64) -> Vec<u8> {
+pub fn sign_bytes(size: Size, seed: u64) -> Vec<u8> {
     let mut random = SplitMix::new(seed);
-    (0..=WAGONS).map(|_| (random.next() % 2) as u8).collect()
+    (0..size.signs()).map(|_| (random.next() % 2) as u8).collect()
 }
 
 /// A number for each rule, for the timings.
@@ -96,9 +130,9 @@ pub fn rule_number(rule: u8) -> f64 {
 }
 
 /// A job on the hall: start 0, minimum 0, tolerances 0 and −1, which stop no run of rules 3 and 4.
-fn job(rule: u8, rank: usize, most: u32, width: u8, draws: u16, seed: u64) -> Vec<u8> {
-    let (h, c) = hall();
-    let mut body = vec![1, WAGONS as u8];
+fn job(size: Size, rule: u8, rank: usize, most: u32, width: u8, draws: u16, seed: u64) -> Vec<u8> {
+    let (h, c) = hall(size);
+    let mut body = vec![1, size.wagons as u8];
     body.extend((h.entries.len() as u16).to_be_bytes());
     for e in &h.entries {
         body.extend([e.row as u8, e.col as u8]);
@@ -117,7 +151,7 @@ fn job(rule: u8, rank: usize, most: u32, width: u8, draws: u16, seed: u64) -> Ve
         let numbers = random.numbers(count);
         numbers.iter().for_each(|&x| body.extend(bits(x).to_be_bytes()));
     };
-    put(&mut body, (WAGONS + 1) * rank);
+    put(&mut body, size.signs() * rank);
     body.extend(draws.to_be_bytes());
     put(&mut body, draws as usize * rank);
     let mut record = (body.len() as u32).to_be_bytes().to_vec();
@@ -129,34 +163,35 @@ pub fn argument<T: std::str::FromStr>(text: &str) -> Result<T, String> {
     text.parse().map_err(|_| format!("{text:?} is no number that fits here"))
 }
 
-const USAGE: &str = "usage: oracle problem hall | table | factor RANK SEED | signs SEED \
-                     | job RULE RANK MOST WIDTH DRAWS SEED";
+const USAGE: &str = "usage: oracle problem [of WAGONS PAIRS] hall | table | factor RANK SEED \
+                     | signs SEED | job RULE RANK MOST WIDTH DRAWS SEED";
 
 /// The hall's parts in the words of the leaf protocol, or a job in hexadecimal.
 pub fn print(what: &[&str]) -> Result<String, String> {
     let mut out = Out::default();
+    let (size, what) = meant(what)?;
     match what {
         ["hall"] => {
-            let (h, c) = hall();
+            let (h, c) = hall(size);
             out.count(h.size);
             h.put(&mut out);
             out.count(c.len());
             c.iter().for_each(|&value| out.whole(value));
         }
         ["table"] => {
-            let (h, c) = hall();
+            let (h, c) = hall(size);
             let q = Table::of_matrix(&sign_matrix(&h, &c));
             out.count(q.size);
             q.put(&mut out);
         }
         ["factor", rank, seed] => {
-            out.doubles(factor(argument(rank)?, argument(seed)?).iter());
+            out.doubles(factor(size, argument(rank)?, argument(seed)?).iter());
         }
-        ["signs", seed] => out.bytes(&sign_bytes(argument(seed)?)),
+        ["signs", seed] => out.bytes(&sign_bytes(size, argument(seed)?)),
         ["job", rule, rank, most, width, draws, seed] => {
             let (rule, rank, most) = (argument(rule)?, argument(rank)?, argument(most)?);
             let (width, draws, seed) = (argument(width)?, argument(draws)?, argument(seed)?);
-            return Ok(hex(&job(rule, rank, most, width, draws, seed)) + "\n");
+            return Ok(hex(&job(size, rule, rank, most, width, draws, seed)) + "\n");
         }
         _ => return Err(USAGE.to_string()),
     }
