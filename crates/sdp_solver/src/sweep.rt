@@ -52,8 +52,8 @@ fn sweep_work(
     )
 }
 
-// Up to k sweeps over (H, c) of a factor of m rows.
-fn sweep_accepted(
+// Up to k sweeps over (H, c) of a factor of m rows, where nothing refuses them.
+pub fn sweep_accepted(
     run: Run,
     n: usize,
     count: usize,
