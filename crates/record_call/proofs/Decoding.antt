@@ -19,13 +19,15 @@ use Rattle.run_record.specs.CostTable.{CostTable, costTable}
 use Rattle.run_sweep.specs.Work.{callWork}
 use Rattle.run_sweep.specs.Sweep.{State, sweepsUpTo}
 use Rattle.run_sweep.proofs.Loop.{sweeps-none}
+use Rattle.run_contract.proofs.Accepting.{Sweeping, sweep-accepted}
 use Rattle.run_contract.specs.declared.Opened.{Opened}
 use Rattle.run_contract.specs.declared.Opened.the-variants as O
 use Rattle.run_contract.specs.declared.Finished.{Finished}
 use Rattle.run_contract.specs.declared.Finished.the-variants as F
 use Rattle.run_contract.specs.declared.FinishResult.{FinishResult}
 use Rattle.run_contract.specs.Calls as Calls
-use Rattle.run_contract.specs.Calls.{Settings, openSize, openRank, openRun, startFactor, used, finishResult, finishChoice, Opens, Sweeps, Finishes}
+use Rattle.run_record.specs.Numbers.{sweepNumber, finishNumber}
+use Rattle.run_contract.specs.Calls.{Settings, openNumberOf, openSize, openRank, openRun, startFactor, used, finishResult, finishChoice, Opens, Finishes}
 use Rattle.job_record.specs.Limits.{mostStart, mostDrawn}
 use Rattle.job_record.specs.Fields.{wagons, entryCount, row, column, value}
 use Rattle.job_record.specs.Number.{jobNumber}
@@ -147,23 +149,34 @@ module _ {s : List ℕ} {j : Job} {rows cols : List ℕ} {values c : List ℤ} {
       stopped-is s (d .accepted) ∙ ap (λ (k : ℕ). sweepsUpTo k w run factor) (sym most-is ∙ none) ∙ sweeps-none w run factor in
       (sym (ap (λ (x : State). x .run) e), sym (ap (λ (x : State). x .factor) e))
 
-  pub swept-run : {run run′ : Run} {factor factor′ : List Float} {number : ℕ} → 0 < j .most → run ≡ openRun (jobSettings s) → factor ≡ startFactor (jobSettings s)
-      → Sweeps run costs (j .most) factor number run′ factor′ → (run′ ≡ stopped s .run) × (factor′ ≡ stopped s .factor)
-  swept-run {run} {run′} {factor} {factor′} {number} some is made swept =
+  -- nothing refuses the open
+  pub opens-now : (factor : List Float) → length factor ≡ openSize (jobSettings s) * openRank (jobSettings s) → openNumberOf asked (length factor) ≡ 0
+  opens-now factor whole = subst (λ (x : Settings). openNumberOf x (length factor) ≡ 0) (sym asked-is) (opens s (d .accepted) (length factor) (omega (arith, whole)))
+
+  -- nor the sweep
+  pub sweeps-now : {run : Run} {factor : List Float} → 0 < j .most → run ≡ openRun (jobSettings s) → factor ≡ startFactor (jobSettings s)
+      → Sweeping run costs (length factor) × (length factor ≡ used run)
+  sweeps-now {run} {factor} some is made =
       let run₀ = openRun (jobSettings s) in
       let factor₀ = startFactor (jobSettings s) in
-      let w = callWork (jobCosts s) in
-      let most = jobOf s .most in
-      let a : Sweeps run₀ costs (j .most) factor₀ number run′ factor′ =
-      subst (λ (x : List Float). Sweeps run₀ costs (j .most) x number run′ factor′) made (subst (λ (x : Run). Sweeps x costs (j .most) factor number run′ factor′) is swept) in
-      let g : Sweeps run₀ (jobCosts s) most factor₀ number run′ factor′ =
-      subst (λ (x : ℕ). Sweeps run₀ (jobCosts s) x factor₀ number run′ factor′) most-is (subst (λ (x : CostTable). Sweeps run₀ x (j .most) factor₀ number run′ factor′) (d .costs-are) a) in
-      let (after, left) = g .accepted (g .numbered ∙ sweeps s (d .accepted) (omega (arith, most-is)) (length factor₀) (omega (arith, opened-used))) in
-      let whole : take (used run₀) factor₀ ≡ factor₀ = take-all (used run₀) factor₀ (omega (arith, opened-used)) in
-      let e : sweepsUpTo most w run₀ (take (used run₀) factor₀) ≡ stopped s = ap (λ (x : List Float). sweepsUpTo most w run₀ x) whole ∙ sym (stopped-is s (d .accepted)) in (
-        after ∙ ap (λ (x : State). x .run) e,
-        left ∙ ap (λ (x : State). over (x .factor) factor₀) e ∙ over-all (stopped s .factor) factor₀ (start-whole s (d .accepted) ∙ sym (factor-whole s (d .accepted))),
-      )
+      let none : sweepNumber run₀ costs (length factor₀) ≡ 0 =
+          subst (λ (x : CostTable). sweepNumber run₀ x (length factor₀) ≡ 0) (sym (d .costs-are)) (sweeps s (d .accepted) (omega (arith, most-is)) (length factor₀) (omega (arith, opened-used))) in
+      let at : Sweeping run₀ costs (length factor₀) × (length factor₀ ≡ used run₀) = (sweep-accepted run₀ costs (length factor₀) none, sym opened-used) in
+      subst (λ (x : Run). Sweeping x costs (length factor) × (length factor ≡ used x)) (sym is)
+      (subst (λ (x : List Float). Sweeping run₀ costs (length x) × (length x ≡ used run₀)) (sym made) at)
+
+  pub swept-run : {run run′ : Run} {factor factor′ : List Float} → run ≡ openRun (jobSettings s) → factor ≡ startFactor (jobSettings s)
+      → run′ ≡ sweepsUpTo (j .most) (callWork costs) run factor .run → factor′ ≡ sweepsUpTo (j .most) (callWork costs) run factor .factor
+      → (run′ ≡ stopped s .run) × (factor′ ≡ stopped s .factor)
+  swept-run {run} {run′} {factor} {factor′} is made after left =
+      let run₀ = openRun (jobSettings s) in
+      let e : sweepsUpTo (j .most) (callWork costs) run factor ≡ stopped s =
+          ap (λ (x : Run). sweepsUpTo (j .most) (callWork costs) x factor) is
+          ∙ ap (λ (x : List Float). sweepsUpTo (j .most) (callWork costs) run₀ x) made
+          ∙ ap (λ (x : CostTable). sweepsUpTo (j .most) (callWork x) run₀ (startFactor (jobSettings s))) (d .costs-are)
+          ∙ ap (λ (x : ℕ). sweepsUpTo x (callWork (jobCosts s)) run₀ (startFactor (jobSettings s))) most-is
+          ∙ sym (stopped-is s (d .accepted)) in
+      (after ∙ ap (λ (x : State). x .run) e, left ∙ ap (λ (x : State). x .factor) e)
 
   drawn-long : length (jobDraws s) ≡ jobDrawn s
   unfolding jobDraws
@@ -176,6 +189,16 @@ module _ {s : List ℕ} {j : Job} {rows cols : List ℕ} {values c : List ℤ} {
   choice-is : finishChoice (stopped s .run) (jobCosts s) (jobOf s .width) (jobOf s .«draw_count») (jobDraws s) (stopped s .factor) ≡ jobChoice s
   unfolding jobChoice
   choice-is = refl
+
+  -- nor the finish
+  pub finishes-now : {run : Run} {draws factor : List Float} (b : List ℕ) (dual : List Float) (workspace : List ℕ) → run ≡ stopped s .run → draws ≡ jobDraws s → factor ≡ stopped s .factor
+      → mostWagons ≤ length b → mostSigns ≤ length dual → leastWorkspace ≤ length workspace
+      → finishNumber run costs (j .width) (j .«draw_count») (Calls.finishLengths draws factor b dual workspace) ≡ 0
+  finishes-now b dual workspace is ds made br dr wr =
+      let n = few s (d .accepted) in
+      let lengths = Calls.finishLengths (jobDraws s) (stopped s .factor) b dual workspace in
+      let none = finishes s (d .accepted) lengths (omega (arith, drawn-long)) (omega (arith, factor-whole s (d .accepted))) (omega arith) (omega arith) wr in
+      rw (is, ds, made, d .costs-are, ap (λ (x : Job). x .width) (d .job-is), ap (λ (x : Job). x .«draw_count») (d .job-is)) none
 
   pub finished : {run : Run} {draws factor : List Float} {b b′ : List ℕ} {dual dual′ : List Float} {workspace workspace′ : List ℕ} {answer : Finished} → run ≡ stopped s .run → draws ≡ jobDraws s → factor ≡ stopped s .factor
       → mostWagons ≤ length b → mostSigns ≤ length dual → leastWorkspace ≤ length workspace
@@ -211,14 +234,8 @@ module _ {s : List ℕ} {j : Job} {rows cols : List ℕ} {values c : List ℤ} {
 pub started : {opened : Opened} {r x : Run} → opened ≡ O.Started r → opened ≡ O.Started x → r ≡ x
 started p q = cc
 
-pub not-started : {opened : Opened} {n : ℕ} {x : Run} → opened ≡ O.Refused n → opened ≡ O.Started x → ⊥
-not-started p q = let z : _≡_ {A = ℕ} 0 1 = cc in omega arith
-
 pub resulted : {finished : Finished} {r x : FinishResult} → finished ≡ F.Result r → finished ≡ F.Result x → r ≡ x
 resulted p q = cc
-
-pub not-resulted : {finished : Finished} {n : ℕ} {x : FinishResult} → finished ≡ F.Refused n → finished ≡ F.Result x → ⊥
-not-resulted p q = let z : _≡_ {A = ℕ} 0 1 = cc in omega arith
 
 pub positive : (n : ℕ) → (n ≡ 0 → ⊥) → 0 < n
 positive zero h = absurd (h refl)

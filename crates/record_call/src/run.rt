@@ -6,14 +6,10 @@ use job_record::job::read_job;
 use job_record::limits::MOST_DRAWN;
 use job_record::limits::MOST_START;
 use run_contract::FinishResult;
-use run_contract::Finished;
-use run_contract::Opened;
 use run_record::Run;
-use run_record::Stage;
-use sdp_solver::finish::finish;
-use sdp_solver::open::open;
-use sdp_solver::sweep::sweep_run;
-use step_rules::StepRule;
+use sdp_solver::finish::finish_accepted;
+use sdp_solver::open::open_accepted;
+use sdp_solver::sweep::sweep_accepted;
 use tables::limits::MOST_ENTRIES;
 use tables::limits::MOST_SIGNS;
 use tables::limits::MOST_WAGONS;
@@ -22,10 +18,6 @@ ghost use Prim.Native.Nat.{_+_, _*_, _≤_};
 ghost use lib.ListN.{length};
 ghost use Rattle.laws.specs.Lists.{over};
 ghost use Rattle.tables.specs.Limits.{mostWagons, mostSigns};
-ghost use Rattle.run_record.specs.declared.Run.{Run};
-ghost use Rattle.run_contract.specs.declared.FinishResult.{FinishResult};
-ghost use Rattle.run_contract.specs.declared.Opened.the-variants.{Started};
-ghost use Rattle.run_contract.specs.declared.Finished.the-variants.{Result};
 ghost use Rattle.run_contract.specs.Calls.{openSize, openRank};
 ghost use Rattle.job_record.specs.Limits.{mostDrawn};
 ghost use Rattle.job_record.specs.Number.{jobNumber};
@@ -35,49 +27,6 @@ ghost use Rattle.record_call.specs.Decoded.{Decoded};
 
 // As many numbers as any factor has.
 const MOST_NUMBERS: usize = 4096;
-
-// The record of an open that refused nothing.
-fn run_of(opened: Opened) -> Run
-    ensures { λ r. ⌜ ((x : Run) → opened ≡ Started x → r ≡ x) ⌝ }
-{
-    match opened {
-        Opened::Started(run) => run,
-        Opened::Refused(_) => Run {
-            size: 0,
-            rank: 0,
-            rule: StepRule::CoordNoStep,
-            sweeps: 0,
-            last_objective: 0.0,
-            objective_tolerance: 0.0,
-            stationarity_tolerance: 0.0,
-            most: 0,
-            minimum: 0,
-            stage: Stage::Stopped,
-            status: 0,
-        },
-    }
-}
-
-// What a finish gives that refused nothing.
-fn result_of(finished: Finished) -> FinishResult
-    ensures { λ r. ⌜ ((x : FinishResult) → finished ≡ Result x → r ≡ x) ⌝ }
-{
-    match finished {
-        Finished::Result(result) => result,
-        Finished::Refused(_) => FinishResult {
-            status: 0,
-            rank: 0,
-            n: 0,
-            sweeps: 0,
-            relaxed_objective: 0.0,
-            float_bound: 0.0,
-            floor: 0,
-            rounded_cost: 0,
-            cost: 0,
-            rounds: 0,
-        },
-    }
-}
 
 // The job's open and, where its most is above 0, a sweep up to the most.
 fn run_job(
@@ -93,7 +42,7 @@ fn run_job(
     requires { ⌜ Decoded (now job) j (now rows) (now cols) (now values) (now c) (now start) × (length (now factor) ≡ openSize (jobSettings (now job)) * openRank (jobSettings (now job))) ⌝ }
     ensures { λ r. ⌜ (r ≡ stopped (now (job .entry)) .run) × (now (factor .exit) ≡ stopped (now (job .entry)) .factor) ⌝ }
 {
-    let opened = open(
+    let run = open_accepted(
         j.n,
         j.count,
         rows,
@@ -111,12 +60,10 @@ fn run_job(
         start,
         factor,
     );
-    let run = run_of(opened);
     if j.most == 0 {
         return run;
     }
-    let swept = sweep_run(run, j.n, j.count, rows, cols, values, c, j.most, factor);
-    swept.run
+    sweep_accepted(run, j.n, j.count, rows, cols, values, c, j.most, factor)
 }
 
 // The run, and its finish; the factor is of the run's size.
@@ -139,7 +86,7 @@ fn finish_run(
     ensures { λ r. ⌜ (r ≡ jobResult (now (job .entry))) × (now (b .exit) ≡ over (jobChoice (now (job .entry))) (now (b .entry))) ⌝ }
 {
     let run = run_job(job, j, rows, cols, values, c, start, factor);
-    let finished = finish(
+    finish_accepted(
         run,
         j.n,
         j.count,
@@ -154,8 +101,7 @@ fn finish_run(
         b,
         dual,
         workspace,
-    );
-    result_of(finished)
+    )
 }
 
 // The same, with room for the factor and the multipliers.

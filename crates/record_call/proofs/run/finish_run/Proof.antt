@@ -1,43 +1,23 @@
+-- `record_call::run::finish_run` meets its contract: nothing refuses the job's finish. Assumes nothing.
 use borrow.Author.Needs.{needs}
+use mathlib.Core.Path.{_≡_, refl}
+use denote.Ref.{now}
+use Rattle.record_call.proofs.Decoding.{finishes-now, finished, resulted}
 use Rattle.record_call.proofs.run.finish_run.Statement.{statement}
 use Rattle.record_call.proofs.run.finish_run.Tie as tie
-use Rattle.record_call.proofs.Decoding.{finished}
-
-run-job-requires : tie.Need-run-job-requires
-run-job-requires c κs = (c .before .before .before .before .before .before .before .before .before .before .pre .0, c .before .before .before .before .before .before .before .before .before .before .pre .2)
-
-finish-requires : tie.Need-finish-requires
-finish-requires c κs = search needs
-
-result-of-requires : tie.Need-result-of-requires
-result-of-requires c κs = search needs
-
-same-length : tie.Need-same-length
-same-length c = search needs
-
-same-length-2 : tie.Need-same-length-2
-same-length-2 c = search needs
-
-same-length-3 : tie.Need-same-length-3
-same-length-3 c = search needs
-
-same-length-4 : tie.Need-same-length-4
-same-length-4 c = search needs
 
 returns : tie.Need-returns
 returns c =
-    let f = finished (c .before .before .before .before .before .before .before .before .before .before .before .before .before .before .before .before .before .before .before .before .before .before .before .before .before .pre .0) (c .before .before .before .before .before .before .before .before .before .before .before .before .before .before .run-job .ensures .0) (c .before .before .before .before .before .before .before .before .before .before .before .before .before .before .before .before .before .before .before .before .before .before .before .before .before .pre .1) (c .before .before .before .before .before .before .before .before .before .before .before .before .before .before .run-job .ensures .1) (c .before .before .before .before .before .before .before .before .before .before .before .before .before .before .before .before .before .before .before .before .before .before .before .before .before .pre .3) (c .before .before .before .before .before .before .before .before .before .before .before .before .before .before .before .before .before .before .before .before .before .before .before .before .before .pre .4) (c .before .before .before .before .before .before .before .before .before .before .before .before .before .before .before .before .before .before .before .before .before .before .before .before .before .pre .5) (c .before .before .before .before .before .before .before .finish .ensures) in
-    (c .result-of .ensures _ (f .0), f .1)
+    let p = c .before .before .before .before .before .before .before .before .before .before .before .before .before .before .before .before .before .before .before .before .before .before .before .before .pre in
+    let r = c .before .before .before .before .before .before .before .before .before .before .before .before .before .run-job .ensures in
+    let f = finished (p .0) (r .0) (p .1) (r .1) (p .3) (p .4) (p .5) (c .before .before .before .before .before .before .finish-accepted .ensures) in
+    (resulted refl (f .0), f .1)
 
 pub finish-run-spec : {M : Type 1} → statement M
 finish-run-spec =
     tie.close
     (tie.spec
-    run-job-requires
-    finish-requires
-    result-of-requires
-    same-length
-    same-length-2
-    same-length-3
-    same-length-4
+    (λ c κs. (c .before .before .before .before .before .before .before .before .before .before .pre .0, c .before .before .before .before .before .before .before .before .before .before .pre .2))
+    (λ c κs. let p = c .before .before .before .before .before .before .before .before .before .before .before .before .before .before .before .before .before .pre in let r = c .before .before .before .before .before .before .run-job .ensures in finishes-now (p .0) (now (c .before .before .before .before .before .before .before .before .before .before .before .before .before .before .before .before .before .args .b)) (now (c .before .before .before .before .before .before .before .before .before .before .before .before .before .before .before .before .before .args .dual)) (now (c .before .before .before .before .before .before .before .before .before .before .before .before .before .before .before .before .before .args .workspace)) (r .0) (p .1) (r .1) (p .3) (p .4) (p .5))
+    (λ c. search needs) (λ c. search needs) (λ c. search needs) (λ c. search needs)
     returns)
