@@ -19,6 +19,12 @@ extern "C" {
     fn host_multiply(c: *const u16, cn: usize, v: *const f64, vn: usize, s: *const usize, sn: usize, f: *const f64, fl: usize, rank: usize, m: usize, o: *mut f64, on: usize);
     fn host_grad(c: *const u16, cn: usize, v: *const f64, vn: usize, s: *const usize, sn: usize, f: *const f64, fl: usize, rank: usize, m: usize, o: *mut f64, on: usize);
     fn host_step(rule: u8, number: f64, r: *const u16, rn: usize, c: *const u16, cn: usize, v: *const f64, vn: usize, s: *const usize, sn: usize, m: usize, rank: usize, f: *mut f64, fl: usize, a: *mut f64, al: usize, b: *mut f64, bl: usize);
+    fn host_prepare(count: usize, r: *const u16, rn: usize, c: *const u16, cn: usize, v: *const i64, vn: usize, m: usize, wr: *mut u16, wrn: usize, wc: *mut u16, wcn: usize, wv: *mut f64, wvn: usize, s: *mut usize, sn: usize) -> usize;
+    fn host_diagonal(count: usize, r: *const u16, rn: usize, c: *const u16, cn: usize, v: *const i64, vn: usize, m: usize, d: *mut f64, dn: usize) -> f64;
+    fn host_rounded_sols(f: *const f64, fl: usize, rank: usize, m: usize, count: usize, x: *const f64, xn: usize, d: *mut f64, dn: usize, s: *mut u8, sn: usize);
+    fn host_rounded_number(m: usize, count: usize, r: *const u16, rn: usize, c: *const u16, cn: usize, v: *const i64, vn: usize, rank: usize, f: *const f64, fl: usize, draws: usize, x: *const f64, xn: usize, o: *mut u8, on: usize) -> u8;
+    fn host_rounded_objective(m: usize, count: usize, r: *const u16, rn: usize, c: *const u16, cn: usize, v: *const i64, vn: usize, rank: usize, f: *const f64, fl: usize, draws: usize, x: *const f64, xn: usize, o: *mut u8, on: usize) -> i64;
+    fn host_dual_variables(m: usize, count: usize, r: *const u16, rn: usize, c: *const u16, cn: usize, v: *const i64, vn: usize, rank: usize, f: *const f64, fl: usize, o: *mut f64, on: usize) -> u8;
 }
 
 /// The words of a line, read one by one.
@@ -37,6 +43,14 @@ impl Words<'_> {
     fn doubles(&mut self) -> Vec<f64> {
         (0..self.size()).map(|_| self.double()).collect()
     }
+    /// A slice of whole numbers.
+    fn slice<T>(&mut self, of: fn(u64) -> T) -> Vec<T> {
+        (0..self.size()).map(|_| of(self.word())).collect()
+    }
+    /// Size, count, rows, columns, eighths and rank, as a call is lent them.
+    fn lent(&mut self) -> Lent {
+        Lent { m: self.size(), count: self.size(), rows: self.slice(|x| x as u16), cols: self.slice(|x| x as u16), values: self.slice(|x| x as i64), rank: self.size() }
+    }
     /// Size, rows, columns, doubles (eighths divided by 8) and row starts.
     fn table(&mut self) -> Table {
         let (m, count) = (self.size(), self.size());
@@ -49,6 +63,15 @@ impl Words<'_> {
         t.starts = (0..=m).map(|i| t.rows.iter().filter(|&&r| (r as usize) < i).count()).collect();
         t
     }
+}
+
+struct Lent {
+    m: usize,
+    count: usize,
+    rows: Vec<u16>,
+    cols: Vec<u16>,
+    values: Vec<i64>,
+    rank: usize,
 }
 
 struct Table {
@@ -131,6 +154,65 @@ fn round(w: &mut Words) -> Vec<Out> {
     std::iter::once(m as u64).chain(signs.iter().map(|&s| s as u64)).map(Out::Word).collect()
 }
 
+fn words<T: Copy + Into<u64>>(xs: &[T]) -> Vec<Out> {
+    std::iter::once(xs.len() as u64).chain(xs.iter().map(|&x| x.into())).map(Out::Word).collect()
+}
+
+/// Slices that are longer than asked keep their tails.
+fn front<T: Copy + PartialEq + std::fmt::Debug>(xs: &[T], length: usize, tail: T) -> &[T] {
+    assert!(xs[length..].iter().all(|&x| x == tail), "a tail is written");
+    &xs[..length]
+}
+
+fn prepared(w: &mut Words) -> Vec<Out> {
+    let (m, count) = (w.size(), w.size());
+    let (mut r, mut c, mut v) = (vec![], vec![], vec![]);
+    for _ in 0..count {
+        r.push(w.word() as u16);
+        c.push(w.word() as u16);
+        v.push(w.word() as i64);
+    }
+    let (mut wr, mut wc, mut wv) = (vec![7u16; count + 1], vec![7u16; count + 1], vec![7.0; count + 1]);
+    let (mut s, mut d) = (vec![7usize; m + 2], vec![7.0; m + 1]);
+    let stay = unsafe { host_prepare(count, r.as_ptr(), count, c.as_ptr(), count, v.as_ptr(), count, m, wr.as_mut_ptr(), count + 1, wc.as_mut_ptr(), count + 1, wv.as_mut_ptr(), count + 1, s.as_mut_ptr(), m + 2) };
+    let sum = unsafe { host_diagonal(count, r.as_ptr(), count, c.as_ptr(), count, v.as_ptr(), count, m, d.as_mut_ptr(), m + 1) };
+    let starts: Vec<u64> = front(&s, m + 1, 7).iter().map(|&x| x as u64).collect();
+    let places = words(front(&wr, stay, 7)).into_iter().chain(words(front(&wc, stay, 7)));
+    let table = places.chain(slice(front(&wv, stay, 7.0))).chain(words(&starts));
+    table.chain(slice(front(&d, m, 7.0))).chain([Out::Double(sum)]).collect()
+}
+
+fn sols(w: &mut Words) -> Vec<Out> {
+    let (rank, m) = (w.size(), w.size());
+    let f = w.doubles();
+    let (count, draws) = (w.size(), w.doubles());
+    let (mut direction, mut signs) = (vec![0.0; rank], vec![7u8; count * m + 1]);
+    unsafe { host_rounded_sols(f.as_ptr(), f.len(), rank, m, count, draws.as_ptr(), draws.len(), direction.as_mut_ptr(), rank, signs.as_mut_ptr(), signs.len()) };
+    words(front(&signs, count * m, 7))
+}
+
+fn dual_call(w: &mut Words) -> Vec<Out> {
+    let (t, f) = (w.lent(), w.doubles());
+    let mut out = vec![7.0; w.size()];
+    let number = unsafe { host_dual_variables(t.m, t.count, t.rows.as_ptr(), t.rows.len(), t.cols.as_ptr(), t.cols.len(), t.values.as_ptr(), t.values.len(), t.rank, f.as_ptr(), f.len(), out.as_mut_ptr(), out.len()) };
+    let written = front(&out, if number == 0 { t.m } else { 0 }, 7.0);
+    let answer = if number == 0 { slice(written) } else { vec![] };
+    std::iter::once(Out::Word(number as u64)).chain(answer).collect()
+}
+
+fn rounded_call(w: &mut Words) -> Vec<Out> {
+    let (t, f) = (w.lent(), w.doubles());
+    let (count, draws) = (w.size(), w.doubles());
+    let (mut out, mut again) = (vec![7u8; w.size()], vec![]);
+    let number = unsafe { host_rounded_number(t.m, t.count, t.rows.as_ptr(), t.rows.len(), t.cols.as_ptr(), t.cols.len(), t.values.as_ptr(), t.values.len(), t.rank, f.as_ptr(), f.len(), count, draws.as_ptr(), draws.len(), out.as_mut_ptr(), out.len()) };
+    again.resize(out.len(), 7u8);
+    let objective = unsafe { host_rounded_objective(t.m, t.count, t.rows.as_ptr(), t.rows.len(), t.cols.as_ptr(), t.cols.len(), t.values.as_ptr(), t.values.len(), t.rank, f.as_ptr(), f.len(), count, draws.as_ptr(), draws.len(), again.as_mut_ptr(), again.len()) };
+    assert_eq!(out, again, "the call once more");
+    let written = front(&out, if number == 0 { t.m } else { 0 }, 7);
+    let answer = if number == 0 { words(written).into_iter().chain([Out::Word(objective as u64)]).collect() } else { vec![] };
+    std::iter::once(Out::Word(number as u64)).chain(answer).collect()
+}
+
 fn run(name: &str, w: &mut Words) -> Vec<Out> {
     match name {
         "dot" => {
@@ -164,6 +246,10 @@ fn run(name: &str, w: &mut Words) -> Vec<Out> {
         "start" => start(w),
         "check" => check(w),
         "round" => round(w),
+        "prepared" => prepared(w),
+        "sols" => sols(w),
+        "dual_call" => dual_call(w),
+        "rounded_call" => rounded_call(w),
         _ => panic!("no function is named {name}"),
     }
 }

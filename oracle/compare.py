@@ -16,7 +16,7 @@ KINDS = [
     ("jobs-small", "answers", 300),
     ("damaged", "answers", 600),
     ("edges", "answers", 1000),
-    ("leaf", "leaf", 280),
+    ("leaf", "leaf", 320),
     ("leaf-beam", "leaf", 200),
     ("leaf-edges", "leaf", 1000),
     ("reduced", "leaf", 200),

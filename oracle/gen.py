@@ -6,6 +6,7 @@
     edges                          a fixed list at the limits; "# NN why" before each job names the
                                    number that it is refused with, 00 for none (COUNT cuts it)
     leaf, leaf-NAME                lines for `oracle leaf`, of all functions in turn or of one
+    wide-NAME                      the same of one function, up to 128 signs of low rank, few entries
     leaf-edges                     a fixed list for `oracle leaf` at the limits (COUNT cuts it)
     reduced                        lines for `oracle leaf` on reduced problems, refusals included
     run                            scripts for `oracle run`; COUNT scripts
@@ -20,6 +21,7 @@ import sys
 sys.dont_write_bytecode = True
 import model  # noqa: E402
 
+WIDE = False  # set by the kind wide-NAME: many rows, few numbers in each, few entries
 LIMIT = 2**40
 SIGN_LIMIT = 2**42
 FRAME = 65536
@@ -107,7 +109,7 @@ def value(rng, style):
 
 def symmetric(rng, size, most_entries, style):
     """A symmetric table as a dictionary of its places, with at most so many of them."""
-    density = rng.choice([0.0, 0.2, 0.5, 1.0])
+    density = rng.choice([0.005, 0.01] if WIDE else [0.0, 0.2, 0.5, 1.0])
     on_diagonal = rng.choice([0.0, 0.5, 1.0])
     pairs = [(i, j) for i in range(size) for j in range(i, size)
              if rng.random() < (on_diagonal if i == j else density)]
@@ -208,6 +210,14 @@ def size(rng, kind="mixed", low=0, high=127):
     if k < 0.7:
         return rng.randint(low, low + 6)
     return rng.randint(low, 20) if k < 0.95 else rng.choice([high, rng.randint(20, high)])
+
+
+def shape(rng):
+    """Rows of a factor, and its rank."""
+    if WIDE:
+        m = rng.choice([128, 127, rng.randint(21, 128)])
+        return m, rng.randint(1, 384 // m)
+    return size(rng, low=1, high=128), rng.randint(1, 32)
 
 
 def some_rank(rng, small=False):
@@ -329,7 +339,7 @@ def asymmetric(j, rng):
             j["entries"][k] = (i, l, v + 1)
         else:
             del j["entries"][k]
-            j["count"] -= 1
+            j["count"] = max(0, j["count"] - 1)
 
 
 def unordered(j, rng):
@@ -599,8 +609,7 @@ def signs(rng, m):
 
 
 def table_and_factor(rng):
-    m = size(rng, low=1, high=128)
-    rank = rng.randint(1, 32)
+    m, rank = shape(rng)
     return " ".join([table_words(m, sign_table(rng, m)), words(rank, factor(rng, m, rank))])
 
 
@@ -619,7 +628,7 @@ def leaf_signtable(rng):
 
 
 def leaf_table(rng):
-    m = size(rng, low=1, high=128)
+    m = shape(rng)[0] if WIDE else size(rng, low=1, high=128)
     return table_words(m, sign_table(rng, m))
 
 
@@ -646,7 +655,7 @@ def leaf_dot(rng):
 
 
 def leaf_project(rng):
-    m, rank = size(rng, low=1, high=128), rng.randint(1, 32)
+    m, rank = shape(rng)
     return words(m, rank, factor(rng, m, rank))
 
 
@@ -657,22 +666,64 @@ def leaf_step(rng):
 
 def leaf_start(rng):
     kind, most = rng.randrange(3), rng.randrange(2)
-    m, rank = size(rng, low=1, high=128), rng.randint(1, 32)
+    m, rank = shape(rng)
     count = start_count(kind, most, m, rank)
     given = factor(rng, m, rank) if kind < 2 else numbers(rng, m) + numbers(rng, count - m)
     return words(kind, most, m, rank, given)
 
 
 def leaf_round(rng):
-    m, rank = size(rng, low=1, high=128), rng.randint(1, 32)
+    m, rank = shape(rng)
     return words(rank, m, factor(rng, m, rank), numbers(rng, rank))
 
 
 def leaf_rounded(rng):
-    m, rank, count = size(rng, low=1, high=128), rng.randint(1, 32), rng.randint(1, 8)
+    (m, rank), count = shape(rng), rng.randint(1, 8)
     draws = [x for _ in range(count) for x in numbers(rng, rank)]
     return " ".join([table_words(m, sign_table(rng, m)), words(rank, factor(rng, m, rank)),
                      words(count, draws)])
+
+
+def leaf_sols(rng):
+    (m, rank), count = shape(rng), rng.randint(0, 5)
+    draws = [x for _ in range(count) for x in numbers(rng, rank)]
+    return words(rank, m, factor(rng, m, rank), count, draws)
+
+
+def call(rng):
+    """Size, table, rank, factor of a call, and the rank that is meant; refused at times."""
+    m, rank = shape(rng)
+    rank = rng.choice([0, rank])
+    table = sign_table(rng, m)
+    spoiled = rng.random() < 0.2
+    if spoiled:
+        m = rng.choice([0, m, m, m, m, 129])
+        rank = rng.choice([rank, rank, 33])
+        table = spoil(rng, table, SIGN_LIMIT)
+    count = rng.choice([len(table)] * 8 + [4478, 4479]) if spoiled else len(table)
+    meant = rank or default_rank(min(m, 128))
+    lent = lent_slices(rng, table, count) if spoiled else [count] + [[e[k] for e in table] for k in range(3)]
+    room = rng.choice([0, 0, 0, 1, -1]) if spoiled else rng.choice([0, 0, 3])
+    f = (factor(rng, m, meant) + [bits(1.0)] * max(room, 0))[: max(0, m * meant + room)]
+    return [m, *lent, rank, f], m, meant, spoiled
+
+
+def answer_room(rng, m, spoiled):
+    return max(0, m + (rng.choice([0, 0, 0, 1, -1]) if spoiled else rng.choice([0, 0, 2])))
+
+
+def leaf_dual_call(rng):
+    given, m, _, spoiled = call(rng)
+    return words(*given, answer_room(rng, m, spoiled))
+
+
+def leaf_rounded_call(rng):
+    given, m, meant, spoiled = call(rng)
+    count = rng.choice([0, 1, 2, 1001, 2**64 - 1]) if spoiled and rng.random() < 0.3 else rng.randint(1, 6)
+    draws = [x for _ in range(min(count, 6)) for x in numbers(rng, meant)]
+    if spoiled and rng.random() < 0.2:
+        draws = draws[:-1]
+    return words(*given, count, draws, answer_room(rng, m, spoiled))
 
 
 def reduced_table(rng, size_, most=60):
@@ -786,6 +837,7 @@ LEAVES = {
     "decode": lambda rng: words(signs(rng, size(rng, low=1, high=128))),
     "beam": leaf_beam,
     "work": leaf_table,
+    "prepared": leaf_table,
     "dot": leaf_dot,
     "norm": lambda rng: words(numbers(rng, rng.randint(0, 32))),
     "project": leaf_project,
@@ -799,6 +851,9 @@ LEAVES = {
     "check": table_and_factor,
     "round": leaf_round,
     "rounded": leaf_rounded,
+    "sols": leaf_sols,
+    "dual_call": leaf_dual_call,
+    "rounded_call": leaf_rounded_call,
     "submatrix": leaf_submatrix,
     "lift": leaf_lift,
     "sign_table_number": leaf_sign_table_number,
@@ -812,6 +867,13 @@ def leaf_lines(rng, names, count):
     for k in range(count):
         name = names[k % len(names)]
         yield f"{name} {LEAVES[name](rng)}"
+
+
+def wide_lines(rng, name, count):
+    global WIDE
+    WIDE = True
+    yield from leaf_lines(rng, [name], count)
+    WIDE = False
 
 
 def doubles(*values):
@@ -1082,6 +1144,8 @@ def lines(kind, count, seed):
         return iter(list(leaf_edges())[:count])
     if kind.startswith("leaf-") and kind[5:] in LEAVES:
         return leaf_lines(rng, [kind[5:]], count)
+    if kind.startswith("wide-") and kind[5:] in LEAVES:
+        return wide_lines(rng, kind[5:], count)
     if kind == "run":
         return (line for _ in range(count) for line in script(rng))
     sys.exit(f"gen.py: no kind {kind!r}\n{__doc__}")

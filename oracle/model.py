@@ -655,6 +655,14 @@ def leaf_work(w):
     return out_table(set_aside(table)) + " " + out(diagonal(m, table))
 
 
+def leaf_prepared(w):
+    m, table = w.table()
+    work, values = set_aside(table), diagonal(m, table)
+    starts = [sum(i < k for i, _, _ in work) for k in range(m + 1)]
+    places = [i for i, _, _ in work], [j for _, j, _ in work]
+    return out(*places, [v / 8 for _, _, v in work], starts, values, total(values))
+
+
 def leaf_project(w):
     w.u()
     return out(flat(project(w.rows(w.u()))))
@@ -703,6 +711,55 @@ def leaf_rounded(w):
     w.u()
     x, o = round_all(table, factor, w.rows(rank))
     return out(sign_words(x), o)
+
+
+def leaf_sols(w):
+    rank = w.u()
+    w.u()
+    factor = w.rows(rank)
+    w.u()
+    return out([s for draw in w.rows(rank) for s in sign_words(round_draw(factor, draw))])
+
+
+def called(w):
+    """Size, entries, the rank meant, factor, and the numbers with their conditions, 31 apart."""
+    m = w.u()
+    count, entries, short = lent_entries(w)
+    rank, factor = w.u(), w.slice(w.f)
+    bad, wide = not 1 <= m <= 128, rank > 32
+    meant = rank or (0 if bad else default_rank(m))
+    short = count <= 4478 and short or not bad and not wide and len(factor) < m * meant
+    numbers = [
+        (13, lambda: bad or count > 4478),
+        (14, lambda: n14(m, entries)),
+        (15, lambda: n15(entries)),
+        (16, lambda: sum(abs(v) for _, _, v in entries) > 2**42),
+        (17, lambda: wide),
+    ]
+    rows = [] if bad or wide else [factor[i * meant : i * meant + meant] for i in range(m)]
+    return m, entries, rank, meant, rows, short, numbers
+
+
+def leaf_dual_call(w):
+    m, entries, _, _, rows, short, numbers = called(w)
+    room = w.u()
+    short = short or 1 <= m <= 128 and room < m
+    number = first((31, lambda: short), *numbers)
+    return out(number) if number else out(0, multipliers(entries, rows))
+
+
+def leaf_rounded_call(w):
+    m, entries, rank, meant, rows, short, numbers = called(w)
+    count, draws, room = w.u(), w.slice(w.f), w.u()
+    bad, none = not 1 <= m <= 128, not 1 <= count <= 1000
+    short = short or not bad and room < m
+    if not (none or rank > 32 or rank == 0 and bad):
+        short = short or len(draws) < count * meant
+    number = first((31, lambda: short), *numbers, (19, lambda: none))
+    if number:
+        return out(number)
+    x, o = round_all(entries, rows, [draws[k * meant : k * meant + meant] for k in range(count)])
+    return out(0, sign_words(x), o)
 
 
 def leaf_submatrix(w):
@@ -781,6 +838,7 @@ LEAVES = {
     "decode": lambda w: out(decode(w.signs())),
     "beam": leaf_beam,
     "work": leaf_work,
+    "prepared": leaf_prepared,
     "dot": lambda w: out(dot(w.slice(w.f), w.slice(w.f))),
     "norm": lambda w: out(norm(w.slice(w.f))),
     "project": leaf_project,
@@ -794,6 +852,9 @@ LEAVES = {
     "check": leaf_check,
     "round": leaf_round,
     "rounded": leaf_rounded,
+    "sols": leaf_sols,
+    "dual_call": leaf_dual_call,
+    "rounded_call": leaf_rounded_call,
     "submatrix": leaf_submatrix,
     "lift": leaf_lift,
     "sign_table_number": leaf_sign_table_number,

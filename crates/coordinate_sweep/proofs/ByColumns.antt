@@ -1,27 +1,28 @@
 -- The gradient of a row is one sum per column.
 --     block-start, block-next    a block of columns before the first entry, and after one more
 --     gradient-columns           the definition of the sweep, column by column
---     block-next-put             the turn of a loop over blocks
+--     first-block                a block at the start of a row
 -- Assumes nothing.
-use mathlib.Core.Path.{_≡_, refl, sym, ap, subst, _∙_}
+use mathlib.Core.Path.{_≡_, refl, sym, _∙_}
 use mathlib.Core.Bool.{Bool, true, false}
-use mathlib.Core.List.{List, _++_, append-assoc}
-use Prim.Native.Nat.{ℕ, zero, suc, _+_, _*_, _-_, _≤_, _<_}
-use native.Mathlib.Nat.{add-assoc}
-use native.Mathlib.Numerals.{add-one}
+use mathlib.Core.List.{List}
+use Prim.Native.Nat.{ℕ, zero, suc, _+_, _*_, _≤_, _<_}
+use native.Mathlib.Nat.{add-assoc, zero-add}
 use native.Mathlib.Omega.{arith}
+use native.Mathlib.Numerals.{add-one}
 use lib.Dec.{eqb}
 use lib.Ieee.{Float, nan}
-use lib.ListN.{length, getD, take, drop, replicate, take-append-drop}
-use lib.Seq.{getD-take, getD-drop, take-at, drop-at, drop-drop}
+use lib.ListN.{length, getD, set, take, drop, replicate}
+use lib.Seq.{getD-take, getD-drop}
 use Rattle.laws.specs.Rows.{mapFirst, rowOf}
 use Rattle.laws.specs.Lists.{tabulate, over}
-use Rattle.laws.proofs.MapFirst.{mapFirst-copy}
-use Rattle.laws.proofs.Made.{length-tabulate, tabulate-ext, tabulate-add, tabulate-replicate, mapFirst-tabulate}
+use Rattle.laws.proofs.Made.{length-tabulate, tabulate-all, tabulate-next, tabulate-ext, tabulate-replicate, mapFirst-tabulate}
 use Rattle.ieee.specs.Floats.{_-ᶠ_, _*ᶠ_, at, zero64}
 use Rattle.factor.specs.Vectors.{subScaled}
+use Rattle.factor.specs.Columns.{putBlock}
+use Rattle.factor.proofs.Written.{block-next-put}
 use Rattle.coordinate_sweep.specs.Sweep.{subEntry, gradientTo, gradientOf}
-use Rattle.coordinate_sweep.specs.Columns.{lessEntry, columnTo, columnOf, blockTo, blockEntry, putBlock}
+use Rattle.coordinate_sweep.specs.Columns.{lessEntry, columnTo, columnOf, blockTo, blockEntry}
 
 -- an entry's share off sums that are made by index
 entry-tabulate : (b : Bool) (weight : Float) (factor : List Float) (start width : ℕ) (f : ℕ → Float)
@@ -39,18 +40,6 @@ entry-block : (b : Bool) (weight : Float) (source : List Float) (width : ℕ) (f
 unfolding subScaled
 entry-block true weight source width f = refl
 entry-block false weight source width f = rw (length-tabulate f width)
-
--- sums that are made by index, copied over as many elements
-pub block-copied : (f : ℕ → Float) (n : ℕ) (out sums : List Float) → length out ≡ n → sums ≡ tabulate f n
-    → mapFirst (λ j old. at sums j) n out ≡ tabulate f n
-block-copied f n out sums l e =
-    subst (λ (k : ℕ). mapFirst (λ j old. at sums j) k out ≡ sums) l
-    (mapFirst-copy nan out sums (l ∙ sym (ap (λ (x : List Float). length x) e ∙ length-tabulate f n)))
-    ∙ e
-
--- a list whose first elements are made by index
-pub front-made : (f : ℕ → Float) (n : ℕ) (xs : List Float) → take n xs ≡ tabulate f n → xs ≡ over (tabulate f n) xs
-front-made f n xs e = rw (length-tabulate f n, ← e) (sym (take-append-drop n xs))
 
 module _ (cols : List ℕ) (values factor : List Float) (vertex rank : ℕ) where
   pub block-start : (offset width : ℕ) → replicate width zero64 ≡ blockTo cols values factor vertex rank offset width 0
@@ -82,28 +71,34 @@ module _ (cols : List ℕ) (values factor : List Float) (vertex rank : ℕ) wher
   unfolding gradientOf
   gradient-columns = gradientTo-columns (length cols)
 
--- the turn of a loop that has made the first n elements of g, which now is ys, by index, and writes a block of `width` elements that
--- starts among them and ends past them
-block-put : (f : ℕ → Float) (offset d e : ℕ) (g ys : List Float) → ys ≡ over (tabulate f (offset + d)) g
-    → putBlock (d + e) offset (tabulate (λ j. f (offset + j)) (d + e)) ys ≡ over (tabulate f (offset + (d + e))) g
-block-put f offset d e g ys h =
-    let s : List Float = tabulate (λ j. f (offset + j)) d ++ drop (offset + d) g in
-    let split : ys ≡ tabulate f offset ++ s =
-    h ∙ rw (length-tabulate f (offset + d), tabulate-add f offset d) (append-assoc (tabulate f offset) (tabulate (λ j. f (offset + j)) d) (drop (offset + d) g)) in
-    let front : take offset ys ≡ tabulate f offset = rw split (take-at (tabulate f offset) s offset (length-tabulate f offset)) in
-    let back : drop offset ys ≡ s = rw split (drop-at (tabulate f offset) s offset (length-tabulate f offset)) in
-    let rest : drop (d + e) s ≡ drop (offset + (d + e)) g =
-    sym (drop-drop e d s)
-    ∙ ap (drop e) (drop-at (tabulate (λ j. f (offset + j)) d) (drop (offset + d) g) d (length-tabulate (λ j. f (offset + j)) d))
-    ∙ drop-drop e (offset + d) g
-    ∙ ap (λ (k : ℕ). drop k g) (add-assoc offset d e) in
-    rw (front, back, rest, length-tabulate f (offset + (d + e)), tabulate-add f offset (d + e))
-    (sym (append-assoc (tabulate f offset) (tabulate (λ j. f (offset + j)) (d + e)) (drop (offset + (d + e)) g)))
+-- the first block of columns
+pub first-block : (f : ℕ → Float) (width : ℕ) (g : List Float) → putBlock width 0 (tabulate (λ j. f (0 + j)) width) g ≡ over (tabulate f width) g
+unfolding tabulate
+first-block f width g = rw zero-add at (block-next-put f 0 0 width g g (omega arith) (omega arith) refl)
 
-pub block-next-put : (f : ℕ → Float) (n offset width : ℕ) (g ys : List Float) → offset ≤ n → n ≤ offset + width → ys ≡ over (tabulate f n) g
-    → putBlock width offset (tabulate (λ j. f (offset + j)) width) ys ≡ over (tabulate f (offset + width)) g
-block-next-put f n offset width g ys h k e =
-    let p : offset + (n - offset) ≡ n = omega arith in
-    let q : (n - offset) + (offset + width - n) ≡ width = omega arith in
-    subst (λ (w : ℕ). putBlock w offset (tabulate (λ j. f (offset + j)) w) ys ≡ over (tabulate f (offset + w)) g) q
-    (block-put f offset (n - offset) (offset + width - n) g ys (rw p e))
+-- rows of one block, and of a block of 16 and a column
+module _ (cols : List ℕ) (values factor : List Float) (vertex : ℕ) where
+  pub one-block : (rank : ℕ) (g g′ : List Float) → length g ≡ rank → g′ ≡ putBlock rank 0 (blockTo cols values factor vertex rank 0 rank (length cols)) g
+      → g′ ≡ gradientOf cols values factor vertex rank
+  one-block rank g g′ l e =
+      e
+      ∙ first-block (columnOf cols values factor vertex rank) rank g
+      ∙ tabulate-all (columnOf cols values factor vertex rank) rank g l
+      ∙ sym (gradient-columns cols values factor vertex rank)
+
+  pub block-and-one : (g g′ : List Float) (x : Float) → length g ≡ 17 → g′ ≡ putBlock 16 0 (blockTo cols values factor vertex 17 0 16 (length cols)) g
+      → x ≡ columnOf cols values factor vertex 17 16 → set g′ 16 x ≡ gradientOf cols values factor vertex 17
+  block-and-one g g′ x l e h =
+      rw h (tabulate-next (columnOf cols values factor vertex 17) 16 g g′ nan (omega arith) (e ∙ first-block (columnOf cols values factor vertex 17) 16 g))
+      ∙ tabulate-all (columnOf cols values factor vertex 17) 17 g l
+      ∙ sym (gradient-columns cols values factor vertex 17)
+
+  -- the first columns and the last ones, which together are all
+  pub two-ends : (rank a b second : ℕ) (g g′ g″ : List Float) → length g ≡ rank → second + b ≡ rank → second ≤ a → a ≤ rank
+      → g′ ≡ putBlock a 0 (blockTo cols values factor vertex rank 0 a (length cols)) g
+      → g″ ≡ putBlock b second (blockTo cols values factor vertex rank second b (length cols)) g′ → g″ ≡ gradientOf cols values factor vertex rank
+  two-ends rank a b second g g′ g″ l s k m e h =
+      h
+      ∙ (rw s at (block-next-put (columnOf cols values factor vertex rank) a second b g g′ k (omega arith) (e ∙ first-block (columnOf cols values factor vertex rank) a g)))
+      ∙ tabulate-all (columnOf cols values factor vertex rank) rank g l
+      ∙ sym (gradient-columns cols values factor vertex rank)

@@ -1,10 +1,10 @@
 -- The gradient of a row by columns: one sum for each, from 0.0. Definitions only.
-use Prim.Native.Nat.{ℕ, zero, suc, _+_, _*_, _≤_, _<_}
+use Prim.Native.Nat.{ℕ, zero, suc, _+_, _*_}
 use mathlib.Core.Bool.{Bool, true, false}
-use mathlib.Core.List.{List, _++_}
+use mathlib.Core.List.{List}
 use lib.Dec.{eqb}
 use lib.Ieee.{Float}
-use lib.ListN.{length, getD, take, drop}
+use lib.ListN.{length, getD}
 use Rattle.laws.specs.Rows.{mapFirst}
 use Rattle.laws.specs.Lists.{tabulate}
 use Rattle.ieee.specs.Floats.{_-ᶠ_, _*ᶠ_, at, zero64}
@@ -33,7 +33,3 @@ blockTo cols values factor vertex rank offset width n =
 abbrev pub blockEntry : Bool → ℕ → Float → List Float → List Float → List Float
 blockEntry true width weight source sums = sums
 blockEntry false width weight source sums = mapFirst (λ j x. x -ᶠ weight *ᶠ at source j) width sums
-
--- g with a block of columns written from `offset` on
-abbrev pub putBlock : ℕ → ℕ → List Float → List Float → List Float
-putBlock width offset block g = take offset g ++ (block ++ drop width (drop offset g))

@@ -19,7 +19,7 @@ fn put_blocks16(cols: &[u16], values: &[f64], factor: &[f64], vertex: usize, g: 
     let rank = g.len();
     let mut offset = 0;
     while rank - offset >= 16 {
-        super::block16::put_block(cols, values, factor, vertex, offset, g);
+        super::block16::put_block(cols, values, factor, vertex, rank, offset, g);
         offset += 16;
     }
     offset
@@ -42,7 +42,7 @@ fn put_blocks4(
     let rank = g.len();
     let mut offset = first;
     while rank - offset >= 4 {
-        super::block4::put_block(cols, values, factor, vertex, offset, g);
+        super::block4::put_block(cols, values, factor, vertex, rank, offset, g);
         offset += 4;
     }
     offset
@@ -71,11 +71,11 @@ fn put_rest(
         g[first] = column(cols, values, factor, vertex, rank, first);
         return;
     }
-    super::block4::put_block(cols, values, factor, vertex, rank - 4, g);
+    super::block4::put_block(cols, values, factor, vertex, rank, rank - 4, g);
 }
 
-// The negated gradient of row `vertex` without its diagonal: one sum per column over the row's entries.
-pub fn gradient(cols: &[u16], values: &[f64], factor: &[f64], vertex: usize, g: &mut [f64])
+// The negated gradient of row `vertex` without its diagonal, at any rank.
+pub fn gradient_blocks(cols: &[u16], values: &[f64], factor: &[f64], vertex: usize, g: &mut [f64])
     requires { ⌜ length (now cols) ≡ length (now values) ⌝ }
     requires { ⌜ ColumnsWithin (now cols) (length (now g)) (now factor) ⌝ }
     ensures { λ _. ⌜ now (g .exit) ≡ gradientOf (now (cols .entry)) (now (values .entry)) (now (factor .entry)) vertex (length (now (g .entry))) ⌝ }

@@ -1,21 +1,31 @@
 // Rules 3 and 4: one coordinate sweep, each operation rounded once (001, `coordinate_sweep`).
 mod block4; // block4.rt: 4 columns of a row's gradient
+mod block8; // block8.rt: 8 columns
 mod block16; // block16.rt: 16 columns
+mod rank16; // rank16.rt: 16 columns at rank 16
+mod rank17; // rank17.rt: 16 columns at rank 17
 mod columns; // columns.rt: a column
-mod gradient; // gradient.rt: a row's gradient
+mod two_fours; // two_fours.rt: a row's gradient at ranks 5 to 8
+mod block20; // block20.rt: a row's gradient at ranks 17 to 20
+mod gradient; // gradient.rt: a row's gradient at any rank
+mod ranks; // ranks.rt: a row's gradient, some ranks by themselves
+mod pairs; // pairs.rt: two rows at once
 
 ghost use mathlib.Core.Path.{_≡_};
-ghost use Prim.Native.Nat.{_+_, _*_, _≤_};
+ghost use mathlib.Core.Bool.{false};
+ghost use Prim.Native.Nat.{_+_, _*_, _≤_, _<_};
 ghost use lib.ListN.{length, replicate};
 ghost use Rattle.ieee.specs.Floats.{zero64};
 ghost use Rattle.ieee.specs.Sqrt.{sqrtOf};
 ghost use Rattle.factor.specs.Norms.{squaredNorm};
 ghost use Rattle.factor.specs.Shapes.{RowFits, Shaped};
-ghost use Rattle.coordinate_sweep.specs.Sweep.{exactRow, momentumRow, normalized, wrote, updateRow, gradientAt, rowBy, sweptRow, sweepTo};
+ghost use Rattle.coordinate_sweep.specs.Sweep.{exactRow, momentumRow, normalized, wrote, updateRow, gradientAt, rowTo, sweptRow, meetsNext, SweepsOn, sweepTo};
 use factor::rows::clear;
 use factor::rows::scale;
 use factor::sums::squared_norm;
-use gradient::gradient;
+use pairs::next_apart;
+use pairs::renew_pair;
+use ranks::gradient;
 
 // The exact update: the gradient times `inv`.
 fn set_exact(row: &mut [f64], g: &[f64], inv: f64)
@@ -68,17 +78,33 @@ fn update_row(row: &mut [f64], g: &[f64], norm: f64, beta: f64) -> bool
     false
 }
 
-// Row i of the factor, lent on as the part that starts at i × rank, by its gradient g. Whether it was written.
-fn renew_row(factor: &mut [f64], g: &[f64], i: usize, beta: f64) -> bool
+// Row i of the factor, lent on as the part that starts at i × rank, by its gradient g, of norm `norm`. Whether it was written.
+fn update_at(factor: &mut [f64], g: &[f64], i: usize, norm: f64, beta: f64) -> bool
     requires { ⌜ i * length (now g) + length (now g) ≤ length (now factor) ⌝ }
-    ensures { λ r. ⌜ r ≡ wrote (sqrtOf (squaredNorm (now (g .entry)))) ⌝ }
-    ensures { λ _. ⌜ now (factor .exit) ≡ rowBy beta (now (g .entry)) (length (now (g .entry))) (now (factor .entry)) i ⌝ }
+    ensures { λ r. ⌜ r ≡ wrote norm ⌝ }
+    ensures { λ _. ⌜ now (factor .exit) ≡ rowTo (length (now (g .entry))) (now (factor .entry)) i (updateRow beta (now (g .entry)) norm) ⌝ }
 {
     let rank = g.len();
     let start = i * rank;
     let end = start + rank;
-    let norm = ieee::sqrt(squared_norm(g));
     update_row(&mut factor[start..end], g, norm, beta)
+}
+
+// The gradient of row i.
+fn gradient_at(
+    cols: &[u16],
+    values: &[f64],
+    starts: &[usize],
+    factor: &[f64],
+    i: usize,
+    g: &mut [f64],
+)
+    requires { ⌜ RowFits (now cols) (now values) (now starts) (now factor) (length (now g)) i ⌝ }
+    ensures { λ _. ⌜ now (g .exit) ≡ gradientAt (now (cols .entry)) (now (values .entry)) (now (starts .entry)) (length (now (g .entry))) (now (factor .entry)) i ⌝ }
+{
+    let lo = starts[i];
+    let hi = starts[i + 1];
+    gradient(&cols[lo..hi], &values[lo..hi], factor, i, g);
 }
 
 // Row i of the factor anew; g is left at its gradient. Whether the row was written.
@@ -96,13 +122,58 @@ fn sweep_row(
     ensures { λ _. ⌜ now (factor .exit) ≡ sweptRow (now (cols .entry)) (now (values .entry)) (now (starts .entry)) (length (now (g .entry))) beta (now (factor .entry)) i ⌝ }
     ensures { λ _. ⌜ now (g .exit) ≡ gradientAt (now (cols .entry)) (now (values .entry)) (now (starts .entry)) (length (now (g .entry))) (now (factor .entry)) i ⌝ }
 {
-    let lo = starts[i];
-    let hi = starts[i + 1];
-    gradient(&cols[lo..hi], &values[lo..hi], factor, i, g);
-    renew_row(factor, g, i, beta)
+    gradient_at(cols, values, starts, factor, i, g);
+    let norm = ieee::sqrt(squared_norm(g));
+    update_at(factor, g, i, norm, beta)
 }
 
-// One sweep over the m rows, the diagonal left out. The row g is left cleared.
+// Rows i and i + 1 of the factor anew, where no entry of the second lies in column i; g and h are left at their gradients.
+fn sweep_pair(
+    cols: &[u16],
+    values: &[f64],
+    starts: &[usize],
+    factor: &mut [f64],
+    g: &mut [f64],
+    h: &mut [f64],
+    i: usize,
+    beta: f64,
+)
+    requires { ⌜ RowFits (now cols) (now values) (now starts) (now factor) (length (now g)) i ⌝ }
+    requires { ⌜ RowFits (now cols) (now values) (now starts) (now factor) (length (now g)) (i + 1) ⌝ }
+    requires { ⌜ (length (now h) ≡ length (now g)) × (i < 65536) × (meetsNext (now cols) (now starts) i ≡ false) ⌝ }
+    ensures { λ _. ⌜ now (factor .exit) ≡ sweptRow (now (cols .entry)) (now (values .entry)) (now (starts .entry)) (length (now (g .entry))) beta
+        (sweptRow (now (cols .entry)) (now (values .entry)) (now (starts .entry)) (length (now (g .entry))) beta (now (factor .entry)) i) (i + 1) ⌝ }
+{
+    gradient_at(cols, values, starts, factor, i, g);
+    gradient_at(cols, values, starts, factor, i + 1, h);
+    renew_pair(factor, g, h, i, beta);
+}
+
+// Row i anew, and row i + 1 with it where that can be; the row after them.
+fn sweep_on(
+    cols: &[u16],
+    values: &[f64],
+    starts: &[usize],
+    m: usize,
+    factor: &mut [f64],
+    g: &mut [f64],
+    h: &mut [f64],
+    i: usize,
+    beta: f64,
+) -> usize
+    requires { ⌜ Shaped (now cols) (now values) (now starts) (now factor) m (length (now g)) ⌝ }
+    requires { ⌜ (length (now h) ≡ length (now g)) × (i < m) ⌝ }
+    ensures { λ r. ⌜ (i < r) × (r ≤ m) × SweepsOn (now (cols .entry)) (now (values .entry)) (now (starts .entry)) (length (now (g .entry))) beta i r (now (factor .entry)) (now (factor .exit)) ⌝ }
+{
+    if next_apart(cols, starts, m, i) {
+        sweep_pair(cols, values, starts, factor, g, h, i, beta);
+        return i + 2;
+    }
+    sweep_row(cols, values, starts, factor, g, i, beta);
+    i + 1
+}
+
+// One sweep over the m rows, the diagonal left out. The row g is left cleared; what is left in h is free.
 pub fn coordinate_sweep(
     cols: &[u16],
     values: &[f64],
@@ -110,16 +181,17 @@ pub fn coordinate_sweep(
     m: usize,
     factor: &mut [f64],
     g: &mut [f64],
+    h: &mut [f64],
     beta: f64,
 )
     requires { ⌜ Shaped (now cols) (now values) (now starts) (now factor) m (length (now g)) ⌝ }
+    requires { ⌜ length (now h) ≡ length (now g) ⌝ }
     ensures { λ _. ⌜ now (factor .exit) ≡ sweepTo (now (cols .entry)) (now (values .entry)) (now (starts .entry)) (length (now (g .entry))) beta (now (factor .entry)) m ⌝ }
     ensures { λ _. ⌜ now (g .exit) ≡ replicate (length (now (g .entry))) zero64 ⌝ }
 {
     let mut i = 0;
     while i < m {
-        sweep_row(cols, values, starts, factor, g, i, beta);
-        i += 1;
+        i = sweep_on(cols, values, starts, m, factor, g, h, i, beta);
     }
     clear(g);
 }

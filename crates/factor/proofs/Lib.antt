@@ -1,1 +1,3 @@
+mod ByColumns
 pub mod Shaping
+pub mod Written

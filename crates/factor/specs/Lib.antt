@@ -1,3 +1,4 @@
+pub mod Columns
 pub mod Multiply
 pub mod Norms
 pub mod Shapes

@@ -6,13 +6,14 @@ ghost use lib.ListN.{length};
 ghost use Rattle.laws.specs.Rows.{setRow};
 ghost use Rattle.factor.specs.Shapes.{ColumnsWithin, RowFits, Shaped};
 ghost use Rattle.factor.specs.Multiply.{productRow, productAt, productOf, gradOf};
+use super::blocks::multiply_blocks;
 use super::rows::add_scaled;
 use super::rows::clear;
 use super::rows::multiply_by;
 use super::rows::row;
 
-// One row of the matrix times the factor.
-fn multiply_row(cols: &[u16], values: &[f64], factor: &[f64], out: &mut [f64])
+// One row of the matrix times the factor, all columns at once: for ranks below the least block's width.
+fn multiply_plain(cols: &[u16], values: &[f64], factor: &[f64], out: &mut [f64])
     requires { ⌜ length (now cols) ≡ length (now values) ⌝ }
     requires { ⌜ ColumnsWithin (now cols) (length (now out)) (now factor) ⌝ }
     ensures { λ _. ⌜ now (out .exit) ≡ productRow (now (cols .entry)) (now (values .entry)) (now (factor .entry)) (length (now (out .entry))) ⌝ }
@@ -21,6 +22,19 @@ fn multiply_row(cols: &[u16], values: &[f64], factor: &[f64], out: &mut [f64])
     clear(out);
     for e in 0..cols.len() {
         add_scaled(out, values[e], row(factor, rank, cols[e] as usize));
+    }
+}
+
+// One row of the matrix times the factor.
+fn multiply_row(cols: &[u16], values: &[f64], factor: &[f64], out: &mut [f64])
+    requires { ⌜ length (now cols) ≡ length (now values) ⌝ }
+    requires { ⌜ ColumnsWithin (now cols) (length (now out)) (now factor) ⌝ }
+    ensures { λ _. ⌜ now (out .exit) ≡ productRow (now (cols .entry)) (now (values .entry)) (now (factor .entry)) (length (now (out .entry))) ⌝ }
+{
+    if out.len() < 4 {
+        multiply_plain(cols, values, factor, out);
+    } else {
+        multiply_blocks(cols, values, factor, out);
     }
 }
 

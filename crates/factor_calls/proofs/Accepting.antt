@@ -23,7 +23,7 @@ use Rattle.tables.specs.Check.{Accepted, shortTable}
 use Rattle.tables.specs.Rank.{leastRoot, defaultRank}
 use Rattle.tables.proofs.Checks.{long-enough, table-lent, table-accepted}
 use Rattle.tables.proofs.Ranks.{root-least}
-use Rattle.run_record.specs.Limits.{mostRank, mostDraws}
+use Rattle.run_limits.specs.Limits.{mostRank, mostDraws}
 use Rattle.table_calls.specs.Numbers.{badSigns, signTableNumber}
 use Rattle.table_calls.proofs.Accepting.{signs-passes, signs-parts}
 use Rattle.factor_calls.specs.Numbers.{rankMeant, badRank, badDraws, factorRefused, factorShort, drawsRefused, drawsShort, roundedShort, roundedNumber, dualShort, dualNumber}

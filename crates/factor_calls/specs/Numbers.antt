@@ -10,7 +10,7 @@ use Rattle.laws.specs.Refusal.{_if_, first, anyOf, short}
 use Rattle.tables.specs.Limits.{mostSignEntries}
 use Rattle.tables.specs.Check.{shortTable}
 use Rattle.tables.specs.Rank.{defaultRank}
-use Rattle.run_record.specs.Limits.{mostRank, mostDraws}
+use Rattle.run_limits.specs.Limits.{mostRank, mostDraws}
 use Rattle.table_calls.specs.Numbers.{badSigns, signTableNumber}
 
 -- the rank as given; 0 means the default rank of m

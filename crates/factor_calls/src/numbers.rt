@@ -1,6 +1,6 @@
 // The numbers of the calls, in 01's order: 31, 13 to 16, 17, 19.
-use run_record::MOST_DRAWS;
-use run_record::MOST_RANK;
+use run_limits::MOST_DRAWS;
+use run_limits::MOST_RANK;
 use tables::check::short_table;
 use tables::check::table_number;
 use tables::check::too_short;
@@ -13,7 +13,7 @@ ghost use mathlib.Core.Path.{_≡_};
 ghost use Prim.Native.Nat.{_≤_};
 ghost use lib.ListN.{length};
 ghost use Rattle.tables.specs.Limits.{mostSigns};
-ghost use Rattle.run_record.specs.Limits.{mostRank};
+ghost use Rattle.run_limits.specs.Limits.{mostRank};
 ghost use Rattle.table_calls.specs.Numbers.{badSigns};
 ghost use Rattle.factor_calls.specs.Numbers.{rankMeant, badRank, badDraws, factorShort, drawsRefused, drawsShort, roundedShort, roundedNumber, dualShort, dualNumber};
 

@@ -35,7 +35,7 @@ use Rattle.sign_table.proofs.Theorems.{house-sign-table}
 use Rattle.prepared_table.specs.Work.{diagonalSum}
 use Rattle.maxcut_oracle.specs.Table.{dualVariables}
 use Rattle.finalize.specs.Finalize.{choiceOf, floorEighths, floatBound, diagonalTotal, multipliersOf, roundedSigns, roundedCost, searched, searchedChoice, searchedCost, searchedRounds}
-use Rattle.finalize.specs.Limits.{mostWidth, searchSpace}
+use Rattle.run_limits.specs.Limits.{mostWidth, searchWorkspace}
 use Rattle.finalize.specs.Contracts.{Fits, SearchFits, Chooses, Works, Finalizes}
 
 module _ {A : Type 0} where
@@ -79,7 +79,7 @@ module _ {m : ℕ} {t : Table} (ok : Accepted mostSigns mostSignEntries mostSign
   pub sound : {len : ℕ} → len ≡ m → Sound len t
   sound e = rw e (record { mirrors = accepted-mirrors ok; climbs = rising-climbs t (ok .rising); small = ok .magnitude })
 
-  pub room : {len width space : ℕ} → len ≡ m → width ≤ mostWidth → searchSpace ≤ space → Room 128 len width space
+  pub room : {len width space : ℕ} → len ≡ m → width ≤ mostWidth → searchWorkspace ≤ space → Room 128 len width space
   room e w s = rw e (record { signs-few = ok .signs; width-few = w; level-room = s })
 
   -- an objective is an i64

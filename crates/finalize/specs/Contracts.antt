@@ -11,7 +11,7 @@ use Rattle.prepared_table.specs.Work.{diagonalSum}
 use Rattle.maxcut_oracle.specs.Table.{dualVariables}
 use Rattle.rounding.specs.Rounding.{roundedSol}
 use Rattle.sign_search.specs.Search.{objectiveIn, beamSearch}
-use Rattle.finalize.specs.Limits.{mostRank, mostDraws, mostWidth, searchSpace}
+use Rattle.run_limits.specs.Limits.{mostRank, mostDraws, mostWidth, searchWorkspace}
 use Rattle.finalize.specs.Finalize.{choiceOf, floorEighths, floatBound, diagonalTotal, multipliersOf, roundedCost, searchedChoice, searchedCost, searchedRounds}
 
 -- the settings are accepted, and the slices, of these lengths, long enough
@@ -25,7 +25,7 @@ pub record Fits (n rank width drawCount : ℕ) (draws factor b multipliers works
   pub factor-room : suc n * rank ≤ factor
   pub b-room : n ≤ b
   pub multipliers-room : suc n ≤ multipliers
-  pub space-room : searchSpace ≤ workspace
+  pub space-room : searchWorkspace ≤ workspace
 
 -- every figure is 01's; the choice and the multipliers stand at the front of their slices, whose tails stay
 pub record Finalizes (n : ℕ) (h : Table) (c : ℕ → ℤ) (rank width drawCount : ℕ) (draws factor : List Float) (b b′ : List ℕ) (multipliers multipliers′ : List Float)
@@ -48,7 +48,7 @@ pub record SearchFits (n rank width drawCount : ℕ) (draws factor b workspace :
   pub draws-room : drawCount * rank ≤ draws
   pub factor-room : suc n * rank ≤ factor
   pub b-room : n ≤ b
-  pub space-room : searchSpace ≤ workspace
+  pub space-room : searchWorkspace ≤ workspace
 
 -- the rounded choice's cost; the search's choice, its cost and its rounds
 pub record Chooses (t : Table) (n rank width drawCount : ℕ) (draws factor : List Float) (b b′ : List ℕ) (rounded cost : ℤ) (rounds : ℕ) : Type 0 where

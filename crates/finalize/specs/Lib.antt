@@ -1,4 +1,3 @@
-pub mod Limits
 pub mod Finalize
 pub mod Demand3
 pub mod Contracts

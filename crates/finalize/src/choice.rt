@@ -9,7 +9,7 @@ ghost use lib.ListN.{length};
 ghost use Rattle.tables.specs.Table.{tableOf, Lent};
 ghost use Rattle.tables.specs.Check.{Accepted};
 ghost use Rattle.tables.specs.Limits.{mostSigns, mostSignEntries, mostSignMagnitude};
-ghost use Rattle.finalize.specs.Limits.{mostRank};
+ghost use Rattle.run_limits.specs.Limits.{mostRank};
 ghost use Rattle.finalize.specs.Contracts.{SearchFits, Chooses};
 
 // The cost of the rounded choice, that of the search's answer, and the rounds.

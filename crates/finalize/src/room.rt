@@ -1,13 +1,12 @@
 // Arrays for the sign table, for what is made of it and for the signs, of which the first places are used.
+use run_limits::MOST_RANK;
 use tables::limits::MOST_SIGN_ENTRIES;
 use tables::limits::MOST_SIGNS;
 ghost use mathlib.Core.Path.{_≡_};
 ghost use Prim.Native.Nat.{_+_, _*_};
 ghost use lib.ListN.{length};
 ghost use Rattle.tables.specs.Limits.{mostSigns, mostSignEntries};
-ghost use Rattle.finalize.specs.Limits.{mostRank};
-
-const MOST_RANK: usize = 32;
+ghost use Rattle.run_limits.specs.Limits.{mostRank};
 
 const ROW_STARTS: usize = MOST_SIGNS + 1;
 

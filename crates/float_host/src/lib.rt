@@ -1,5 +1,7 @@
 // The float functions as a host calls them, to hold them to stored answers of the Rust (host/) and to measure them (bench/); no
 // other host has a use for this crate. A host meets each `requires` by the shape of its cases.
+pub mod calls; // calls.rt: the prepared table, the rounding, the calls that take a factor
+
 ghost use mathlib.Core.Path.{_≡_};
 ghost use Prim.Native.Nat.{_*_, _≤_};
 ghost use lib.ListN.{length};

@@ -25,7 +25,8 @@ use Rattle.tables.specs.Check.{badEntry, badOrder, unmirrored, hallMagnitude, h
 use Rattle.job_reader.specs.Bytes.{bigEndian}
 use Rattle.job_reader.specs.Encode.{bytesOf}
 use Rattle.job_reader.proofs.Encode.{length-bytesOf, read-bytes}
-use Rattle.job_record.specs.Limits.{mostBytes, mostRank, lastRule, mostWidth, lastStart, mostDraws}
+use Rattle.run_limits.specs.Limits.{mostRank, mostWidth, mostDraws}
+use Rattle.job_record.specs.Limits.{mostBytes, lastRule, lastStart}
 use Rattle.job_record.specs.Fields.{restLength, version, wagons, entryCount, entryAt, row, column, value, entries, signedFrom, settingsAfter, rankAt, ruleAt, ruleNumberAt, startAt, widthAt, rankMeant, rankOf, drawsAfter}
 use Rattle.job_record.specs.Number.{past, bounded, frameNumber, versionNumber, entryNumber, isMomentum, momentumNumber, headNumbers, entriesNumbers, costsNumbers, settingsNumbers, drawsNumbers, runNumbers, jobNumber}
 use Rattle.job_record.specs.Values.{settingsOf, drawsOf, jobCost}

@@ -12,7 +12,8 @@ use Rattle.laws.proofs.Refusal.{clear, both, first-head, first-rest}
 use Rattle.laws.proofs.Following.{first-append}
 use Rattle.tables.specs.Limits.{mostWagons, mostEntries}
 use Rattle.job_reader.specs.Bytes.{bigEndian}
-use Rattle.job_record.specs.Limits.{mostBytes, mostRank, lastRule, mostWidth, lastStart, mostDraws}
+use Rattle.run_limits.specs.Limits.{mostRank, mostWidth, mostDraws}
+use Rattle.job_record.specs.Limits.{mostBytes, lastRule, lastStart}
 use Rattle.job_record.specs.Fields.{restLength, wagons, entryCount, rankAt, ruleAt, ruleNumberAt, widthAt, startAt, rankOf, drawsAfter}
 use Rattle.job_record.specs.Number.{past, bounded, frameNumber, headNumbers, isMomentum, momentumNumber, settingsNumbers, drawsNumbers, runNumbers}
 use Rattle.job_record.proofs.Bounded.{bounded-passed}

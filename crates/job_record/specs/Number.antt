@@ -11,7 +11,8 @@ use Rattle.ieee.specs.Floats.{zero64, one64}
 use Rattle.tables.specs.Limits.{mostWagons, mostEntries, mostMagnitude}
 use Rattle.tables.specs.Check.{badEntry, unmirrored, hallMagnitude}
 use Rattle.job_reader.specs.Bytes.{bigEndian}
-use Rattle.job_record.specs.Limits.{mostBytes, mostRank, lastRule, mostWidth, lastStart, mostDraws}
+use Rattle.run_limits.specs.Limits.{mostRank, mostWidth, mostDraws}
+use Rattle.job_record.specs.Limits.{mostBytes, lastRule, lastStart}
 use Rattle.job_record.specs.Fields.{restLength, version, wagons, entryCount, entryAt, row, column, entries, signedFrom, settingsAfter, rankAt, ruleAt, ruleNumberAt, startAt, rankOf, drawsAfter}
 
 -- the record ends before `end`

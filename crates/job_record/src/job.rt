@@ -13,7 +13,8 @@ ghost use Prim.Native.Nat.{ℕ, _+_, _*_, _≤_, _<_};
 ghost use lib.ListN.{length};
 ghost use Rattle.laws.specs.Lists.{fill};
 ghost use Rattle.tables.specs.Limits.{mostWagons, mostEntries};
-ghost use Rattle.job_record.specs.Limits.{mostBytes, mostRank, mostStart, mostDrawn};
+ghost use Rattle.run_limits.specs.Limits.{mostRank};
+ghost use Rattle.job_record.specs.Limits.{mostBytes, mostStart, mostDrawn};
 ghost use Rattle.job_record.specs.Fields.{row, column, value};
 ghost use Rattle.job_record.specs.Number.{jobNumber};
 ghost use Rattle.job_record.specs.Values.{settingsOf, drawsOf, jobOf, jobRank, jobStartCount, jobStart, jobDrawn, jobDraw, Stored};
@@ -43,7 +44,7 @@ fn settings_at(job: &[u8]) -> usize
 }
 
 // The rank that the job's means.
-fn job_rank(job: &[u8]) -> usize
+pub fn job_rank(job: &[u8]) -> usize
     requires { ⌜ jobNumber (now job) ≡ 0 ⌝ }
     ensures { λ r. ⌜ (r ≡ jobRank (now (job .entry))) × (r ≤ mostRank) ⌝ }
 {
@@ -52,7 +53,7 @@ fn job_rank(job: &[u8]) -> usize
 }
 
 // How many doubles its start has.
-fn job_start_count(job: &[u8]) -> usize
+pub fn job_start_count(job: &[u8]) -> usize
     requires { ⌜ jobNumber (now job) ≡ 0 ⌝ }
     ensures { λ r. ⌜ (r ≡ jobStartCount (now (job .entry))) × (r ≤ mostStart) ⌝ }
 {

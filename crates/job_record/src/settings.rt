@@ -16,7 +16,8 @@ ghost use Prim.Native.Nat.{ℕ, _+_, _*_, _≤_, _<_};
 ghost use lib.ListN.{length};
 ghost use Rattle.laws.specs.Refusal.{first};
 ghost use Rattle.tables.specs.Limits.{mostWagons, mostSigns};
-ghost use Rattle.job_record.specs.Limits.{mostBytes, mostRank, mostStart};
+ghost use Rattle.run_limits.specs.Limits.{mostRank};
+ghost use Rattle.job_record.specs.Limits.{mostBytes, mostStart};
 ghost use Rattle.job_record.specs.Fields.{rankMeant, startCount};
 ghost use Rattle.job_record.specs.Number.{bounded, isMomentum, momentumNumber, settingsNumbers, drawsNumbers, runNumbers};
 

@@ -16,7 +16,7 @@ use Rattle.tables.proofs.Checks.{hall-accepted}
 use Rattle.initialize.specs.Initialize.{startCount}
 use Rattle.run_record.specs.declared.Run.{Run}
 use Rattle.run_record.specs.CostTable.{CostTable, quadratic, linear}
-use Rattle.run_record.specs.Limits.{mostRank, mostWidth, mostDraws}
+use Rattle.run_limits.specs.Limits.{mostRank, mostWidth, mostDraws}
 use Rattle.run_record.specs.Numbers.{tableShort, factorRefused, factorShort, recordRefused, sweepShort, sweepNumber, drawsRefused, drawsShort, choiceShort, FinishLengths, finishShort, widthRefused, finishNumber, openRankRefused, startLength, startShort, openFactorShort, openShort, openNumber, ruleRefused}
 use Rattle.run_record.proofs.Short.{tested}
 use Rattle.run_record.proofs.Holds.{table-lent, costs-lent}

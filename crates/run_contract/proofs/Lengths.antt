@@ -21,7 +21,7 @@ use Rattle.sign_table.specs.SignTable.{signTable}
 use Rattle.factor.specs.Norms.{squaredNorm}
 use Rattle.factor.specs.Vectors.{subScaled, scaled, multiplied, divided, unit, unitRow, projected}
 use Rattle.factor.specs.Multiply.{gradOf}
-use Rattle.coordinate_sweep.specs.Sweep.{exactRow, momentumRow, normalized, pickRow, wrote, updateRow, gradientAt, rowBy, sweptRow, sweepTo}
+use Rattle.coordinate_sweep.specs.Sweep.{exactRow, momentumRow, normalized, pickRow, wrote, updateRow, gradientAt, rowTo, rowBy, sweptRow, sweepTo}
 use Rattle.step_rules.specs.declared.StepRule.{StepRule}
 use Rattle.step_rules.specs.declared.StepRule.the-variants.{Grad, GradAdv, Coord, CoordNoStep, CoordMomentum}
 use Rattle.step_rules.specs.Steps.{gradStep, advAlpha, advBy, advStep, neighboursAt, coordBy, coordRow, coordTo}
@@ -76,7 +76,7 @@ unfolding updateRow
 length-updated beta g norm row = length-picked (wrote norm) (Ieee.eq beta zero64) g (one64 /ᶠ norm) beta row
 
 length-rowBy : (beta : Float) (g : List Float) (rank : ℕ) (factor : List Float) (i : ℕ) → length (rowBy beta g rank factor i) ≡ length factor
-unfolding rowBy
+unfolding rowBy rowTo
 length-rowBy beta g rank factor i =
     let row = rowOf rank factor i in
     let norm = sqrtOf (squaredNorm g) in

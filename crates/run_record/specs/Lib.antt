@@ -1,4 +1,3 @@
-pub mod Limits
 pub mod CostTable
 pub mod Numbers
 pub mod Lengths

@@ -15,7 +15,7 @@ use Rattle.ieee.specs.Floats.{zero64, one64}
 use Rattle.tables.specs.Limits.{mostWagons, mostEntries, mostMagnitude}
 use Rattle.tables.specs.Check.{hallNumber, shortTable}
 use Rattle.tables.specs.Rank.{defaultRank}
-use Rattle.run_record.specs.Limits.{mostRank, mostWidth, mostDraws, finishWorkspace}
+use Rattle.run_limits.specs.Limits.{mostRank, mostWidth, mostDraws, searchWorkspace}
 use Rattle.run_record.specs.CostTable.{CostTable, quadratic, linear}
 
 abbrev pub isStopped : Stage → Bool
@@ -104,7 +104,7 @@ finishShort run t drawCount lent =
     ∷ drawsShort (run .rank) drawCount (lent .draws)
     ∷ factorShort (t .n) (run .size) (run .rank) (lent .factor)
     ∷ choiceShort (t .n) (lent .b) (lent .dual)
-    ∷ ltb (lent .workspace) finishWorkspace
+    ∷ ltb (lent .workspace) searchWorkspace
     ∷ [])
 
 -- 19: the width or the draws

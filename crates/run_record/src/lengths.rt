@@ -6,9 +6,9 @@ ghost use Rattle.run_record.specs.CostTable.{costTable};
 ghost use Rattle.run_record.specs.Lengths.{lengthsOf};
 ghost use Rattle.run_record.specs.Numbers.{tableShort, factorShort, sweepShort, drawsShort, choiceShort, finishShort, resolvedRank, openRankRefused, startLength, startShort, openFactorShort, openShort};
 use super::Run;
-use super::FINISH_WORKSPACE;
-use super::MOST_DRAWS;
-use super::MOST_RANK;
+use run_limits::SEARCH_WORKSPACE;
+use run_limits::MOST_DRAWS;
+use run_limits::MOST_RANK;
 use tables::check::short_table;
 use tables::check::too_short;
 use tables::limits;
@@ -122,7 +122,7 @@ pub fn finish_short(
     if choice_short(n, lent.b, lent.dual) {
         return true;
     }
-    lent.workspace < FINISH_WORKSPACE
+    lent.workspace < SEARCH_WORKSPACE
 }
 
 // The rank that is meant: 0 is the default of m.

@@ -8,16 +8,6 @@ ghost use mathlib.Core.Bool.{not, _&&_};
 ghost use Rattle.run_record.specs.Numbers.{isStopped};
 use step_rules::StepRule;
 
-// 01's limits of a run and of a finish.
-pub const MOST_RANK: usize = 32;
-
-pub const MOST_WIDTH: usize = 128;
-
-pub const MOST_DRAWS: usize = 1000;
-
-// The bytes of workspace that a finish asks.
-pub const FINISH_WORKSPACE: usize = 16384;
-
 pub enum Stage {
     Open,
     Stopped,

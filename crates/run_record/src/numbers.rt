@@ -12,9 +12,9 @@ use super::lengths::sweep_short;
 use super::lengths::FinishSlices;
 use super::open_and;
 use super::Run;
-use super::MOST_DRAWS;
-use super::MOST_RANK;
-use super::MOST_WIDTH;
+use run_limits::MOST_DRAWS;
+use run_limits::MOST_RANK;
+use run_limits::MOST_WIDTH;
 use step_rules::StepRule;
 use tables::limits;
 

@@ -5,6 +5,7 @@ use mathlib.Core.List.{List, [], _∷_}
 use lib.Dec.{ltb}
 use Rattle.laws.specs.Lists.{elem, tabulate}
 use Rattle.laws.specs.Refusal.{_if_, first, anyOf, short}
+use Rattle.run_limits.specs.Limits.{mostWidth, searchWorkspace}
 use Rattle.tables.specs.Table.{Table}
 use Rattle.tables.specs.Check.{tableNumber}
 
@@ -17,7 +18,7 @@ pub record Limits : Type 0 where
   pub workspace : ℕ
 
 abbrev pub baseLimits : Limits
-baseLimits = record { signs = 128; entries = 4478; magnitude = 2 ^ 42; width = 128; workspace = 16384 }
+baseLimits = record { signs = 128; entries = 4478; magnitude = 2 ^ 42; width = mostWidth; workspace = searchWorkspace }
 
 -- 31, from the lengths of what is lent: the table's slices rest on the count, those of signs on m, the workspace on nothing
 unfoldable pub searchShort : Limits → ℕ → ℕ → ℕ → ℕ → ℕ → ℕ → ℕ → ℕ → Bool

@@ -1,4 +1,6 @@
 // The numbers of the call: 31, 13 to 16, 19. Nothing is written.
+use run_limits::MOST_WIDTH;
+use run_limits::SEARCH_WORKSPACE;
 use tables::check::table_number;
 ghost use mathlib.Core.Path.{_≡_};
 ghost use lib.ListN.{length};
@@ -12,10 +14,6 @@ const MOST_SIGNS: usize = 128;
 const MOST_ENTRIES: usize = 4478;
 
 const MOST_MAGNITUDE: u64 = 4398046511104;
-
-const MOST_WIDTH: usize = 128;
-
-const WORKSPACE: usize = 16384;
 
 fn above(limit: usize, x: usize) -> bool
     ensures { λ r. ⌜ r ≡ ltb limit x ⌝ }
@@ -62,7 +60,7 @@ fn slices_short(
     if is_short(signs, m, out) {
         return true;
     }
-    is_short(false, WORKSPACE, workspace)
+    is_short(false, SEARCH_WORKSPACE, workspace)
 }
 
 // The first number that applies; the lengths are those of the other slices.

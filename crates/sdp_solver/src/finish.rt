@@ -6,7 +6,62 @@ use run_record::lengths::FinishSlices;
 use run_record::numbers::finish_number;
 use run_record::Run;
 ghost use Rattle.run_record.specs.CostTable.{costTable};
-ghost use Rattle.run_contract.specs.Calls.{Finishes};
+ghost use mathlib.Core.Path.{_≡_};
+ghost use Rattle.run_record.specs.Numbers.{finishNumber};
+ghost use Rattle.run_contract.specs.declared.Finished.the-variants.{Result};
+ghost use Rattle.run_contract.specs.Calls.{finishLengths, Finishes};
+
+// Finishes a stopped run that nothing refuses.
+pub fn finish_accepted(
+    run: Run,
+    n: usize,
+    count: usize,
+    rows: &[u16],
+    cols: &[u16],
+    values: &[i64],
+    c: &[i64],
+    width: usize,
+    draw_count: usize,
+    draws: &[f64],
+    factor: &[f64],
+    b: &mut [u8],
+    dual_variables: &mut [f64],
+    workspace: &mut [u8],
+) -> FinishResult
+    requires { ⌜ finishNumber run (costTable n count (now rows) (now cols) (now values) (now c)) width «draw_count» (finishLengths (now draws) (now factor) (now b) (now «dual_variables») (now workspace)) ≡ 0 ⌝ }
+    ensures { λ r. ⌜ Finishes run (costTable n count (now (rows .entry)) (now (cols .entry)) (now (values .entry)) (now (c .entry))) width «draw_count» (now (draws .entry)) (now (factor .entry)) (now (b .entry)) (now («dual_variables» .entry)) (now (workspace .entry))
+        (Result r) (now (b .exit)) (now («dual_variables» .exit)) (now (workspace .exit)) ⌝ }
+{
+    let rank = run.rank;
+    let figures = finalize(
+        n,
+        count,
+        rows,
+        cols,
+        values,
+        c,
+        rank,
+        width,
+        draw_count,
+        draws,
+        factor,
+        b,
+        dual_variables,
+        workspace,
+    );
+    FinishResult {
+        status: run.status,
+        rank,
+        n,
+        sweeps: run.sweeps,
+        relaxed_objective: run.last_objective + figures.diagonal_sum,
+        float_bound: figures.float_bound,
+        floor: figures.floor,
+        rounded_cost: figures.rounded_cost,
+        cost: figures.cost,
+        rounds: figures.rounds,
+    }
+}
 
 // Finishes a stopped run over the table given; it changes no run record and no factor, and may be repeated.
 pub fn finish(
@@ -39,15 +94,14 @@ pub fn finish(
     if number != 0 {
         return Finished::Refused(number);
     }
-    let rank = run.rank;
-    let figures = finalize(
+    Finished::Result(finish_accepted(
+        run,
         n,
         count,
         rows,
         cols,
         values,
         c,
-        rank,
         width,
         draw_count,
         draws,
@@ -55,17 +109,5 @@ pub fn finish(
         b,
         dual_variables,
         workspace,
-    );
-    Finished::Result(FinishResult {
-        status: run.status,
-        rank,
-        n,
-        sweeps: run.sweeps,
-        relaxed_objective: run.last_objective + figures.diagonal_sum,
-        float_bound: figures.float_bound,
-        floor: figures.floor,
-        rounded_cost: figures.rounded_cost,
-        cost: figures.cost,
-        rounds: figures.rounds,
-    })
+    ))
 }

@@ -17,7 +17,8 @@ ghost use lib.ListN.{length};
 ghost use Rattle.maxcut_oracle.specs.Table.{workObjective};
 ghost use Rattle.run_record.specs.CostTable.{costTable};
 ghost use Rattle.run_sweep.specs.Work.{signsOf};
-ghost use Rattle.run_contract.specs.Calls.{firstStage, settingsOf, Opens};
+ghost use Rattle.run_contract.specs.Calls.{firstStage, settingsOf, openNumberOf, Opens};
+ghost use Rattle.run_contract.specs.declared.Opened.the-variants.{Started};
 ghost use Rattle.sdp_solver.specs.Usable.{Usable};
 
 fn first_stage(most: u32) -> Stage
@@ -66,7 +67,51 @@ fn first_objective(
     obj(&work_rows[..stay], &work_cols[..stay], &work_values[..stay], factor, rank)
 }
 
-// Opens a run: `number` is the rule's, `numbers` are the start's; the factor takes m rows of the rank that is meant.
+// Opens a run that nothing refuses; the factor takes m rows of the rank that is meant.
+pub fn open_accepted(
+    n: usize,
+    count: usize,
+    rows: &[u16],
+    cols: &[u16],
+    values: &[i64],
+    c: &[i64],
+    rank: usize,
+    rule: u8,
+    number: f64,
+    most: u32,
+    minimum: u32,
+    objective_tolerance: f64,
+    stationarity_tolerance: f64,
+    start: u8,
+    numbers: &[f64],
+    factor: &mut [f64],
+) -> Run
+    requires { ⌜ openNumberOf (settingsOf (costTable n count (now rows) (now cols) (now values) (now c)) rank rule number most minimum «objective_tolerance» «stationarity_tolerance» start (now numbers)) (length (now factor)) ≡ 0 ⌝ }
+    ensures { λ r. ⌜ Opens (settingsOf (costTable n count (now (rows .entry)) (now (cols .entry)) (now (values .entry)) (now (c .entry))) rank rule number most minimum «objective_tolerance» «stationarity_tolerance» start (now (numbers .entry))) (now (factor .entry)) (Started r) (now (factor .exit)) ⌝ }
+{
+    let size = n + 1;
+    let meant = resolved_rank(rank, size);
+    let used = size * meant;
+    prepare_initial_factor(start == 2, takes_draws(most, meant), numbers, meant, size, factor);
+    let last_objective = first_objective(n, count, rows, cols, values, c, meant, &factor[..used]);
+    let step = rule_of(rule, number);
+    let stage = first_stage(most);
+    Run {
+        size,
+        rank: meant,
+        rule: step,
+        sweeps: 0,
+        last_objective,
+        objective_tolerance,
+        stationarity_tolerance,
+        most,
+        minimum,
+        stage,
+        status: 0,
+    }
+}
+
+// Opens a run: `number` is the rule's, `numbers` are the start's.
 pub fn open(
     n: usize,
     count: usize,
@@ -85,31 +130,28 @@ pub fn open(
     numbers: &[f64],
     factor: &mut [f64],
 ) -> Opened
-    ensures { λ r. ⌜ Opens (settingsOf (costTable n count (now (rows .entry)) (now (cols .entry)) (now (values .entry)) (now (c .entry))) rank rule number most minimum «objective_tolerance» «stationarity_tolerance» start (now (numbers .entry)))
-        (now (factor .entry)) r (now (factor .exit)) ⌝ }
+    ensures { λ r. ⌜ Opens (settingsOf (costTable n count (now (rows .entry)) (now (cols .entry)) (now (values .entry)) (now (c .entry))) rank rule number most minimum «objective_tolerance» «stationarity_tolerance» start (now (numbers .entry))) (now (factor .entry)) r (now (factor .exit)) ⌝ }
 {
     let refusal = open_number(n, count, rows, cols, values, c, rank, rule, number, most, start, numbers.len(), factor.len());
     if refusal != 0 {
         return Opened::Refused(refusal);
     }
-    let size = n + 1;
-    let meant = resolved_rank(rank, size);
-    let used = size * meant;
-    prepare_initial_factor(start == 2, takes_draws(most, meant), numbers, meant, size, factor);
-    let last_objective = first_objective(n, count, rows, cols, values, c, meant, &factor[..used]);
-    let step = rule_of(rule, number);
-    let stage = first_stage(most);
-    Opened::Started(Run {
-        size,
-        rank: meant,
-        rule: step,
-        sweeps: 0,
-        last_objective,
-        objective_tolerance,
-        stationarity_tolerance,
+    Opened::Started(open_accepted(
+        n,
+        count,
+        rows,
+        cols,
+        values,
+        c,
+        rank,
+        rule,
+        number,
         most,
         minimum,
-        stage,
-        status: 0,
-    })
+        objective_tolerance,
+        stationarity_tolerance,
+        start,
+        numbers,
+        factor,
+    ))
 }

@@ -10,7 +10,7 @@ ghost use Prim.Native.Nat.{_+_, _*_, _≤_};
 ghost use lib.ListN.{length};
 ghost use Rattle.tables.specs.Limits.{mostSigns};
 ghost use Rattle.factor.specs.Shapes.{Shaped, ObjFits};
-ghost use Rattle.run_record.specs.Limits.{mostRank};
+ghost use Rattle.run_limits.specs.Limits.{mostRank};
 ghost use Rattle.run_record.specs.CostTable.{costTable};
 ghost use Rattle.run_sweep.specs.Work.{work, callWork};
 ghost use Rattle.run_sweep.specs.Running.{Running};
@@ -52,8 +52,8 @@ fn sweep_work(
     )
 }
 
-// Up to k sweeps over (H, c) of a factor of m rows.
-fn sweep_accepted(
+// Up to k sweeps over (H, c) of a factor of m rows, where nothing refuses them.
+pub fn sweep_accepted(
     run: Run,
     n: usize,
     count: usize,

@@ -3,6 +3,7 @@
 use crate::answer::{step_rule, Start, SEED};
 use crate::draws::lent;
 use crate::job::Settings;
+use crate::leaf_calls;
 use crate::leaf_numbers;
 use crate::maxcut_oracle::{
     compute_rounded_sol, compute_rounded_sols, dual_variables, entrywise_lower_bound, grad, obj,
@@ -40,6 +41,7 @@ pub fn leaf(line: &str) -> Result<String, String> {
         "decode" => decode,
         "beam" => beam,
         "work" => work,
+        "prepared" => prepared,
         "dot" => dot,
         "norm" => norm,
         "project" => project_rows,
@@ -53,6 +55,9 @@ pub fn leaf(line: &str) -> Result<String, String> {
         "check" => check,
         "round" => round,
         "rounded" => rounded,
+        "sols" => sols,
+        "dual_call" => leaf_calls::dual,
+        "rounded_call" => leaf_calls::rounded,
         "submatrix" => submatrix,
         "lift" => lift,
         "sign_table_number" => leaf_numbers::sign_table,
@@ -179,6 +184,25 @@ fn work(words: &mut In, out: &mut Out) -> Done {
     assert_eq!(work, set_aside(&table), "01's sentence and separate_diagonal");
     work.put(out);
     out.doubles(diagonal.iter());
+    Ok(())
+}
+
+/// The table that the sweeps run over, in doubles with its row starts, the diagonal, and its sum.
+fn prepared(words: &mut In, out: &mut Out) -> Done {
+    let (work, diagonal) = separate_diagonal(&matrix(words)?);
+    let places: Vec<_> = work.iter().map(|(_, place)| place).collect();
+    let lengths = work.outer_iterator().map(|row| row.iter().count());
+    let ends = lengths.scan(0, |end, length| {
+        *end += length;
+        Some(*end)
+    });
+    let starts: Vec<usize> = std::iter::once(0).chain(ends).collect();
+    out.counts(places.iter().map(|place| place.0));
+    out.counts(places.iter().map(|place| place.1));
+    out.doubles(work.iter().map(|(value, _)| value));
+    out.counts(starts.into_iter());
+    out.doubles(diagonal.iter());
+    out.double(diagonal.sum());
     Ok(())
 }
 
@@ -309,6 +333,19 @@ fn rounded(words: &mut In, out: &mut Out) -> Done {
     let (signs, objective) = lent(&[], &draws, || compute_rounded_sol(&q, &factor, count));
     out.bytes(&sign_bytes(&signs));
     out.whole(eighths(objective));
+    Ok(())
+}
+
+/// The signs of each draw, one draw after the other.
+fn sols(words: &mut In, out: &mut Out) -> Done {
+    let rank = words.count()?;
+    let m = words.count()?;
+    let factor = rows(words, m, rank)?;
+    let count = words.count()?;
+    let draws = words.doubles()?;
+    want(count.checked_mul(rank) == Some(draws.len()), "a draw has rank numbers")?;
+    let signs = lent(&[], &draws, || compute_rounded_sols(&factor, count));
+    out.bytes(&signs.iter().flat_map(sign_bytes).collect::<Vec<_>>());
     Ok(())
 }
 

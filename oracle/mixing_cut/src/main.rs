@@ -9,6 +9,7 @@ mod bench;
 mod draws;
 mod job;
 mod leaf;
+mod leaf_calls;
 mod leaf_numbers;
 mod lent;
 mod plain;

@@ -73,6 +73,12 @@ impl Out {
         words.into_iter().for_each(|word| self.word(word));
     }
 
+    /// A slice of counts.
+    pub fn counts(&mut self, values: impl ExactSizeIterator<Item = usize>) {
+        self.count(values.len());
+        values.for_each(|value| self.count(value));
+    }
+
     /// A slice of signs or choices: 0 or 1 each.
     pub fn bytes(&mut self, values: &[u8]) {
         self.count(values.len());

@@ -1,12 +1,12 @@
 -- `coordinate_sweep::gradient::put_blocks16` meets its contract. The columns before the offset are written. Assumes nothing.
 use borrow.Author.Needs.{needs}
-use mathlib.Core.Path.{_≡_, refl, _∙_}
+use mathlib.Core.Path.{_≡_, refl, sym, _∙_}
 use Prim.Native.Nat.{_≤_, _-_}
 use native.Mathlib.Omega.{arith}
 use lib.ListN.{length}
 use Rattle.laws.specs.Lists.{over, tabulate}
 use Rattle.coordinate_sweep.specs.Columns.{columnOf}
-use Rattle.coordinate_sweep.proofs.ByColumns.{block-next-put}
+use Rattle.factor.proofs.Written.{block-next-put}
 use Rattle.coordinate_sweep.proofs.gradient.put_blocks16.Statement.{statement}
 use Rattle.coordinate_sweep.proofs.gradient.put_blocks16.Tie as tie
 
@@ -21,10 +21,10 @@ unfolding tabulate
 loop-holds c = search needs
 
 put-block-requires : tie.Need-put-block-requires Inv-loop μ-loop
-put-block-requires c κs = ((omega arith, c .before .before .before .before .before .before .before .pre .0), rw (c .before .before .loop .inv .1) (c .before .before .before .before .before .before .before .pre .1))
+put-block-requires c κs = ((omega arith, c .before .before .before .before .before .before .before .pre .0, sym (c .before .before .loop .inv .1)), rw (c .before .before .loop .inv .1) (c .before .before .before .before .before .before .before .pre .1))
 
 loop-again : tie.Need-loop-again Inv-loop μ-loop
-loop-again c = (omega arith, omega arith, (rw (c .before .before .before .before .before .loop .inv .1) at (c .before .before .put-block .ensures)) ∙ block-next-put _ _ _ _ _ _ (omega arith) (omega arith) (c .before .before .before .before .before .loop .inv .2))
+loop-again c = (omega arith, omega arith, c .before .before .put-block .ensures ∙ block-next-put _ _ _ _ _ _ (omega arith) (omega arith) (c .before .before .before .before .before .loop .inv .2))
 
 returns : tie.Need-returns Inv-loop μ-loop
 returns c = (omega arith, c .before .loop .inv .2)

@@ -1,12 +1,12 @@
 -- `coordinate_sweep::gradient::put_blocks4` meets its contract. The columns before the offset are written. Assumes nothing.
 use borrow.Author.Needs.{needs}
-use mathlib.Core.Path.{_≡_, refl, _∙_}
+use mathlib.Core.Path.{_≡_, refl, sym, _∙_}
 use Prim.Native.Nat.{_≤_, _-_}
 use native.Mathlib.Omega.{arith}
 use lib.ListN.{length}
 use Rattle.laws.specs.Lists.{over, tabulate}
 use Rattle.coordinate_sweep.specs.Columns.{columnOf}
-use Rattle.coordinate_sweep.proofs.ByColumns.{block-next-put, front-made}
+use Rattle.factor.proofs.Written.{block-next-put, front-made}
 use Rattle.coordinate_sweep.proofs.gradient.put_blocks4.Statement.{statement}
 use Rattle.coordinate_sweep.proofs.gradient.put_blocks4.Tie as tie
 
@@ -20,10 +20,10 @@ loop-holds : tie.Need-loop-holds Inv-loop μ-loop
 loop-holds c = (omega arith, refl, front-made _ _ _ (c .before .before .before .before .pre .1 .1))
 
 put-block-requires : tie.Need-put-block-requires Inv-loop μ-loop
-put-block-requires c κs = ((omega arith, c .before .before .before .before .before .before .before .pre .0 .1), rw (c .before .before .loop .inv .1) (c .before .before .before .before .before .before .before .pre .1 .0))
+put-block-requires c κs = ((omega arith, c .before .before .before .before .before .before .before .pre .0 .1, sym (c .before .before .loop .inv .1)), rw (c .before .before .loop .inv .1) (c .before .before .before .before .before .before .before .pre .1 .0))
 
 loop-again : tie.Need-loop-again Inv-loop μ-loop
-loop-again c = (omega arith, omega arith, (rw (c .before .before .before .before .before .loop .inv .1) at (c .before .before .put-block .ensures)) ∙ block-next-put _ _ _ _ _ _ (omega arith) (omega arith) (c .before .before .before .before .before .loop .inv .2))
+loop-again c = (omega arith, omega arith, c .before .before .put-block .ensures ∙ block-next-put _ _ _ _ _ _ (omega arith) (omega arith) (c .before .before .before .before .before .loop .inv .2))
 
 returns : tie.Need-returns Inv-loop μ-loop
 returns c = (omega arith, omega arith, c .before .loop .inv .2)

@@ -6,7 +6,8 @@ use native.Mathlib.Omega.{arith}
 use lib.Ieee.{nan}
 use lib.ListN.{length}
 use Rattle.laws.proofs.Made.{tabulate-all, tabulate-next}
-use Rattle.coordinate_sweep.proofs.ByColumns.{block-next-put, front-made, gradient-columns}
+use Rattle.factor.proofs.Written.{block-next-put, front-made}
+use Rattle.coordinate_sweep.proofs.ByColumns.{gradient-columns}
 use Rattle.coordinate_sweep.proofs.gradient.put_rest.Statement.{statement}
 use Rattle.coordinate_sweep.proofs.gradient.put_rest.Tie as tie
 
@@ -20,7 +21,7 @@ returns-2 : tie.Need-returns-2
 returns-2 c = let e : c .before .before .before .before .before .before .before .args .first + 1 ≡ length (c .before .before .before .before .before .before .before .args .g .now) = omega arith in rw (c .column .ensures) (rw e at (tabulate-next _ (c .before .before .before .before .before .before .before .args .first) (c .before .before .before .before .before .before .before .args .g .now) _ nan (omega arith) (front-made _ _ _ (c .before .before .before .before .before .before .before .pre .1 .1)))) ∙ (tabulate-all _ _ (c .before .before .before .before .before .before .before .args .g .now) refl ∙ sym (gradient-columns _ _ _ _ _))
 
 put-block-requires : tie.Need-put-block-requires
-put-block-requires c κs = ((omega arith, c .before .before .before .before .before .before .before .pre .0 .3), c .before .before .before .before .before .before .before .pre .1 .0)
+put-block-requires c κs = ((omega arith, c .before .before .before .before .before .before .before .pre .0 .3, refl), c .before .before .before .before .before .before .before .pre .1 .0)
 
 returns-3 : tie.Need-returns-3
 returns-3 c = let e : length (c .before .before .before .before .before .before .before .before .before .before .args .g .now) - 4 + 4 ≡ length (c .before .before .before .before .before .before .before .before .before .before .args .g .now) = omega arith in c .before .before .put-block .ensures ∙ (rw e at (block-next-put _ (c .before .before .before .before .before .before .before .before .before .before .args .first) (length (c .before .before .before .before .before .before .before .before .before .before .args .g .now) - 4) 4 (c .before .before .before .before .before .before .before .before .before .before .args .g .now) _ (omega arith) (omega arith) (front-made _ _ _ (c .before .before .before .before .before .before .before .before .before .before .pre .1 .1)))) ∙ (tabulate-all _ _ (c .before .before .before .before .before .before .before .before .before .before .args .g .now) refl ∙ sym (gradient-columns _ _ _ _ _))

@@ -7,7 +7,7 @@ use native.Mathlib.Omega.{arith}
 use lib.ListN.{length}
 use lib.Seq.{length-take-le}
 use Rattle.tables.specs.Limits.{mostSigns}
-use Rattle.run_record.specs.Limits.{mostRank}
+use Rattle.run_limits.specs.Limits.{mostRank}
 use Rattle.sdp_solver.proofs.sweep.sweep_work.Statement.{statement}
 use Rattle.sdp_solver.proofs.sweep.sweep_work.Tie as tie
 

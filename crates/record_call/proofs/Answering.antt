@@ -1,0 +1,112 @@
+-- From the parts of the record call to what it promises. Assumes nothing.
+use Prim.Native.Nat.{ℕ, zero, suc, _≤_, _<_}
+use mathlib.Core.Path.{_≡_, refl, sym, ap, _∙_}
+use mathlib.Core.Bool.{true, false}
+use mathlib.Core.List.{List, []}
+use native.Mathlib.Omega.{arith}
+use lib.ListN.{length, take, drop}
+use lib.Seq.{take-append-le}
+use borrow.Author.Tests.{lt-ltb, le-ltb}
+use Rattle.laws.specs.Lists.{over}
+use Rattle.laws.proofs.Refusal.{first-here, first-skip, first-found, first-next, first-end}
+use Rattle.laws.proofs.Any.{any-here, any-skip, any-not, any-none}
+use Rattle.run_contract.specs.declared.FinishResult.{FinishResult}
+use Rattle.run_contract.specs.Calls.{finishResult}
+use Rattle.job_record.specs.Number.{jobNumber}
+use Rattle.answer_record.specs.Answer.{answerBytes, refusalBytes}
+use Rattle.answer_record.specs.declared.answer.Answer.{Answer}
+use Rattle.record_call.specs.Record.{jobCosts, stopped, jobResult, jobChoice, fieldsOf, bytesBy, answerOf, leastAnswer, leastWorkspace, tooShort, callNumber, answerAfter}
+use Rattle.record_call.specs.Promise.{Answers}
+use Rattle.record_call.proofs.Accepted.{few, stops, rank-few}
+use Rattle.record_call.proofs.Promise.{accepted-bytes, choice-size, n-is, promise}
+
+-- ---- an accepted job
+
+module _ (s : List ℕ) (e : jobNumber s ≡ 0) where
+  rank-of : jobResult s .rank ≡ stopped s .run .rank
+  unfolding jobResult finishResult
+  rank-of = refl
+
+  pub bytes-hold : (x : FinishResult) → x ≡ jobResult s → (x .rank < 256) × (x .n < 256)
+  bytes-hold x is =
+      let rank : x .rank ≡ stopped s .run .rank = ap (λ (y : FinishResult). y .rank) is ∙ rank-of in
+      let n : x .n ≡ jobCosts s .n = ap (λ (y : FinishResult). y .n) is ∙ n-is s e in
+      (omega (arith, stops s e .sound .rank-is, rank-few s e), omega (arith, few s e))
+
+  pub n-fits : (a : Answer) (x : FinishResult) → a ≡ fieldsOf x → x ≡ jobResult s → a .n ≤ 127
+  n-fits a x p q = let n : a .n ≡ jobCosts s .n = ap (λ (y : Answer). y .n) p ∙ ap (λ (y : FinishResult). y .n) q ∙ n-is s e in omega (arith, few s e)
+
+  same-bytes : (a : Answer) (b b′ : List ℕ) → take (a .n) b ≡ take (a .n) b′ → answerBytes a b ≡ answerBytes a b′
+  unfolding answerBytes
+  same-bytes a b b′ h = rw h
+
+  -- a choice at the front of a slice is written as alone
+  pub written-bytes : (a : Answer) (x : FinishResult) (b b₀ : List ℕ) → a ≡ fieldsOf x → x ≡ jobResult s → b ≡ over (jobChoice s) b₀
+      → answerBytes a b ≡ answerBytes (fieldsOf (jobResult s)) (jobChoice s)
+  written-bytes a x b b₀ p q r =
+      rw (p, q, r)
+      (same-bytes (fieldsOf (jobResult s)) (over (jobChoice s) b₀) (jobChoice s) (take-append-le (jobResult s .n) (jobChoice s) (drop (length (jobChoice s)) b₀) (omega (arith, n-is s e, choice-size s e))))
+
+-- ---- the call
+
+module _ (job workspace answer : List ℕ) where
+  pub short-answer : length answer < leastAnswer → tooShort (length workspace) (length answer) ≡ true
+  unfolding tooShort
+  short-answer h = any-here _ _ (lt-ltb (length answer) leastAnswer h)
+
+  pub short-workspace : leastAnswer ≤ length answer → length workspace < leastWorkspace → tooShort (length workspace) (length answer) ≡ true
+  unfolding tooShort
+  short-workspace l h = any-skip _ _ (le-ltb (length answer) leastAnswer l) ∙ any-here _ _ (lt-ltb (length workspace) leastWorkspace h)
+
+  pub roomy : leastAnswer ≤ length answer → leastWorkspace ≤ length workspace → tooShort (length workspace) (length answer) ≡ false
+  unfolding tooShort
+  roomy l h = any-not _ _ (le-ltb (length answer) leastAnswer l) (any-not _ _ (le-ltb (length workspace) leastWorkspace h) any-none)
+
+  -- 31
+  pub answers-short : tooShort (length workspace) (length answer) ≡ true → Answers job workspace answer 31 workspace answer
+  unfolding callNumber answerAfter
+  answers-short t =
+      record {
+        numbered = sym (first-here 30 _ _ t);
+        written = rw t;
+        refused = λ _. refl;
+        promised = λ z. absurd (omega (arith, z));
+      }
+
+  -- a refusal
+  refusal : (n : ℕ) → (n ≡ 0 → ⊥) → bytesBy n job ≡ refusalBytes n
+  refusal zero h = absurd (h refl)
+  refusal (suc n) h = refl
+
+  pub answers-refused : (number : ℕ) (answer′ : List ℕ) → tooShort (length workspace) (length answer) ≡ false → number ≡ jobNumber job → (number ≡ 0 → ⊥)
+      → answer′ ≡ over (refusalBytes number) answer → Answers job workspace answer number workspace answer′
+  unfolding callNumber answerAfter answerOf
+  answers-refused number answer′ t is some e =
+      record {
+        numbered = sym (first-skip 31 _ _ t ∙ first-found (jobNumber job) [] (λ z. some (is ∙ z)) ∙ sym is);
+        written = rw t (e ∙ ap (λ (x : List ℕ). over x answer) (sym (refusal number some) ∙ ap (λ (k : ℕ). bytesBy k job) is));
+        refused = λ _. refl;
+        promised = λ z. absurd (some z);
+      }
+
+  -- an answer
+  number-none : tooShort (length workspace) (length answer) ≡ false → jobNumber job ≡ 0 → callNumber job (length workspace) (length answer) ≡ 0
+  unfolding callNumber answerOf
+  number-none t is = first-skip 31 _ _ t ∙ first-next (jobNumber job) [] is ∙ first-end
+
+  answer-left : (answer′ : List ℕ) → tooShort (length workspace) (length answer) ≡ false → jobNumber job ≡ 0
+      → answer′ ≡ over (answerBytes (fieldsOf (jobResult job)) (jobChoice job)) answer → answer′ ≡ answerAfter job (length workspace) answer
+  unfolding answerAfter
+  answer-left answer′ t is e = rw (t, accepted-bytes job is) e
+
+  pub answers-accepted : (workspace′ answer′ : List ℕ) → tooShort (length workspace) (length answer) ≡ false → jobNumber job ≡ 0
+      → answer′ ≡ over (answerBytes (fieldsOf (jobResult job)) (jobChoice job)) answer → Answers job workspace answer 0 workspace′ answer′
+  answers-accepted workspace′ answer′ t is e =
+      let none = number-none t is in
+      let left = answer-left answer′ t is e in
+      record {
+        numbered = sym none;
+        written = left;
+        refused = λ z. absurd (z refl);
+        promised = λ _ some. rw left (promise job (length workspace) answer none some);
+      }

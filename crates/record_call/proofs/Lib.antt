@@ -1,0 +1,10 @@
+pub mod Bridge
+pub mod Stopping
+pub mod Unrefused
+pub mod Accepted
+pub mod Figures
+pub mod Promise
+pub mod Decoding
+pub mod Answering
+pub mod Framed
+pub mod Halls

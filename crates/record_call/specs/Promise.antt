@@ -1,0 +1,24 @@
+-- What the controller is promised of an accepted job with W ≥ 1: demand 3's clauses for the job's H and c, said of the answer's bytes as a reader
+-- of answers finds them; and what the record call promises in all.
+use Prim.Native.Nat.{ℕ, _≤_}
+use mathlib.Core.Path.{_≡_}
+use mathlib.Core.List.{List}
+use lib.ListN.{length}
+use Rattle.run_record.specs.CostTable.{quadratic, linear}
+use Rattle.finalize.specs.Demand3.{Demand3}
+use Rattle.job_record.specs.Values.{jobOf}
+use Rattle.answer_record.specs.Answer as Read
+use Rattle.record_call.specs.Record.{jobCosts, jobDraws, stopped, callNumber, answerAfter}
+
+-- b, floor, rounded cost, cost and rounds of the answer, against the factor that the job's sweeps left
+abbrev pub Promised : List ℕ → List ℕ → Type 0
+Promised s answer =
+    Demand3 (jobCosts s .n) (quadratic (jobCosts s)) (linear (jobCosts s)) (stopped s .run .rank) (stopped s .factor) (jobDraws s) (jobOf s .«draw_count») (jobOf s .width)
+    (Read.choiceOf answer) (Read.answerOf answer .floor) (Read.answerOf answer .«rounded_cost») (Read.answerOf answer .cost) (Read.answerOf answer .rounds)
+
+-- from the job's bytes and the lent slices to the number, and the slices at exit
+pub record Answers (job workspace answer : List ℕ) (number : ℕ) (workspace′ answer′ : List ℕ) : Type 0 where
+  pub numbered : number ≡ callNumber job (length workspace) (length answer)
+  pub written : answer′ ≡ answerAfter job (length workspace) answer
+  pub refused : (number ≡ 0 → ⊥) → workspace′ ≡ workspace
+  pub promised : number ≡ 0 → 1 ≤ jobOf job .width → Promised job answer′

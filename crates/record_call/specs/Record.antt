@@ -1,0 +1,109 @@
+-- What the record call answers (01, "Job and answer records" and "Run"). Definitions only.
+use Prim.Native.Nat.{ℕ, zero, suc}
+use mathlib.Core.Bool.{Bool, cond}
+use mathlib.Core.List.{List, [], _∷_}
+use lib.Dec.{ltb}
+use lib.ListN.{length}
+use lib.Ieee.{Float}
+use Rattle.laws.specs.Lists.{over, tabulate}
+use Rattle.laws.specs.Refusal.{first, _if_, anyOf}
+use Rattle.run_limits.specs.Limits.{searchWorkspace}
+use Rattle.run_record.specs.CostTable.{CostTable, costTable}
+use Rattle.run_sweep.specs.Work.{callWork}
+use Rattle.run_sweep.specs.Sweep.{State, sweepsUpTo}
+use Rattle.run_contract.specs.declared.FinishResult.{FinishResult}
+use Rattle.run_contract.specs.Calls as Calls
+use Rattle.run_contract.specs.Calls.{Settings, openRun, startFactor, finishResult, finishChoice}
+use Rattle.job_record.specs.Fields.{wagons, entryCount, row, column, value}
+use Rattle.job_record.specs.Number.{jobNumber}
+use Rattle.job_record.specs.Values.{jobOf, jobCost, jobStartCount, jobStart, jobDrawn, jobDraw}
+use Rattle.answer_record.specs.Answer.{answerBytes, refusalBytes}
+use Rattle.answer_record.specs.declared.answer.Answer.{Answer}
+
+-- ---- the arguments of the job's calls
+
+-- H and c
+unfoldable pub jobCosts : List ℕ → CostTable
+jobCosts s =
+    costTable (wagons s) (entryCount s) (tabulate (row s) (entryCount s)) (tabulate (column s) (entryCount s)) (tabulate (value s) (entryCount s))
+    (tabulate (jobCost s) (wagons s))
+
+-- of its open
+unfoldable pub jobSettings : List ℕ → Settings
+jobSettings s =
+    Calls.settingsOf (jobCosts s) (jobOf s .rank) (jobOf s .rule) (jobOf s .«rule_number») (jobOf s .most) (jobOf s .minimum) (jobOf s .«objective_tolerance»)
+    (jobOf s .«stationarity_tolerance») (jobOf s .start) (tabulate (jobStart s) (jobStartCount s))
+
+unfoldable pub jobDraws : List ℕ → List Float
+jobDraws s = tabulate (jobDraw s) (jobDrawn s)
+
+-- ---- the run
+
+-- record and factor after the job's open
+unfoldable pub opened : List ℕ → State
+opened s = record { run = openRun (jobSettings s); factor = startFactor (jobSettings s) }
+
+-- and, where its most is above 0, a sweep up to the most
+unfoldable pub stopped : List ℕ → State
+stopped s =
+    cond (ltb 0 (jobOf s .most)) (sweepsUpTo (jobOf s .most) (callWork (jobCosts s)) (opened s .run) (opened s .factor)) (opened s)
+
+-- what a finish gives then, and its choice
+unfoldable pub jobResult : List ℕ → FinishResult
+jobResult s = finishResult (stopped s .run) (jobCosts s) (jobOf s .width) (jobOf s .«draw_count») (jobDraws s) (stopped s .factor)
+
+unfoldable pub jobChoice : List ℕ → List ℕ
+jobChoice s = finishChoice (stopped s .run) (jobCosts s) (jobOf s .width) (jobOf s .«draw_count») (jobDraws s) (stopped s .factor)
+
+-- ---- the answer
+
+-- the fields of an answer record
+abbrev pub fieldsOf : FinishResult → Answer
+fieldsOf x =
+    record {
+      status = x .status;
+      rank = x .rank;
+      n = x .n;
+      sweeps = x .sweeps;
+      «relaxed_objective» = x .«relaxed_objective»;
+      «float_bound» = x .«float_bound»;
+      floor = x .floor;
+      «rounded_cost» = x .«rounded_cost»;
+      cost = x .cost;
+      rounds = x .rounds;
+    }
+
+-- the number, and the answer's bytes
+pub record Answered : Type 0 where
+  pub number : ℕ
+  pub bytes : List ℕ
+
+-- the bytes by the number: an accepted job's answer record, or a refusal's six bytes
+abbrev pub bytesBy : ℕ → List ℕ → List ℕ
+bytesBy zero s = answerBytes (fieldsOf (jobResult s)) (jobChoice s)
+bytesBy (suc k) s = refusalBytes (suc k)
+
+-- of a job's bytes: "An accepted job's answer record holds what a finish gives after that job's open and, where its most is above 0, a sweep up
+-- to the most."
+unfoldable pub answerOf : List ℕ → Answered
+answerOf s = record { number = jobNumber s; bytes = bytesBy (jobNumber s) s }
+
+-- ---- the call, lent a workspace of so many bytes and an answer slice
+
+-- an answer slice and a workspace of fewer bytes are too short
+abbrev pub leastAnswer : ℕ
+leastAnswer = 187
+
+abbrev pub leastWorkspace : ℕ
+leastWorkspace = searchWorkspace
+
+-- 31
+unfoldable pub tooShort : ℕ → ℕ → Bool
+tooShort workspace answer = anyOf (ltb answer leastAnswer ∷ ltb workspace leastWorkspace ∷ [])
+
+unfoldable pub callNumber : List ℕ → ℕ → ℕ → ℕ
+callNumber s workspace answer = first (31 if tooShort workspace answer ∷ answerOf s .number ∷ [])
+
+-- the answer slice at exit: with 31 as it was; else the answer over its front, and what lies behind stays
+unfoldable pub answerAfter : List ℕ → ℕ → List ℕ → List ℕ
+answerAfter s workspace answer = cond (tooShort workspace (length answer)) answer (over (answerOf s .bytes) answer)

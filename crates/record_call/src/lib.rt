@@ -1,0 +1,73 @@
+// The record call: a job's bytes in, the answer's bytes and a number out (01, "Job and answer records").
+mod run; // run.rt: an accepted job's open, sweeps and finish
+
+use answer_record::answer::Answer;
+use answer_record::answer::write_answer;
+use answer_record::answer::write_refusal;
+use job_record::number::job_number;
+use run::job_result;
+use run_contract::FinishResult;
+use run_limits::SEARCH_WORKSPACE;
+use tables::limits::MOST_WAGONS;
+ghost use mathlib.Core.Path.{_≡_};
+ghost use Prim.Native.Nat.{_≤_, _<_};
+ghost use lib.ListN.{length};
+ghost use Rattle.laws.specs.Lists.{over};
+ghost use Rattle.job_record.specs.Number.{jobNumber};
+ghost use Rattle.answer_record.specs.Answer.{answerBytes};
+ghost use Rattle.record_call.specs.Record.{jobResult, jobChoice, fieldsOf, leastAnswer, leastWorkspace};
+ghost use Rattle.record_call.specs.Promise.{Answers};
+
+// An answer slice of fewer bytes is too short: 60 bytes before b, and 127 of b.
+pub const LEAST_ANSWER: usize = 187;
+
+// The fields of an answer record.
+fn fields_of(x: FinishResult) -> Answer
+    requires { ⌜ (x .rank < 256) × (x .n < 256) ⌝ }
+    ensures { λ r. ⌜ r ≡ fieldsOf x ⌝ }
+{
+    Answer {
+        status: x.status,
+        rank: x.rank as u8,
+        n: x.n as u8,
+        sweeps: x.sweeps,
+        relaxed_objective: x.relaxed_objective,
+        float_bound: x.float_bound,
+        floor: x.floor,
+        rounded_cost: x.rounded_cost,
+        cost: x.cost,
+        rounds: x.rounds,
+    }
+}
+
+// The answer record of an accepted job.
+fn answer_job(job: &[u8], workspace: &mut [u8], answer: &mut [u8])
+    requires { ⌜ (jobNumber (now job) ≡ 0) × (leastWorkspace ≤ length (now workspace)) × (leastAnswer ≤ length (now answer)) ⌝ }
+    ensures { λ _. ⌜ now (answer .exit) ≡ over (answerBytes (fieldsOf (jobResult (now (job .entry)))) (jobChoice (now (job .entry)))) (now (answer .entry)) ⌝ }
+{
+    let mut b = [0u8; MOST_WAGONS];
+    let result = job_result(job, &mut b, workspace);
+    let fields = fields_of(result);
+    write_answer(answer, fields, &b);
+}
+
+// Answers a job: 0 and its answer record, or the number of its refusal and that refusal, over the front of `answer`. 31 for a short slice
+// comes first and writes nothing; the workspace is written for an accepted job alone.
+#[no_mangle]
+pub extern "C" fn answer_record(job: &[u8], workspace: &mut [u8], answer: &mut [u8]) -> u8
+    ensures { λ r. ⌜ Answers (now (job .entry)) (now (workspace .entry)) (now (answer .entry)) r (now (workspace .exit)) (now (answer .exit)) ⌝ }
+{
+    if answer.len() < LEAST_ANSWER {
+        return 31;
+    }
+    if workspace.len() < SEARCH_WORKSPACE {
+        return 31;
+    }
+    let number = job_number(job);
+    if number != 0 {
+        write_refusal(answer, number);
+        return number;
+    }
+    answer_job(job, workspace, answer);
+    0
+}

@@ -1,0 +1,380 @@
+//! Runs stored scripts of open, sweep and finish (tools/make_runs.py) through the proved calls and compares every answer: number,
+//! record, factor, result, choice and multipliers; that a refused call leaves all it was lent, and that tails stay. Zeros of
+//! either sign are equal, and so are all NaNs (01). Usage: replay_runs < LIST
+use std::collections::BTreeMap;
+use std::io::BufRead;
+
+extern "C" {
+    fn host_open(
+        n: usize, count: usize, rows: *const u16, rows_len: usize, cols: *const u16, cols_len: usize, values: *const i64, values_len: usize,
+        c: *const i64, c_len: usize, rank: usize, rule: u8, number: f64, most: u32, minimum: u32, objective_tolerance: f64,
+        stationarity_tolerance: f64, start: u8, numbers: *const f64, numbers_len: usize, factor: *mut f64, factor_len: usize,
+        run_size: *mut usize, run_rank: *mut usize, run_rule: *mut u8, run_number: *mut f64, sweeps: *mut u32, last_objective: *mut f64,
+        run_objective_tolerance: *mut f64, run_stationarity_tolerance: *mut f64, run_minimum: *mut u32, run_most: *mut u32,
+        stage: *mut u8, status: *mut u8,
+    ) -> u8;
+    fn host_sweep(
+        size: *mut usize, rank: *mut usize, rule: *mut u8, number: *mut f64, sweeps: *mut u32, last_objective: *mut f64,
+        objective_tolerance: *mut f64, stationarity_tolerance: *mut f64, minimum: *mut u32, most: *mut u32, stage: *mut u8, status: *mut u8,
+        n: usize, count: usize, rows: *const u16, rows_len: usize, cols: *const u16, cols_len: usize, values: *const i64, values_len: usize,
+        c: *const i64, c_len: usize, k: u32, factor: *mut f64, factor_len: usize,
+    ) -> u8;
+    fn host_finish(
+        size: usize, rank: usize, rule: u8, number: f64, sweeps: u32, last_objective: f64, objective_tolerance: f64,
+        stationarity_tolerance: f64, minimum: u32, most: u32, stage: u8, status: u8, n: usize, count: usize, rows: *const u16,
+        rows_len: usize, cols: *const u16, cols_len: usize, values: *const i64, values_len: usize, c: *const i64, c_len: usize,
+        width: usize, draw_count: usize, draws: *const f64, draws_len: usize, factor: *const f64, factor_len: usize, b: *mut u8,
+        b_len: usize, dual_variables: *mut f64, dual_len: usize, workspace: *mut u8, workspace_len: usize, to_status: *mut u8,
+        to_rank: *mut usize, to_n: *mut usize, to_sweeps: *mut u32, relaxed_objective: *mut f64, float_bound: *mut f64,
+        floor: *mut i64, rounded_cost: *mut i64, cost: *mut i64, rounds: *mut u64,
+    ) -> u8;
+}
+
+// ---- reading
+
+/// The words of a line, read one by one.
+struct Words<'a>(std::iter::Peekable<std::str::SplitWhitespace<'a>>);
+
+impl Words<'_> {
+    /// Whether the mark comes next; if so it is passed over.
+    fn mark(&mut self, mark: &str) -> bool {
+        self.0.next_if_eq(&mark).is_some()
+    }
+    fn word(&mut self) -> u64 {
+        u64::from_str_radix(self.0.next().expect("a word"), 16).expect("hexadecimal")
+    }
+    fn number<T: TryFrom<u64>>(&mut self) -> T {
+        T::try_from(self.word()).ok().expect("a number of that size")
+    }
+    fn double(&mut self) -> f64 {
+        f64::from_bits(self.word())
+    }
+    fn slice<T>(&mut self, read: impl Fn(&mut Self) -> T) -> Vec<T> {
+        (0..self.word()).map(|_| read(self)).collect()
+    }
+    fn end(&mut self) {
+        assert!(self.0.next().is_none(), "words are left over");
+    }
+}
+
+#[derive(Clone, Default)]
+struct Table {
+    n: usize,
+    count: usize,
+    rows: Vec<u16>,
+    cols: Vec<u16>,
+    values: Vec<i64>,
+    c: Vec<i64>,
+}
+
+impl Table {
+    fn read(w: &mut Words) -> Self {
+        Self {
+            n: w.number(),
+            count: w.number(),
+            rows: w.slice(Words::number),
+            cols: w.slice(Words::number),
+            values: w.slice(|w| w.word() as i64),
+            c: w.slice(|w| w.word() as i64),
+        }
+    }
+}
+
+#[derive(Clone, Copy)]
+struct Record {
+    size: usize,
+    rank: usize,
+    rule: u8,
+    number: f64,
+    sweeps: u32,
+    last_objective: f64,
+    objective_tolerance: f64,
+    stationarity_tolerance: f64,
+    minimum: u32,
+    most: u32,
+    stage: u8,
+    status: u8,
+}
+
+impl Record {
+    /// A record that no call is given: an accepted open writes all of it.
+    const BLANK: Record = Record {
+        size: 4321,
+        rank: 43,
+        rule: 21,
+        number: 4.25,
+        sweeps: 4321,
+        last_objective: 4.5,
+        objective_tolerance: 4.75,
+        stationarity_tolerance: 5.25,
+        minimum: 432,
+        most: 32,
+        stage: 43,
+        status: 21,
+    };
+    fn read(w: &mut Words) -> Self {
+        Self {
+            size: w.number(),
+            rank: w.number(),
+            rule: w.number(),
+            number: w.double(),
+            sweeps: w.number(),
+            last_objective: w.double(),
+            objective_tolerance: w.double(),
+            stationarity_tolerance: w.double(),
+            minimum: w.number(),
+            most: w.number(),
+            stage: w.number(),
+            status: w.number(),
+        }
+    }
+    fn counts(&self) -> [u64; 8] {
+        let Record { size, rank, rule, sweeps, minimum, most, stage, status, .. } = *self;
+        [size as u64, rank as u64, rule.into(), sweeps.into(), minimum.into(), most.into(), stage.into(), status.into()]
+    }
+    fn doubles(&self) -> [f64; 4] {
+        [self.number, self.last_objective, self.objective_tolerance, self.stationarity_tolerance]
+    }
+    fn same(&self, other: &Record) -> bool {
+        self.counts() == other.counts() && same_all(&self.doubles(), &other.doubles())
+    }
+    fn untouched(&self, before: &Record) -> bool {
+        self.counts() == before.counts() && untouched(&self.doubles(), &before.doubles())
+    }
+}
+
+fn same(a: f64, b: f64) -> bool {
+    a.to_bits() == b.to_bits() || (a.is_nan() && b.is_nan()) || (a == 0.0 && b == 0.0)
+}
+
+fn same_all(a: &[f64], b: &[f64]) -> bool {
+    a.len() == b.len() && a.iter().zip(b).all(|(&x, &y)| same(x, y))
+}
+
+/// To the last bit, for what no call may touch.
+fn untouched(a: &[f64], b: &[f64]) -> bool {
+    a.len() == b.len() && a.iter().zip(b).all(|(x, y)| x.to_bits() == y.to_bits())
+}
+
+/// So many numbers that no call gives.
+fn filler(length: usize) -> Vec<f64> {
+    (0..length).map(|i| f64::from_bits(0x4321_8765_0000_0000 + i as u64)).collect()
+}
+
+// ---- the calls
+
+/// Record and factor as the last call left them.
+struct State {
+    run: Record,
+    factor: Vec<f64>,
+}
+
+/// A slice of the length given: the kept numbers as far as both go, then numbers that must stay; some more lie past its end.
+struct Lent {
+    before: Vec<f64>,
+    now: Vec<f64>,
+    length: usize,
+}
+
+const PAST: usize = 8;
+
+impl Lent {
+    fn new(kept: &[f64], length: usize) -> Self {
+        let mut before = filler(length + PAST);
+        let both = kept.len().min(length);
+        before[..both].copy_from_slice(&kept[..both]);
+        Self { now: before.clone(), before, length }
+    }
+    /// From `at` on nothing has changed.
+    fn stays_from(&self, at: usize) -> bool {
+        at > self.length || untouched(&self.now[at..], &self.before[at..])
+    }
+}
+
+/// What a line is expected to answer.
+struct Expected {
+    number: u8,
+    /// None: as before the call.
+    state: Option<(Record, Vec<f64>)>,
+}
+
+impl Expected {
+    fn read(w: &mut Words) -> Self {
+        let number = w.number();
+        let same = w.mark(".") || w.0.peek().is_none();
+        Self { number, state: (!same).then(|| (Record::read(w), w.slice(Words::double))) }
+    }
+}
+
+/// What differs, in words; empty where nothing does.
+type Differs = Vec<&'static str>;
+
+fn hold(differs: &mut Differs, what: &'static str, holds: bool) {
+    if !holds {
+        differs.push(what);
+    }
+}
+
+fn open(w: &mut Words, t: &Table, state: &mut State, expected: &Expected) -> Differs {
+    let (rank, rule, number, most, minimum) = (w.number(), w.number(), w.double(), w.number(), w.number());
+    let (objective_tolerance, stationarity_tolerance, start) = (w.double(), w.double(), w.number());
+    let numbers = w.slice(Words::double);
+    let mut factor = Lent::new(&state.factor, w.number());
+    w.end();
+    let before = state.run;
+    let run = &mut state.run;
+    let got = unsafe {
+        host_open(
+            t.n, t.count, t.rows.as_ptr(), t.rows.len(), t.cols.as_ptr(), t.cols.len(), t.values.as_ptr(), t.values.len(), t.c.as_ptr(), t.c.len(),
+            rank, rule, number, most, minimum, objective_tolerance, stationarity_tolerance, start, numbers.as_ptr(), numbers.len(),
+            factor.now.as_mut_ptr(), factor.length, &mut run.size, &mut run.rank, &mut run.rule, &mut run.number, &mut run.sweeps,
+            &mut run.last_objective, &mut run.objective_tolerance, &mut run.stationarity_tolerance, &mut run.minimum, &mut run.most,
+            &mut run.stage, &mut run.status,
+        )
+    };
+    let mut differs = vec![];
+    hold(&mut differs, "number", got == expected.number);
+    if got != 0 {
+        hold(&mut differs, "record of a refused call", state.run.untouched(&before));
+        hold(&mut differs, "factor of a refused call", factor.stays_from(0));
+        return differs;
+    }
+    let used = state.run.size.saturating_mul(state.run.rank).min(factor.length);
+    hold(&mut differs, "factor's tail", factor.stays_from(used));
+    factor.now.truncate(used);
+    state.factor = factor.now;
+    differs
+}
+
+fn sweep(w: &mut Words, t: &Table, state: &mut State, expected: &Expected) -> Differs {
+    let k = w.number();
+    let mut factor = Lent::new(&state.factor, w.number());
+    let _workspace: u64 = w.number();
+    w.end();
+    let before = state.run;
+    let run = &mut state.run;
+    let got = unsafe {
+        host_sweep(
+            &mut run.size, &mut run.rank, &mut run.rule, &mut run.number, &mut run.sweeps, &mut run.last_objective,
+            &mut run.objective_tolerance, &mut run.stationarity_tolerance, &mut run.minimum, &mut run.most, &mut run.stage, &mut run.status,
+            t.n, t.count, t.rows.as_ptr(), t.rows.len(), t.cols.as_ptr(), t.cols.len(), t.values.as_ptr(), t.values.len(), t.c.as_ptr(), t.c.len(),
+            k, factor.now.as_mut_ptr(), factor.length,
+        )
+    };
+    let mut differs = vec![];
+    hold(&mut differs, "number", got == expected.number);
+    if got != 0 {
+        hold(&mut differs, "record of a refused call", state.run.untouched(&before));
+        hold(&mut differs, "factor of a refused call", factor.stays_from(0));
+        return differs;
+    }
+    let used = before.size.saturating_mul(before.rank).min(state.factor.len()).min(factor.length);
+    hold(&mut differs, "factor's tail", factor.stays_from(used));
+    state.factor[..used].copy_from_slice(&factor.now[..used]);
+    differs
+}
+
+fn finish(w: &mut Words, t: &Table, state: &State, expected: &Expected, answer: &mut Words) -> Differs {
+    let (width, draw_count) = (w.number(), w.number());
+    let draws = w.slice(Words::double);
+    let factor = Lent::new(&state.factor, w.number());
+    let (b_length, dual_length, room): (usize, usize, usize) = (w.number(), w.number(), w.number());
+    w.end();
+    let mut b = vec![0xA5u8; b_length + PAST];
+    let mut dual = Lent::new(&[], dual_length);
+    let mut workspace = vec![0x5Au8; room + PAST];
+    let (mut status, mut rank, mut n, mut sweeps) = (77u8, 77usize, 777usize, 7777u32);
+    let (mut relaxed, mut bound, mut floor, mut rounded, mut cost, mut rounds) = (7.25, 7.75, 777i64, 7777i64, 77777i64, 777u64);
+    let run = state.run;
+    let got = unsafe {
+        host_finish(
+            run.size, run.rank, run.rule, run.number, run.sweeps, run.last_objective, run.objective_tolerance, run.stationarity_tolerance,
+            run.minimum, run.most, run.stage, run.status, t.n, t.count, t.rows.as_ptr(), t.rows.len(), t.cols.as_ptr(), t.cols.len(),
+            t.values.as_ptr(), t.values.len(), t.c.as_ptr(), t.c.len(), width, draw_count, draws.as_ptr(), draws.len(), factor.now.as_ptr(),
+            factor.length, b.as_mut_ptr(), b_length, dual.now.as_mut_ptr(), dual_length, workspace.as_mut_ptr(), room, &mut status,
+            &mut rank, &mut n, &mut sweeps, &mut relaxed, &mut bound, &mut floor, &mut rounded, &mut cost, &mut rounds,
+        )
+    };
+    let counts = [status as u64, rank as u64, n as u64, sweeps as u64];
+    let wholes = [floor as u64, rounded as u64, cost as u64, rounds];
+    let mut differs = vec![];
+    hold(&mut differs, "number", got == expected.number);
+    hold(&mut differs, "factor", factor.stays_from(0));
+    hold(&mut differs, "past the workspace", workspace[room..].iter().all(|&x| x == 0x5A));
+    if got != 0 {
+        hold(&mut differs, "choice of a refused call", b.iter().all(|&x| x == 0xA5));
+        hold(&mut differs, "multipliers of a refused call", dual.stays_from(0));
+        hold(&mut differs, "workspace of a refused call", workspace.iter().all(|&x| x == 0x5A));
+        let as_was = counts == [77, 77, 777, 7777] && (relaxed, bound) == (7.25, 7.75) && wholes == [777, 7777, 77777, 777];
+        hold(&mut differs, "result of a refused call", as_was);
+        return differs;
+    }
+    if expected.number != 0 {
+        return differs;
+    }
+    hold(&mut differs, "status, rank, n, sweeps", counts.map(|x| x == answer.word()) == [true; 4]);
+    hold(&mut differs, "relaxed objective", same(relaxed, answer.double()));
+    hold(&mut differs, "float bound", same(bound, answer.double()));
+    hold(&mut differs, "floor, rounded cost, cost, rounds", wholes.map(|x| x == answer.word()) == [true; 4]);
+    let choice: Vec<u8> = answer.slice(Words::number);
+    let multipliers = answer.slice(Words::double);
+    hold(&mut differs, "choice", b_length >= choice.len() && b[..choice.len()] == choice);
+    hold(&mut differs, "choice's tail", b.iter().skip(choice.len()).all(|&x| x == 0xA5));
+    hold(&mut differs, "multipliers", dual_length >= multipliers.len() && same_all(&dual.now[..multipliers.len()], &multipliers));
+    hold(&mut differs, "multipliers' tail", dual.stays_from(multipliers.len()));
+    differs
+}
+
+fn main() {
+    let (mut runs, mut calls, mut differences) = (0u32, 0u32, 0u32);
+    let mut numbers: BTreeMap<(String, u8), u32> = BTreeMap::new();
+    let mut state = State { run: Record::BLANK, factor: vec![] };
+    let mut table = Table::default();
+    for (at, line) in std::io::stdin().lock().lines().map(|l| l.expect("text")).enumerate() {
+        if line == "new" {
+            runs += 1;
+            state = State { run: Record::BLANK, factor: vec![] };
+            continue;
+        }
+        let (given, answer) = line.split_once(" = ").expect("given = expected");
+        let (name, rest) = given.split_once(' ').expect("a name");
+        let mut w = Words(rest.split_whitespace().peekable());
+        let mut answer = Words(answer.split_whitespace().peekable());
+        let expected = Expected::read(&mut answer);
+        if name == "record" {
+            state = State { run: Record::read(&mut w), factor: w.slice(Words::double) };
+            w.end();
+            continue;
+        }
+        if !w.mark("~") {
+            table = Table::read(&mut w);
+        }
+        let before = (state.run, state.factor.clone());
+        let mut differs = match name {
+            "open" => open(&mut w, &table, &mut state, &expected),
+            "sweep" => sweep(&mut w, &table, &mut state, &expected),
+            "finish" => finish(&mut w, &table, &state, &expected, &mut answer),
+            _ => panic!("no call is named {name}"),
+        };
+        if differs.is_empty() {
+            answer.end();
+        }
+        let (run, factor) = expected.state.unwrap_or(before);
+        hold(&mut differs, "record", state.run.same(&run));
+        hold(&mut differs, "factor's numbers", same_all(&state.factor, &factor));
+        calls += 1;
+        *numbers.entry((name.to_string(), expected.number)).or_default() += 1;
+        if !differs.is_empty() {
+            differences += 1;
+            println!("line {}: {}: {}", at + 1, differs.join(", "), &line[..line.len().min(1500)]);
+            // the calls after it are judged by themselves
+            (state.run, state.factor) = (run, factor);
+        }
+    }
+    for name in ["open", "sweep", "finish"] {
+        let counts: Vec<String> = numbers.iter().filter(|((n, _), _)| n == name).map(|((_, k), c)| format!("{k}: {c}")).collect();
+        println!("{name}: {}", counts.join(", "));
+    }
+    println!("runs {runs}, calls {calls}, differences {differences}");
+    std::process::exit((differences != 0 || calls == 0).into());
+}

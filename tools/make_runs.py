@@ -1,0 +1,529 @@
+#!/usr/bin/env python3
+"""Writes host/runs.txt: scripts of open, sweep and finish with the answers of the Rust oracle (`oracle run`).
+
+  tools/make_runs.py                       writes the list
+  tools/make_runs.py --check               compares it with what is stored, and writes nothing
+  tools/make_runs.py --random COUNT SEED   prints that many random scripts instead
+
+The lines are those of oracle/README.md, "run", without leading zeros; `~` stands for the table of the call before. After ` = `: the
+number; `.` where record and factor are as they were, else both; a finish's result. A workspace below the size that a finish asks is judged here (31): the oracle has none.
+
+Held here too: 01's first number of every pair of faults; one call of `solve_maxcut_sdp` for every whole run; and that every number, rule,
+start, rank and status occurs.
+"""
+import itertools
+import os
+import random
+import subprocess
+import sys
+
+sys.dont_write_bytecode = True
+TOP = os.path.dirname(os.path.dirname(os.path.abspath(__file__)))
+sys.path.insert(0, os.path.join(TOP, "oracle"))
+import gen  # noqa: E402
+
+PROGRAM = os.path.join(TOP, "target", "oracle", "release", "oracle")
+STORED = os.path.join(TOP, "host", "runs.txt")
+WORKSPACE = 16384
+LIMIT = 2**40
+ORDER = [31, 32, 33, 13, 14, 15, 16, 17, 18, 19]
+NAN, INF, MINUS_INF = 0x7FF8000000000000, 0x7FF0000000000000, 0xFFF0000000000000
+bits = gen.bits
+
+
+# ---- calls ----------------------------------------------------------------------------------
+
+
+def table(n, entries, c):
+    rows, cols, values = ([e[k] for e in entries] for k in range(3))
+    return {"n": n, "count": len(entries), "rows": rows, "cols": cols, "values": values, "c": list(c)}
+
+
+def some_table(rng, n):
+    return table(n, *gen.hall(rng, n))
+
+
+def of_table(t):
+    return [t["n"], t["count"], t["rows"], t["cols"], t["values"], t["c"]]
+
+
+def open_line(t, o):
+    return "open " + gen.words(*of_table(t), *[o[k] for k in (
+        "rank", "rule", "number", "most", "minimum", "objective", "stationarity", "start", "numbers", "factor")])
+
+
+def sweep_line(t, k, factor):
+    return "sweep " + gen.words(*of_table(t), k, factor, 0)
+
+
+def finish_line(t, f):
+    return "finish " + gen.words(*of_table(t), *[f[k] for k in (
+        "width", "draw_count", "draws", "factor", "b", "dual", "workspace")])
+
+
+def record_line(r):
+    return "record " + gen.words(*[r[k] for k in (
+        "size", "rank", "rule", "number", "sweeps", "last", "objective", "stationarity", "minimum", "most",
+        "stage", "status", "factor")])
+
+
+def finish_of(rng, m, r, width=1, draws=1, more=0):
+    return {"width": width, "draw_count": draws, "draws": gen.numbers(rng, draws * r + more), "factor": m * r + more,
+            "b": m - 1 + more, "dual": m + more, "workspace": WORKSPACE + more}
+
+
+# ---- whole runs: one call of the Rust's solver gives the same ---------------------------------
+
+
+def whole(rng, rank, rule, start):
+    """A job as a script, its sweeps split over several calls; and the job's record."""
+    n = rng.randint(0, 6 if rank < 5 else 3 if rank < 13 else 2)
+    h, c = gen.hall(rng, n)
+    most, minimum = gen.limits(rng, 41)
+    m, r = n + 1, rank or gen.default_rank(n + 1)
+    draws = rng.choice([1, 1, 2, 3])
+    job = {
+        "version": 1, "n": n, "count": len(h), "entries": h, "c": c, "rank": rank, "rule": rule,
+        "number": gen.rule_number(rng, rule), "most": most, "minimum": minimum,
+        "objective_tolerance": gen.tolerance(rng), "stationarity_tolerance": gen.tolerance(rng),
+        "width": rng.choice([0, 1, 1, 2, 3, 128]), "start": start,
+        "start_numbers": gen.factor(rng, m, r) if start < 2 else gen.numbers(rng, gen.start_count(2, most, m, r)),
+        "draw_count": draws, "draws": [x for _ in range(draws) for x in gen.numbers(rng, r)],
+    }
+    t, more = table(n, h, c), rng.choice([0, 0, 3])
+    lines = ["new", open_line(t, {
+        "rank": rank, "rule": rule, "number": job["number"], "most": most, "minimum": minimum,
+        "objective": job["objective_tolerance"], "stationarity": job["stationarity_tolerance"], "start": start,
+        "numbers": job["start_numbers"] + [NAN] * more, "factor": m * r + more})]
+    left = most
+    for k in rng.choice([[], [1], [0, 2], [19, 1]]):
+        lines.append(sweep_line(t, k, m * r + more))
+        left -= k
+    if left > 0:
+        lines.append(sweep_line(t, rng.choice([left, left, 2**32 - 1]), m * r))
+    lines.append(finish_line(t, {
+        "width": job["width"], "draw_count": draws, "draws": job["draws"] + [NAN] * more, "factor": m * r + more,
+        "b": n + more, "dual": m + more, "workspace": WORKSPACE + more}))
+    return lines, gen.record(job).hex().upper()
+
+
+def whole_runs(rng):
+    for rank in range(33):
+        for rule in range(5):
+            start = (rank + rule) % 3
+            yield whole(rng, rank, rule, 2 if rank == 0 and start == 1 else start)
+    for rule, start, rank in itertools.product(range(5), range(3), (1, 2)):
+        yield whole(rng, rank, rule, start)
+
+
+def answer_of(words):
+    """The answer record of a finish's words."""
+    w = [int(x, 16) for x in words]
+    body = bytes([w[0], w[1], w[2]]) + w[3].to_bytes(4, "big") + b"".join(x.to_bytes(8, "big") for x in w[4:10])
+    body = b"\1" + body + bytes(w[11:11 + w[10]])
+    return (len(body).to_bytes(4, "big") + body).hex().upper()
+
+
+# ---- limits and tolerances --------------------------------------------------------------------
+
+
+def settings_runs(rng):
+    limits = [(0, 0), (0, 5), (1, 0), (1, 1), (1, 5), (3, 0), (3, 2), (25, 7), (25, 20), (21, 30), (40, 2**32 - 1),
+              (2**32 - 1, 0)]
+    tolerances = [bits(0.0), bits(1e9), NAN, INF, MINUS_INF, bits(1e-6)]
+    steps = [bits(x) for x in (0.01, -0.01, 0.1, -1.0)]
+    for rule, (most, minimum), pick in itertools.product(range(5), limits, range(4)):
+        a, b = rng.choice(tolerances), tolerances[(pick + rule) % 6]
+        rank, n = rng.choice([0, 1, 2, 3]), rng.randint(1, 3)
+        m, r, start = n + 1, rank or gen.default_rank(n + 1), rng.choice([0, 2])
+        tables = [some_table(rng, n), some_table(rng, n)]
+        number = steps[pick] if rule < 3 else rng.choice(gen.MOMENTUM)
+        lines = ["new", open_line(tables[0], {
+            "rank": rank, "rule": rule, "number": number, "most": most, "minimum": minimum, "objective": a,
+            "stationarity": b, "start": start, "numbers": gen.numbers(rng, gen.start_count(start, most, m, r), "usual"),
+            "factor": m * r})]
+        for k in rng.choice([[0, 1, 18, 1, 40], [7, 0, 13, 20], [2, 18, 5], [60]]):
+            lines.append(sweep_line(tables[rng.random() < 0.3], k, m * r + rng.choice([0, 0, 1])))
+        last = finish_line(tables[pick % 2], finish_of(rng, m, r, rng.choice([0, 1, 2]), more=pick % 2))
+        yield lines + [last, last]
+
+
+# ---- faults, alone and in pairs -----------------------------------------------------------------
+
+
+class Fault:
+    """A number and what makes it due; what its length rests on (31), what it spoils for others."""
+
+    def __init__(self, number, change, rests="", spoils=""):
+        self.number, self.change = number, change
+        self.rests, self.spoils = set(rests.split()), set(spoils.split())
+
+
+def first_number(faults):
+    spoilt = set().union(*[f.spoils for f in faults])
+    due = [f.number for f in faults if not f.rests & spoilt]
+    return min(due, key=ORDER.index)
+
+
+def drop(key, by=1):
+    def change(s):
+        s[key] = s[key][:-by] if isinstance(s[key], list) else s[key] - by
+    return change
+
+
+def put(**fields):
+    return lambda s: s.update(fields)
+
+
+def entry(k, **fields):
+    def change(s):
+        for name, x in fields.items():
+            s[name][k] = x
+    return change
+
+
+def unmirrored(s):
+    """Leaves out the entry at (1, 0)."""
+    for name in ("rows", "cols", "values"):
+        s[name] = s[name][:1] + s[name][2:]
+    s["count"] -= 1
+
+
+def wide(s):
+    s["n"] = 128
+    if "size" in s and s["size"] == 3:
+        s["size"] = 129
+
+
+TABLE_FAULTS = [
+    Fault(31, drop("rows"), "count"), Fault(31, drop("cols"), "count"), Fault(31, drop("values"), "count"),
+    Fault(31, drop("c"), "n"),
+    Fault(13, wide, spoils="n"), Fault(13, put(count=4097), spoils="count"), Fault(13, put(count=2**64 - 1), spoils="count"),
+    Fault(14, entry(2, cols=2)), Fault(14, entry(2, rows=0, cols=0)), Fault(14, entry(0, rows=1, cols=1)),
+    Fault(15, entry(0, values=4)), Fault(15, unmirrored),
+    Fault(16, entry(-1, values=LIMIT)), Fault(16, entry(-1, values=-(2**63))), Fault(16, entry(0, c=LIMIT)),
+]
+OPEN_FAULTS = TABLE_FAULTS + [
+    Fault(31, drop("numbers"), "n rank start"), Fault(31, drop("factor"), "n rank"),
+    Fault(17, put(rank=33), spoils="rank"), Fault(17, put(rank=2**64 - 1), spoils="rank"), Fault(17, put(rank=0, start=1), spoils="rank"),
+    Fault(18, put(rule=5)), Fault(18, put(rule=255)), Fault(18, put(rule=4, number=bits(1.0))), Fault(18, put(rule=4, number=NAN)),
+    Fault(18, put(rule=4, number=bits(-5e-324))), Fault(18, put(rule=4, number=INF)),
+    Fault(19, put(start=3), spoils="start"), Fault(19, put(start=255), spoils="start"),
+]
+RECORD_FAULTS = [
+    Fault(33, put(size=4), spoils="size"), Fault(33, put(size=0), spoils="size"), Fault(33, put(size=2**64 - 1), spoils="size"),
+    Fault(33, put(rank=0), spoils="rank"), Fault(33, put(rank=33), spoils="rank"),
+    Fault(33, put(sweeps=8)), Fault(33, put(status=3)), Fault(33, put(status=255)),
+    Fault(18, put(rule=4, number=bits(1.0))), Fault(18, put(rule=4, number=NAN)),
+    Fault(31, drop("lent"), "n size rank"),
+]
+SWEEP_FAULTS = TABLE_FAULTS + RECORD_FAULTS + [Fault(32, put(stage=1)), Fault(33, put(sweeps=7)), Fault(33, put(status=1))]
+FINISH_FAULTS = TABLE_FAULTS + RECORD_FAULTS + [
+    Fault(32, put(stage=0)), Fault(31, drop("draws"), "draws rank"), Fault(31, drop("b"), "n"), Fault(31, drop("dual"), "n"),
+    Fault(31, drop("workspace")), Fault(19, put(width=129)), Fault(19, put(width=2**64 - 1)),
+    Fault(19, put(draw_count=0), spoils="draws"), Fault(19, put(draw_count=1001), spoils="draws"),
+]
+
+
+def base(rng):
+    t = table(2, [(0, 1, 3), (1, 0, 3), (1, 1, 2)], [-1, 4])
+    settings = {"rank": 2, "rule": 2, "number": bits(0.01), "most": 7, "minimum": 2, "objective": 0, "stationarity": 0,
+                "start": 0, "numbers": gen.numbers(rng, 6, "usual"), "factor": 6}
+    record = {"size": 3, "rank": 2, "rule": 2, "number": bits(0.01), "sweeps": 3, "last": bits(-1.5), "objective": 0,
+              "stationarity": 0, "minimum": 2, "most": 7, "stage": 0, "status": 0, "factor": gen.numbers(rng, 6, "usual"), "lent": 6}
+    return t, settings, record
+
+
+def at_once(call, faults):
+    """A copy of the call's fields with the faults put in; of two faults the one on whole fields first."""
+    s = {k: list(v) if isinstance(v, list) else v for k, v in call.items()}
+    for f in sorted(faults, key=lambda f: (f.change is unmirrored, f.number == 31)):
+        f.change(s)
+    return s
+
+
+def apart(a, b):
+    """Two faults that change different things; else the later would undo the earlier."""
+    probe = {**table(2, [(0, 1, 3), (1, 0, 3), (1, 1, 2)], [-1, 4]), "rank": 2, "rule": 2, "number": 0, "start": 0, "numbers": [1] * 6,
+             "factor": 6, "size": 3, "sweeps": 3, "status": 0, "stage": 7, "lent": 6, "draws": [1] * 2, "draw_count": 1,
+             "b": 2, "dual": 3, "workspace": WORKSPACE, "width": 1}
+    changed = []
+    for f in (a, b):
+        s = at_once(probe, [f])
+        changed.append({k for k in s if k in ("rows", "cols", "values", "c") and f.number != 31 and s[k] != probe[k]}
+                       | {k for k in s if k not in ("rows", "cols", "values", "c") and s[k] != probe[k]})
+    return not (changed[0] & changed[1])
+
+
+def faulty(call, kinds):
+    singles = [(f,) for f in kinds]
+    for faults in singles + [p for p in itertools.combinations(kinds, 2) if apart(*p)]:
+        yield first_number(faults), at_once(call, faults)
+
+
+def fault_runs(rng):
+    """Lists of lines, each with the number that 01 gives it, or None."""
+    t, settings, record = base(rng)
+    good = open_line(t, settings)
+    lines = [("new", None), (good, 0)]
+    for number, s in faulty({**t, **settings}, OPEN_FAULTS):
+        lines.append((open_line(s, s), number))
+    yield lines + [(good, 0)]
+    lines = [("new", None), (record_line(record), None)]
+    standing = lines[-1][0]
+    for number, s in faulty({**t, **record}, SWEEP_FAULTS):
+        if record_line(s) != standing:
+            standing = record_line(s)
+            lines.append((standing, None))
+        lines.append((sweep_line(s, 2, s["lent"]), number))
+    yield lines + [(record_line(record), None), (sweep_line(t, 2, 6), 0)]
+    record = {**record, "stage": 1}
+    finish = finish_of(rng, 3, 2)
+    lines = [("new", None), (record_line(record), None)]
+    standing = lines[-1][0]
+    for number, s in faulty({**t, **finish, **record}, FINISH_FAULTS):
+        if record_line(s) != standing:
+            standing = record_line(s)
+            lines.append((standing, None))
+        lines.append((finish_line(s, {**s, "factor": s["lent"]}), number))
+    yield lines + [(record_line(record), None), (finish_line(t, finish), 0)]
+
+
+def edge_runs(rng):
+    """Lengths at their edge, and what is just accepted."""
+    t, o, record = base(rng)
+    lines = [("new", None)]
+    for start, most, rank in itertools.product(range(3), (0, 2), (1, 2)):
+        needed = gen.start_count(start, most, 3, rank)
+        for by, number in ((0, 0), (-1, 31), (4, 0)):
+            given = {**o, "start": start, "most": most, "rank": rank, "numbers": gen.numbers(rng, needed + by), "factor": 3 * rank + max(by, 0)}
+            lines.append((open_line(t, given), number))
+    # a length that rests on a refused number
+    lines.append((open_line({**t, "n": 128, "c": []}, {**o, "numbers": [], "factor": 0}), 13))
+    lines.append((open_line({**t, "count": 4097, "rows": [], "cols": [], "values": []}, o), 13))
+    lines.append((open_line(t, {**o, "rank": 33, "numbers": [], "factor": 0}), 17))
+    lines.append((open_line(t, {**o, "start": 3, "numbers": []}), 19))
+    lines.append((open_line(t, {**o, "start": 3, "numbers": [], "factor": 5}), 31))
+    # the magnitude at its limit, and one above
+    for extra, number in ((0, 0), (1, 16)):
+        lines.append((open_line({**t, "values": [3, 3, LIMIT - 16 + extra]}, o), number))
+        lines.append((open_line({**t, "values": [3, 3, -(LIMIT - 16) - extra]}, o), number))
+    for beta in (0.0, -0.0, 5e-324, 1.0 - 2.0**-53):
+        lines += [(open_line(t, {**o, "rule": 4, "number": bits(beta), "rank": 5, "numbers": gen.numbers(rng, 15), "factor": 15}), 0),
+                  (sweep_line(t, 3, 15), 0)]
+    yield lines
+    stopped = {**record, "stage": 1}
+    f = finish_of(rng, 3, 2, 3, 2, more=1)
+    lines = [("new", None), (record_line(stopped), None)]
+    for name, least in (("factor", 6), ("b", 2), ("dual", 3), ("workspace", WORKSPACE)):
+        for length, number in ((least - 1, 31), (0, 31), (least, 0), (least + 9, 0)):
+            lines.append((finish_line(t, {**f, name: length}), number))
+    lines += [(finish_line(t, {**f, "draws": f["draws"][:3]}), 31), (finish_line(t, {**f, "draws": f["draws"][:4]}), 0),
+              (finish_line(t, {**f, "width": 128}), 0), (sweep_line(t, 0, 6), 32), (finish_line(t, {**f, "draw_count": 0, "draws": []}), 19),
+              (finish_line(t, {**f, "draw_count": 1000, "draws": gen.numbers(rng, 2000)}), 0)]
+    # a record whose size or rank is refused: its factor's length isn't tested
+    for change in ({"rank": 0}, {"rank": 33}, {"size": 4}):
+        lines += [(record_line({**stopped, **change}), None), (finish_line(t, {**f, "factor": 0}), 33),
+                  (finish_line(t, {**f, "factor": 0, "b": 1}), 31)]
+    # 33 before 13, and sizes that agree though n is refused
+    for n, size, number in ((128, 3, 33), (128, 129, 13), (2**64 - 2, 2**64 - 1, 13), (2**64 - 1, 0, 33), (1, 3, 33), (3, 3, 31)):
+        lines += [(record_line({**stopped, "size": size}), None), (finish_line({**t, "n": n}, {**f, "factor": 0}), number),
+                  (record_line({**record, "size": size}), None), (sweep_line({**t, "n": n}, 1, 0), number)]
+    # open at the most: 33 for a sweep, 32 for a finish
+    lines += [(record_line({**record, "sweeps": 7}), None), (sweep_line(t, 0, 6), 33), (finish_line(t, f), 32)]
+    for status in range(3):
+        lines += [(record_line({**stopped, "status": status, "sweeps": 0}), None), (finish_line(t, f), 0)]
+    yield lines
+
+
+# ---- random scripts, and the largest tables -------------------------------------------------------
+
+
+def words_of(line):
+    name, *rest = line.split()
+    return name, rest
+
+
+def roomy(rng, line):
+    """A finish of gen.py with a workspace, at times one byte too small."""
+    name, rest = words_of(line)
+    if name == "finish":
+        rest[-1] = f"{WORKSPACE + rng.choice([0, 0, 0, 0, 0, 1, 77, -1]):016X}"
+    return " ".join([name, *rest])
+
+
+def changing(rng):
+    """Sweeps over two tables in turn, of any size, and finishes over both."""
+    n = gen.size(rng)
+    rank = rng.choice([0, 0, *range(1, 33)])
+    m, r, rule, start = n + 1, rank or gen.default_rank(n + 1), rng.randrange(5), rng.choice([0, 2] if rank == 0 else [0, 1, 2])
+    most, minimum = gen.limits(rng, 60 if n <= 20 else 25)
+    tables = [some_table(rng, n), some_table(rng, n)]
+    lines = ["new", open_line(rng.choice(tables), {
+        "rank": rank, "rule": rule, "number": gen.rule_number(rng, rule), "most": most, "minimum": minimum,
+        "objective": gen.tolerance(rng), "stationarity": gen.tolerance(rng), "start": start,
+        "numbers": gen.numbers(rng, gen.start_count(start, most, m, r)), "factor": m * r})]
+    for k in rng.choice([[most], [1, 19, 40], [3, 3, 14, 1, 5], [0, most // 2, most]]):
+        lines.append(sweep_line(rng.choice(tables), k, m * r + rng.choice([0, 2])))
+    for t in tables:
+        width = rng.choice([0, 1, 2, 5, 16]) if n > 20 else rng.choice([0, 1, 2, 7, 128])
+        lines.append(finish_line(t, finish_of(rng, m, r, width, rng.choice([1, 2, 5]), rng.choice([0, 3]))))
+    return lines
+
+
+def random_runs(rng, count):
+    """Lists of lines, each with its job where it is a whole run."""
+    for k in range(count):
+        if k % 4 == 0:
+            yield whole(rng, rng.randint(0, 32), rng.randrange(5), rng.choice([0, 2]))
+        elif k % 4 == 1:
+            yield changing(rng), None
+        else:
+            yield [roomy(rng, line) for line in gen.script(rng)], None
+
+
+def large_runs(rng):
+    pairs = [(i, j) for i in range(127) for j in range(i)]
+    for rank, rule, most, edges, start in ((0, 3, 21, 2048, 0), (4, 1, 3, 300, 2)):
+        h = {}
+        for i, j in rng.sample(pairs, edges):
+            h[i, j] = h[j, i] = rng.randint(-100, 100)
+        t = table(127, gen.entries(h), [rng.randint(-9, 9) for _ in range(127)])
+        r = rank or 17
+        lines = ["new", open_line(t, {
+            "rank": rank, "rule": rule, "number": bits(0.001), "most": most, "minimum": 0, "objective": 0, "stationarity": bits(1e-9),
+            "start": start, "numbers": gen.numbers(rng, gen.start_count(start, most, 128, r), "usual"), "factor": 128 * r})]
+        lines.append(sweep_line(t, 2**32 - 1, 128 * r))
+        yield lines + [finish_line(t, finish_of(rng, 128, r, 16, 3))]
+
+
+# ---- the oracle's answers ---------------------------------------------------------------------
+
+
+def oracle(mode, lines):
+    text = "\n".join(lines) + "\n"
+    done = subprocess.run([PROGRAM, mode], input=text, capture_output=True, text=True)
+    if done.returncode != 0:
+        sys.exit(f"make_runs: oracle {mode}: {done.stderr[:500]}")
+    return done.stdout.splitlines()
+
+
+def shortest(words):
+    return " ".join(w.lstrip("0") or "0" for w in words)
+
+
+def table_length(words):
+    """How many words n, count and the four slices are."""
+    at = 2
+    for _ in range(4):
+        at += 1 + int(words[at], 16)
+    return at
+
+
+class Answered:
+    """The lines with their answers, and what was seen."""
+
+    def __init__(self, lines):
+        self.out, self.numbers, self.results, self.factors, self.seen = [], [], [], [], set()
+        before, last = [], None
+        for line, full in zip(lines, oracle("run", lines), strict=True):
+            given, said = full.split(" = ")
+            assert given == line
+            name, words = words_of(given)
+            number, *rest = said.split()
+            state = rest[:13 + int(rest[12], 16)] if rest else []
+            result = rest[len(state):]
+            if name == "finish" and int(words[-1], 16) < WORKSPACE:
+                number, result = "1F", []
+            kept = ["."] if state and state == before else state
+            if name in ("open", "sweep", "finish"):
+                length = table_length(words)
+                lent, words = words[:length], words[length:]
+                self.see(name, int(number, 16), [int(w, 16) for w in words], result)
+                words, last = (["~"] if lent == last else lent) + words, lent
+            else:
+                last = None
+            self.out.append(name if name == "new" else " ".join(filter(None, [
+                name, shortest(words), "=", shortest([number, *kept, *result])])))
+            self.numbers.append(int(number, 16))
+            self.results.append(result)
+            self.factors.append(state[13:])
+            before = state
+
+    def see(self, name, number, words, result):
+        self.seen.add((name, number))
+        if name == "open" and number == 0:
+            self.seen |= {("rank", words[0]), ("rule, start", words[1], words[7])}
+        if result:
+            self.seen.add(("status", int(result[0], 16)))
+
+
+ALL = {("rank", r) for r in range(33)} | {("status", k) for k in range(3)} | {
+    ("rule, start", rule, start) for rule in range(5) for start in range(3)} | {
+    (name, number) for name, numbers in (
+        ("open", [0, 31, 13, 14, 15, 16, 17, 18, 19]), ("sweep", [0, 31, 32, 33, 13, 14, 15, 16, 18]),
+        ("finish", [0, 31, 32, 33, 13, 14, 15, 16, 18, 19])) for number in numbers}
+
+
+def answered(scripts):
+    """The scripts' answers; a whole run's must be those of one call of the Rust's solver."""
+    lines, ends = [], []
+    for script, _ in scripts:
+        lines += script
+        ends.append(len(lines) - 1)
+    answers = Answered(lines)
+    for end, (_, job) in zip(ends, scripts):
+        if job:
+            hold_whole(job, answers.results[end], answers.factors[end])
+    return answers
+
+
+def hold_whole(job, result, factor):
+    """`oracle trace` runs the job by one call of `solve_maxcut_sdp`, and stops where its own steps differ from that."""
+    done = subprocess.run([PROGRAM, "trace"], input=bytes.fromhex(job), capture_output=True)
+    assert done.returncode == 0, done.stderr
+    last = {}
+    for name, *words in map(str.split, done.stdout.decode().splitlines()):
+        last[name] = words
+    assert last["answer"] == [answer_of(result)], (job, result)
+    assert last["dual_variables"] == result[len(result) - len(last["dual_variables"]):], (job, result)
+    assert last.get("factor", last["start_factor"]) == factor, (job, factor)
+
+
+def stored():
+    rng = random.Random("runs 1")
+    wholes = answered(list(whole_runs(rng)))
+    faults = [pair for script in itertools.chain(fault_runs(rng), edge_runs(rng)) for pair in script]
+    judged = Answered([line for line, _ in faults])
+    for (line, wanted), number in zip(faults, judged.numbers, strict=True):
+        assert wanted is None or wanted == number, (wanted, number, line)
+    rest = Answered([line for script in settings_runs(rng) for line in script])
+    short = [pair for pair in random_runs(rng, 190) if sum(map(len, pair[0])) < 10000]
+    others = answered(short + [(script, None) for script in large_runs(rng)])
+    assert wholes.seen | judged.seen | rest.seen | others.seen == ALL
+    return wholes.out + judged.out + rest.out + others.out
+
+
+def main():
+    arguments = sys.argv[1:]
+    if arguments == ["--check"] and not os.access(PROGRAM, os.X_OK):
+        print("no oracle is built (oracle/README.md): passed over")
+        return
+    if arguments[:1] == ["--random"]:
+        count, seed = map(int, arguments[1:])
+        rng = random.Random(f"random runs {seed}")
+        for at in range(0, count, 250):
+            print("\n".join(answered(list(random_runs(rng, min(250, count - at)))).out))
+        return
+    text = "\n".join(stored()) + "\n"
+    if arguments == ["--check"]:
+        if text != open(STORED).read():
+            sys.exit("host/runs.txt is not what tools/make_runs.py makes")
+    elif not arguments:
+        with open(STORED, "w") as out:
+            out.write(text)
+    else:
+        sys.exit(__doc__)
+
+
+main()
