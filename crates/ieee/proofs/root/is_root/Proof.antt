@@ -1,0 +1,65 @@
+-- `ieee::root::is_root` meets its contract. Assumes nothing.
+use Prim.Native.Nat.{ℕ, _+_, _-_, _*_, _%_, _^_}
+use mathlib.Core.Path.{_≡_, sym, ap, _∙_, subst}
+use mathlib.Core.Bool.{true, false}
+use native.Mathlib.Omega.{arith}
+use borrow.Author.Needs.{needs}
+use lib.Dec.{T}
+use lib.Ieee.{binary64, ofBits, toBits}
+use lib.Ieee.Bits.{ofBits-toBits}
+use Rattle.ieee.proofs.Patterns.{equal-itself, root-pattern}
+use Rattle.ieee.proofs.Halves.{Halved, halved}
+use Rattle.ieee.proofs.root.is_root.Statement.{statement}
+use Rattle.ieee.proofs.root.is_root.Tie as tie
+
+no : false ≡ true → {P : Type 0} → P
+no e = absurd (subst T (sym e) tt)
+
+held : (c : tie.Start) → ofBits binary64 (toBits binary64 (c .args .f)) ≡ c .args .f
+held c = ofBits-toBits binary64 (c .args .f) (subst T (sym (c .good .1 .0 .1)) tt)
+
+float-to-bits-bits : tie.Need-float-to-bits-bits
+float-to-bits-bits c = equal-itself _ (c .if1 .left)
+
+scaled-requires : tie.Need-scaled-requires
+scaled-requires c κs = search needs
+
+add-r : tie.Need-add-r
+add-r c = omega arith
+
+sub-if2 : tie.Need-sub-if2
+sub-if2 c = omega arith
+
+mul-if2 : tie.Need-mul-if2
+mul-if2 c = omega arith
+
+add-if2 : tie.Need-add-if2
+add-if2 c = omega arith
+
+is-rounded-requires : tie.Need-is-rounded-requires
+is-rounded-requires c κs = (omega arith, omega arith)
+
+returns-3 : tie.Need-returns-3
+returns-3 c e =
+    let s = c .before .before .before .scaled .ensures in
+    let x = c .before .before .before .before .before in
+    let bits = toBits binary64 (x .args .f) in
+    let half : Halved _ (bits % 2 ^ 52 + 2 ^ 52) = halved (omega arith) (c .is-rounded .ensures e) in
+    sym (held x)
+    ∙ ap (ofBits binary64) (c .before .if2 .left ∙ ap (λ (y : ℕ). (c .before .before .before .scaled .result .h - 26) * 2 ^ 52 + y) (sym (half .half)))
+    ∙ root-pattern (x .pre .0) (x .pre .1) s (half .root) .1
+
+pub is-root-spec : {M : Type 1} → statement M
+is-root-spec =
+    tie.close
+    (tie.spec
+    (λ c e. no e)
+    float-to-bits-bits
+    scaled-requires
+    add-r
+    sub-if2
+    mul-if2
+    add-if2
+    (λ c e. no e)
+    is-rounded-requires
+    returns-3)

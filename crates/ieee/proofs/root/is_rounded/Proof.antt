@@ -1,0 +1,68 @@
+-- `ieee::root::is_rounded` meets its contract. Assumes nothing.
+use mathlib.Core.Path.{_≡_, sym, subst}
+use mathlib.Core.Bool.{true, false}
+use Prim.Native.Nat.{_/_, _%_, _^_}
+use native.Mathlib.Omega.{arith}
+use borrow.Author.Needs.{needs}
+use borrow.Author.Tests.{leb-true}
+use lib.Dec.{T}
+use Rattle.ieee.proofs.Halves.{near, Parts, parts}
+use Rattle.ieee.proofs.root.is_rounded.Statement.{statement}
+use Rattle.ieee.proofs.root.is_rounded.Tie as tie
+
+no : false ≡ true → {P : Type 0} → P
+no e = absurd (subst T (sym e) tt)
+
+mul-square : tie.Need-mul-square
+mul-square c = let p = parts (c .args .r) (c .pre .1) in omega arith
+
+mul-left : tie.Need-mul-left
+mul-left c = omega arith
+
+add-left : tie.Need-add-left
+add-left c = omega arith
+
+mul-product : tie.Need-mul-product
+mul-product c = let p = parts (c .before .before .args .r) (c .before .before .pre .1) in omega arith
+
+mul-product-2 : tie.Need-mul-product-2
+mul-product-2 c = let p = parts (c .before .before .args .r) (c .before .before .pre .1) in omega arith
+
+mul-high : tie.Need-mul-high
+mul-high c = omega arith
+
+mul-low : tie.Need-mul-low
+mul-low c = let p = parts (c .before .before .before .before .args .r) (c .before .before .before .before .pre .1) in omega arith
+
+add-low : tie.Need-add-low
+add-low c = let p = parts (c .before .before .before .before .args .r) (c .before .before .before .before .pre .1) in omega arith
+
+add-if5 : tie.Need-add-if5
+add-if5 c = omega arith
+
+add-result : tie.Need-add-result
+add-result c = let p = parts (c .before .before .before .before .before .args .r) (c .before .before .before .before .before .pre .1) in omega arith
+
+returns-6 : tie.Need-returns-6
+returns-6 c = λ e. near (c .before .before .before .before .before .args .r / 2 ^ 26) (c .before .before .before .before .before .args .r % 2 ^ 26) (omega arith) (c .before .before .before .before .if1 .left) (c .before .before .if3 .left) (omega (arith, c .if5 .left)) (leb-true _ _ e)
+
+pub is-rounded-spec : {M : Type 1} → statement M
+is-rounded-spec =
+    tie.close
+    (tie.spec
+    mul-square
+    (λ c e. no e)
+    (λ c e. no e)
+    mul-left
+    add-left
+    mul-product
+    mul-product-2
+    (λ c e. no e)
+    (λ c e. no e)
+    mul-high
+    mul-low
+    add-low
+    add-if5
+    (λ c e. no e)
+    add-result
+    returns-6)
