@@ -13,11 +13,11 @@ ghost use Rattle.ieee.specs.Sqrt.{sqrtOf, NearRoot};
 fn guess(b: u64) -> f64
     requires { ⌜ b < 0x7ff0000000000000 ⌝ }
 {
-    let bits = b % 0x20_0000_0000_0000 + 0x3fe0_0000_0000_0000;
-    let x = f64::from_bits(bits);
+    let digits = b % 0x20_0000_0000_0000;
+    let x = f64::from_bits(digits + 0x3fe0_0000_0000_0000);
     let scale = f64::from_bits((b / 0x10_0000_0000_0000 + 1024) / 2 * 0x10_0000_0000_0000);
     let half = x * 0.5;
-    let mut y = f64::from_bits(0x5fe6_eb50_c7b5_37a9 - bits / 2);
+    let mut y = f64::from_bits(0x3ff6_eb50_c7b5_37a9 - digits / 2);
     y = y * 1.5008789 - half * y * (y * y);
     y = y * 1.50000057 - half * y * (y * y);
     let near = x * y;

@@ -5,8 +5,8 @@ use Rattle.ieee.proofs.Patterns.{not-nan}
 use Rattle.ieee.proofs.root.guess.Statement.{statement}
 use Rattle.ieee.proofs.root.guess.Tie as tie
 
-add-bits : tie.Need-add-bits
-add-bits c = search needs
+add-x : tie.Need-add-x
+add-x c = search needs
 
 float-from-bits-x : tie.Need-float-from-bits-x
 float-from-bits-x c = not-nan _ (omega arith)
@@ -28,4 +28,4 @@ float-from-bits-y c = not-nan _ (omega arith)
 
 pub guess-spec : {M : Type 1} → statement M
 guess-spec =
-    tie.close (tie.spec add-bits float-from-bits-x add-scale mul-scale float-from-bits-scale sub-y float-from-bits-y (λ c. search needs))
+    tie.close (tie.spec add-x float-from-bits-x add-scale mul-scale float-from-bits-scale sub-y float-from-bits-y (λ c. search needs))
