@@ -7,6 +7,7 @@
                                    number that it is refused with, 00 for none (COUNT cuts it)
     leaf, leaf-NAME                lines for `oracle leaf`, of all functions in turn or of one
     wide-NAME                      the same of one function, up to 128 signs of low rank, few entries
+    full-NAME                      the same, each rank from 1 to 32 in turn (a step's rule changes every 32 lines), up to 128 signs
     leaf-edges                     a fixed list for `oracle leaf` at the limits (COUNT cuts it)
     reduced                        lines for `oracle leaf` on reduced problems, refusals included
     run                            scripts for `oracle run`; COUNT scripts
@@ -22,6 +23,7 @@ sys.dont_write_bytecode = True
 import model  # noqa: E402
 
 WIDE = False  # set by the kind wide-NAME: many rows, few numbers in each, few entries
+FULL = None  # set by the kind full-NAME: the number of the line
 LIMIT = 2**40
 SIGN_LIMIT = 2**42
 FRAME = 65536
@@ -217,6 +219,8 @@ def shape(rng):
     if WIDE:
         m = rng.choice([128, 127, rng.randint(21, 128)])
         return m, rng.randint(1, 384 // m)
+    if FULL is not None:
+        return rng.choice([128, rng.randint(1, 128), rng.randint(1, 128)]), FULL % 32 + 1
     return size(rng, low=1, high=128), rng.randint(1, 32)
 
 
@@ -628,7 +632,7 @@ def leaf_signtable(rng):
 
 
 def leaf_table(rng):
-    m = shape(rng)[0] if WIDE else size(rng, low=1, high=128)
+    m = size(rng, low=1, high=128) if not WIDE and FULL is None else shape(rng)[0]
     return table_words(m, sign_table(rng, m))
 
 
@@ -660,7 +664,7 @@ def leaf_project(rng):
 
 
 def leaf_step(rng):
-    rule = rng.randrange(5)
+    rule = rng.randrange(5) if FULL is None else FULL // 32 % 5
     return words(rule, rule_number(rng, rule)) + " " + table_and_factor(rng)
 
 
@@ -874,6 +878,13 @@ def wide_lines(rng, name, count):
     WIDE = True
     yield from leaf_lines(rng, [name], count)
     WIDE = False
+
+
+def full_lines(rng, name, count):
+    global FULL
+    for FULL in range(count):
+        yield from leaf_lines(rng, [name], 1)
+    FULL = None
 
 
 def doubles(*values):
@@ -1146,6 +1157,8 @@ def lines(kind, count, seed):
         return leaf_lines(rng, [kind[5:]], count)
     if kind.startswith("wide-") and kind[5:] in LEAVES:
         return wide_lines(rng, kind[5:], count)
+    if kind.startswith("full-") and kind[5:] in LEAVES:
+        return full_lines(rng, kind[5:], count)
     if kind == "run":
         return (line for _ in range(count) for line in script(rng))
     sys.exit(f"gen.py: no kind {kind!r}\n{__doc__}")
