@@ -222,6 +222,31 @@ def reduced_groups(rng):
     return {"submat": answered("submatrix", subs) + extremes(rng), "lift": answered("lift", lifts)}
 
 
+def lent(rng, size, entries, mapped, fixed):
+    """The words of a case on the numbers of each of the reduced pair: every slice that is lent one too short, as long as asked or longer."""
+    near = lambda n: max(0, n + rng.choice([0] * 9 + [-1, 1]))
+    count = rng.choice([len(entries)] * 9 + [4478, 4479])
+    sized = lambda xs: slice_words((xs + [7])[: near(len(xs))])
+    sub = [size, count] + [w for k in range(3) for w in sized([e[k] for e in entries])] + slice_words(mapped) + slice_words(fixed) + [near(min(count, 1500)) for _ in range(3)]
+    return sub, [size] + slice_words(mapped) + slice_words(fixed) + [near(len(fixed)), near(len(mapped)), near(min(size, 1500))]
+
+
+def lent_groups(rng):
+    subs, lifts = [], []
+    for _ in range(120):
+        size = rng.choice([0, 1, 2, 3, 5, 9, 1024, 1025])
+        places = sorted({(rng.randrange(size), rng.randrange(size)) for _ in range(rng.randrange(12))} if size else [])
+        entries = [(i, j, rng.randrange(-9, 10)) for i, j in places]
+        entries = damaged(rng, size, entries) if size and rng.randrange(4) == 0 else entries
+        mapped, fixed = rng.sample(range(size), min(size, rng.randrange(5))), [rng.randrange(size) for _ in range(rng.randrange(4))] if size else []
+        if rng.randrange(6) == 0:
+            mapped = mapped + [rng.choice([size, mapped[0] if mapped else size])]
+        sub, lift = lent(rng, size, entries, mapped, fixed)
+        subs.append(sub)
+        lifts.append(lift)
+    return {"sublent": oracle("submatrix_number", subs), "liftlent": oracle("lift_number", lifts)}
+
+
 def extremes(rng):
     """Submatrices of values that no double holds, worked out here: the Rust compares values up to 2^53."""
     cases = []
@@ -279,7 +304,7 @@ def oracle(name, cases):
 def stored():
     """The text of both files."""
     rng = random.Random(20261115)
-    groups = {"sqrt": roots(rng), "eighth": eighths(rng), "bits": patterns(rng), "rank": ranks()} | table_groups(rng) | reduced_groups(rng)
+    groups = {"sqrt": roots(rng), "eighth": eighths(rng), "bits": patterns(rng), "rank": ranks()} | table_groups(rng) | reduced_groups(rng) | lent_groups(rng)
     words = lambda x: " ".join(f"{w:X}" for w in (x if isinstance(x, list) else [x]))
     lines = [f"{name} {words(given)} = {words(expected)}\n" for name, cases in groups.items() for given, expected in cases]
     return {"stdin": "".join(lines), "stdout": "".join(f"{name}: {len(cases)} cases, 0 differ\n" for name, cases in groups.items())}

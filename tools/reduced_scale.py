@@ -4,10 +4,10 @@
   tools/reduced_scale.py [--problems 10000] [--seed 1]
 
 A problem is a table, a map, fixed indices, fixed values and a reduced solution; it is one case of `from_principal_submatrix` and one of
-`lift_solution`. Refusals are the oracle's numbers, and must be make_replay's too; tables whose magnitudes add up to more than 2^53, which the
+`lift_solution`, and one of the number of each, with slices lent that are too short, long enough or longer. Refusals are the oracle's numbers, and must be make_replay's too; tables whose magnitudes add up to more than 2^53, which the
 oracle doesn't take, are reduced by make_replay.picked. The program compares doubles by their bits, zeros of either sign as equal. It lends 4,608
-places for each slice of a table and 1,536 for any other, so lists are shorter here, and 31 is met in `lift_solution` alone, by too few fixed
-values or too short a solution. The exit status is 0 where nothing differs.
+places for each slice of a table and 1,536 for any other, so lists are shorter here; in the cases of the numbers it lends as much as is said, 1,536
+at most. The exit status is 0 where nothing differs.
 """
 import argparse
 import collections
@@ -179,8 +179,8 @@ def slices(*lists):
     return [w for xs in lists for w in replay.slice_words(xs)]
 
 
-def answered(problems):
-    """The two cases of each problem, as (name, words given, words expected), and pairs of numbers on which the two readings of 01 differ."""
+def answered(rng, problems):
+    """The cases of each problem, as (name, words given, words expected), and pairs of numbers on which the two readings of 01 differ."""
     sub_numbers = replay.oracle("submatrix_number", [[p["size"], len(p["entries"])] + slices(*([e[k] for e in p["entries"]] for k in range(3)), p["map"], p["fixed"]) + [4608] * 3 for p in problems])
     lift_numbers = replay.oracle("lift_number", [[p["size"]] + slices(p["map"], p["fixed"]) + [len(p["values"]), len(p["solution"]), 1536 + p["size"]] for p in problems])
     subs, lifts, readings = [], [], []
@@ -195,7 +195,9 @@ def answered(problems):
     placed = lambda p, case: (case[1], [255, case[0]] if case[0] else [0] + replay.table_words(0, replay.picked(p["entries"], p["map"]))[1:])
     first = [next(by_oracle) if fits else placed(p, case) for p, case, fits in zip(problems, subs, small)]
     lent = [[p["size"]] + slices(p["map"], p["fixed"], p["values"], p["solution"]) for p in problems]  # with the tails, which the oracle doesn't take
-    return [("submat", *case) for case in first], [("lift", given, expected) for given, (_, expected) in zip(lent, replay.answered("lift", lifts))], readings
+    short = [replay.lent(rng, p["size"], p["entries"], p["map"], p["fixed"]) for p in problems if len(p["entries"]) < 1500]
+    by_number = [[(name, *case) for case in replay.oracle(of, [pair[k] for pair in short])] for k, (name, of) in enumerate((("sublent", "submatrix_number"), ("liftlent", "lift_number")))]
+    return [("submat", *case) for case in first], [("lift", given, expected) for given, (_, expected) in zip(lent, replay.answered("lift", lifts))], *by_number, readings
 
 
 def line(case):
@@ -222,7 +224,7 @@ def main():
     for program, made_by in ((replay.PROGRAM, "oracle/README.md"), (PORT, "rt check replay")):
         if not os.path.exists(program):
             sys.exit(f"{os.path.relpath(program, replay.TOP)} is not built: {made_by}")
-    numbers, differences, readings, total = {"submat": collections.Counter(), "lift": collections.Counter()}, [], [], 0
+    numbers, differences, readings, total, count = {name: collections.Counter() for name in ("submat", "lift", "sublent", "liftlent")}, [], [], 0, 0
     whole = sum(share for share, _ in KINDS.values())
     for kind, (share, make) in KINDS.items():
         rng, left, by_kind = random.Random(f"{kind} {given.seed}"), -(-given.problems * share // whole), {name: collections.Counter() for name in numbers}
@@ -230,18 +232,20 @@ def main():
         while left:
             problems = [make(rng) for _ in range(min(left, BATCH))]
             left -= len(problems)
-            subs, lifts, others = answered(problems)
+            *groups, others = answered(rng, problems)
             readings += others
-            for cases in (subs, lifts):
+            for cases in filter(None, groups):
                 differences += differing(cases)
-                by_kind[cases[0][0]].update(expected[1] if expected[0] else 0 for _, _, expected in cases)
+                count += len(cases)
+                number = lambda expected: expected[0] if len(expected) == 1 else expected[1] if expected[0] else 0
+                by_kind[cases[0][0]].update(number(expected) for _, _, expected in cases)
         shown = "; ".join(f"{name} " + ", ".join(f"{n} {'accepted' if k == 0 else f'by {k}'}" for k, n in sorted(counts.items())) for name, counts in by_kind.items())
         print(f"{kind}: {shown}; {len(differences) - before} differences", flush=True)
         for name, counts in by_kind.items():
             numbers[name].update(counts)
     for name, counts in numbers.items():
         print(f"{name}: accepted {counts.pop(0, 0)}, refused " + ", ".join(f"{n} by {k}" for k, n in sorted(counts.items())))
-    print(f"seed {given.seed}, problems {total}, cases {2 * total}, differences {len(differences)}")
+    print(f"seed {given.seed}, problems {total}, cases {count}, differences {len(differences)}")
     if differences:
         print("the shortest:", min(map(line, differences), key=len)[:3000])
     if readings:

@@ -3,6 +3,8 @@ ghost use Prim.Native.Nat.{_+_, _≤_, _<_};
 ghost use mathlib.Core.Path.{_≡_};
 ghost use lib.ListN.{length};
 use super::leaves::same_leaf;
+use super::lent_cases::is_lent;
+use super::lent_cases::same_lent;
 use super::reduced_cases::is_reduced;
 use super::reduced_cases::same_reduced;
 use super::table_cases::is_table;
@@ -87,6 +89,9 @@ fn run_line(line: &[u8], numbers: &mut [u64], t: Tally) -> Tally {
     }
     if is_reduced(name) {
         return counted(t, name, same_reduced(c, numbers));
+    }
+    if is_lent(name) {
+        return counted(t, name, same_lent(c, numbers));
     }
     counted(t, name, same_leaf(c, numbers))
 }

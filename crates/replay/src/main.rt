@@ -2,6 +2,7 @@
 // of cases, how many there were and how many differed. docs/REPLAY.md says how the list was made.
 mod cases;
 mod leaves;
+mod lent_cases;
 mod reduced_cases;
 mod table_cases;
 mod text;

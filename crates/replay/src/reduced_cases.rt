@@ -26,14 +26,14 @@ pub fn is_reduced(name: u64) -> bool {
 }
 
 // The first n indices.
-fn front<'a>(xs: &'a [u16], n: usize) -> &'a [u16] {
+pub fn front<'a>(xs: &'a [u16], n: usize) -> &'a [u16] {
     if n < xs.len() {
         return &xs[0..n];
     }
     xs
 }
 
-fn front_doubles<'a>(xs: &'a [f64], n: usize) -> &'a [f64] {
+pub fn front_doubles<'a>(xs: &'a [f64], n: usize) -> &'a [f64] {
     if n < xs.len() {
         return &xs[0..n];
     }
