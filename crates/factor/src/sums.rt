@@ -19,6 +19,40 @@ pub fn dot(a: &[f64], b: &[f64]) -> f64
     sum
 }
 
+pub struct Four {
+    pub first: f64,
+    pub second: f64,
+    pub third: f64,
+    pub fourth: f64,
+}
+
+// The dot products of `a` with four others at once, each left to right from 0.0.
+pub fn dot_four(a: &[f64], b: &[f64], c: &[f64], d: &[f64], e: &[f64]) -> Four
+    requires { ⌜ (length (now a) ≡ length (now b)) × (length (now a) ≡ length (now c)) × (length (now a) ≡ length (now d)) × (length (now a) ≡ length (now e)) ⌝ }
+    ensures { λ r. ⌜ (r .first ≡ dotOf (now (a .entry)) (now (b .entry))) × (r .second ≡ dotOf (now (a .entry)) (now (c .entry)))
+        × (r .third ≡ dotOf (now (a .entry)) (now (d .entry))) × (r .fourth ≡ dotOf (now (a .entry)) (now (e .entry))) ⌝ }
+{
+    let mut first = 0.0;
+    let mut second = 0.0;
+    let mut third = 0.0;
+    let mut fourth = 0.0;
+    let mut i = 0;
+    while i < a.len() {
+        let x = a[i];
+        first = first + x * b[i];
+        second = second + x * c[i];
+        third = third + x * d[i];
+        fourth = fourth + x * e[i];
+        i += 1;
+    }
+    Four {
+        first: first,
+        second: second,
+        third: third,
+        fourth: fourth,
+    }
+}
+
 // The sum of the elements, left to right from 0.0.
 pub fn sum(a: &[f64]) -> f64
     ensures { λ r. ⌜ r ≡ sumOf (now (a .entry)) ⌝ }
