@@ -3,9 +3,7 @@
 use mathlib.Core.Path.{_≡_, refl, sym, ap, _∙_}
 use mathlib.Core.Bool.{Bool, true, false, _&&_}
 use mathlib.Core.List.{List, [], _∷_}
-use Prim.Native.Nat.{ℕ, zero, suc, _+_, _*_, _≤_, _<_}
-use native.Mathlib.Decide.{decLe}
-use native.Mathlib.Nat.{lt-of-not-le, le-trans, max-le, min-le-right}
+use Prim.Native.Nat.{ℕ, _*_, _≤_}
 use native.Mathlib.Omega.{arith}
 use borrow.Author.Tests.{ltb-false}
 use lib.Dec.{ltb, eqb}
@@ -20,34 +18,12 @@ use Rattle.tables.specs.Table.{Table, Lent, tableOf}
 use Rattle.rounding.specs.Rounding.{leastDraw, roundedSol}
 use Rattle.rounding.proofs.Least.{length-signsOf}
 use Rattle.tables.specs.Check.{Accepted, shortTable}
-use Rattle.tables.specs.Rank.{leastRoot, defaultRank}
 use Rattle.tables.proofs.Checks.{long-enough, table-lent, table-accepted}
-use Rattle.tables.proofs.Ranks.{root-least}
 use Rattle.run_limits.specs.Limits.{mostRank, mostDraws}
+use Rattle.run_limits.specs.Rank.{rankMeant}
 use Rattle.table_calls.specs.Numbers.{badSigns, signTableNumber}
 use Rattle.table_calls.proofs.Accepting.{signs-passes, signs-parts}
-use Rattle.factor_calls.specs.Numbers.{rankMeant, badRank, badDraws, factorRefused, factorShort, drawsRefused, drawsShort, roundedShort, roundedNumber, dualShort, dualNumber}
-
--- the default rank of a sign table is below the greatest rank
-root-low : (m : ℕ) → m ≤ mostSigns → leastRoot (2 * m) ≤ 16
-root-low m h = go (decLe (leastRoot (2 * m)) 16)
-  where
-    go : Dec (leastRoot (2 * m) ≤ 16) → leastRoot (2 * m) ≤ 16
-    go (yes l) = l
-    go (no n) = absurd (omega (arith, root-least (2 * m) 16 (lt-of-not-le n)))
-
-pub default-low : (m : ℕ) → m ≤ mostSigns → defaultRank m ≤ mostRank
-unfolding defaultRank
-default-low m h = max-le (omega arith) (le-trans (min-le-right m (leastRoot (2 * m) + 1)) (omega (arith, root-low m h)))
-
-pub meant-given : (m rank : ℕ) → (rank ≡ 0 → ⊥) → rankMeant m rank ≡ rank
-unfolding rankMeant
-meant-given m zero n = absurd (n refl)
-meant-given m (suc r) n = refl
-
-pub meant-default : (m : ℕ) {rank : ℕ} → rank ≡ 0 → rankMeant m rank ≡ defaultRank m
-unfolding rankMeant
-meant-default m e = rw e
+use Rattle.factor_calls.specs.Numbers.{badRank, badDraws, factorRefused, factorShort, drawsRefused, drawsShort, roundedShort, roundedNumber, dualShort, dualNumber}
 
 -- a draw's signs are m
 pub length-roundedSol : (factor : List Float) (rank m : ℕ) (draws : List Float) (t : Table) (count : ℕ) → length (roundedSol factor rank m draws t count) ≡ m

@@ -2,21 +2,16 @@
 -- 31, 13 to 16, 17, and 19 of the draws. A length that rests on a number which is itself refused isn't tested.
 use mathlib.Core.Bool.{Bool, _&&_}
 use mathlib.Core.List.{List, [], _∷_}
-use Prim.Native.Nat.{ℕ, zero, suc, _*_}
+use Prim.Native.Nat.{ℕ, _*_}
 use lib.Dec.{ltb, eqb}
 use lib.ListN.{length}
 use lib.IntN.{ℤ}
 use Rattle.laws.specs.Refusal.{_if_, first, anyOf, short}
 use Rattle.tables.specs.Limits.{mostSignEntries}
 use Rattle.tables.specs.Check.{shortTable}
-use Rattle.tables.specs.Rank.{defaultRank}
 use Rattle.run_limits.specs.Limits.{mostRank, mostDraws}
+use Rattle.run_limits.specs.Rank.{rankMeant}
 use Rattle.table_calls.specs.Numbers.{badSigns, signTableNumber}
-
--- the rank as given; 0 means the default rank of m
-unfoldable pub rankMeant : ℕ → ℕ → ℕ
-rankMeant m zero = defaultRank m
-rankMeant m (suc r) = suc r
 
 -- 17
 abbrev pub badRank : ℕ → Bool

@@ -4,9 +4,9 @@ mod numbers;
 
 use finalize::multipliers::multipliers;
 use numbers::dual_number;
-use numbers::rank_meant;
 use numbers::rounded_number;
 use run_limits::MOST_RANK;
+use run_limits::rank_meant;
 use table_calls::Eighths;
 use tables::limits::MOST_SIGNS;
 ghost use mathlib.Core.Path.{_≡_};
@@ -16,9 +16,10 @@ ghost use Rattle.laws.specs.Lists.{over};
 ghost use Rattle.tables.specs.Limits.{mostSigns};
 ghost use Rattle.tables.specs.Table.{tableOf, Lent, InRange, magnitudeOf};
 ghost use Rattle.run_limits.specs.Limits.{mostRank};
+ghost use Rattle.run_limits.specs.Rank.{rankMeant};
 ghost use Rattle.rounding.specs.Rounding.{roundedSol, roundedObjective};
 ghost use Rattle.maxcut_oracle.specs.Table.{dualVariables};
-ghost use Rattle.factor_calls.specs.Numbers.{rankMeant, roundedNumber, dualNumber};
+ghost use Rattle.factor_calls.specs.Numbers.{roundedNumber, dualNumber};
 ghost use Rattle.factor_calls.specs.Answers.{Rounds, Multiplies};
 
 // Room for a direction.

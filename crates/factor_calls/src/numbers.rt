@@ -1,21 +1,17 @@
 // The numbers of the calls, in 01's order: 31, 13 to 16, 17, 19.
 use run_limits::MOST_DRAWS;
 use run_limits::MOST_RANK;
+use run_limits::rank_meant;
 use tables::check::short_table;
 use tables::check::table_number;
 use tables::check::too_short;
-use tables::check::wide;
 use tables::limits::MOST_SIGN_ENTRIES;
 use tables::limits::MOST_SIGN_MAGNITUDE;
 use tables::limits::MOST_SIGNS;
-use tables::rank::default_sdp_rank;
 ghost use mathlib.Core.Path.{_≡_};
-ghost use Prim.Native.Nat.{_≤_};
 ghost use lib.ListN.{length};
-ghost use Rattle.tables.specs.Limits.{mostSigns};
-ghost use Rattle.run_limits.specs.Limits.{mostRank};
 ghost use Rattle.table_calls.specs.Numbers.{badSigns};
-ghost use Rattle.factor_calls.specs.Numbers.{rankMeant, badRank, badDraws, factorShort, drawsRefused, drawsShort, roundedShort, roundedNumber, dualShort, dualNumber};
+ghost use Rattle.factor_calls.specs.Numbers.{badRank, badDraws, factorShort, drawsRefused, drawsShort, roundedShort, roundedNumber, dualShort, dualNumber};
 
 // 13 of m.
 fn bad_signs(m: usize) -> bool
@@ -42,17 +38,6 @@ fn bad_draws(k: usize) -> bool
         return true;
     }
     MOST_DRAWS < k
-}
-
-// The rank as given; 0 means the default rank of m.
-pub fn rank_meant(m: usize, rank: usize) -> usize
-    requires { ⌜ (rank ≡ 0 → m ≤ mostSigns) × (rank ≤ mostRank) ⌝ }
-    ensures { λ r. ⌜ (r ≡ rankMeant m rank) × (r ≤ mostRank) ⌝ }
-{
-    if rank == 0 {
-        return wide(default_sdp_rank(m as u16));
-    }
-    rank
 }
 
 // 31 of a factor of m rows.

@@ -10,7 +10,8 @@ ghost use Rattle.table_calls.specs.Answer.{kept, eighthsAnswer};
 ghost use Rattle.prepared_table.specs.Work.{workRows, workCols, workValues, workStarts, diagonalOf, diagonalSum};
 ghost use Rattle.rounding.specs.Rounding.{roundedSols, roundedSol, roundedObjective};
 ghost use Rattle.maxcut_oracle.specs.Table.{dualVariables};
-ghost use Rattle.factor_calls.specs.Numbers.{rankMeant, roundedNumber, dualNumber};
+ghost use Rattle.run_limits.specs.Rank.{rankMeant};
+ghost use Rattle.factor_calls.specs.Numbers.{roundedNumber, dualNumber};
 ghost use Rattle.factor_calls.specs.Answers.{Multiplies};
 ghost use Rattle.float_host.specs.Answers.{numberOf, valueOf};
 

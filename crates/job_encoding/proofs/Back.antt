@@ -17,7 +17,8 @@ use Rattle.ieee.specs.Floats.{doubleOf, bitsOf, signedOf, bitsOfSigned}
 use Rattle.job_reader.specs.Bytes.{bigEndian, signedAt, doubleAt}
 use Rattle.job_reader.specs.Encode.{bytesOf}
 use Rattle.job_reader.proofs.Encode.{length-bytesOf, read-front, read-bytes, read-signed, read-double}
-use Rattle.job_record.specs.Fields.{wagons, entryCount, row, column, value, rankMeant, startCount}
+use Rattle.run_limits.specs.Rank.{rankMeant}
+use Rattle.job_record.specs.Fields.{wagons, entryCount, row, column, value, startCount}
 use Rattle.job_record.specs.Values.{settingsOf, drawsOf, jobOf, jobCost, jobStart, jobDraw}
 use Rattle.job_record.specs.declared.job.Job.{Job}
 use Rattle.job_encoding.specs.Encode.{Entry, Values, each, entryBytes, signedBytes, doubleBytes, settingsBytes, bodyBytes, headBytes, jobBytes}

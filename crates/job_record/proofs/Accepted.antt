@@ -13,7 +13,8 @@ use Rattle.job_record.specs.Limits.{mostBytes, mostStart, mostDrawn}
 use Rattle.job_record.specs.Fields.{wagons, entryCount, entryAt, rankAt, mostAt, startAt, settingsAfter}
 use Rattle.job_record.specs.Number.{costsNumbers, jobNumber}
 use Rattle.job_record.specs.Values.{settingsOf, drawsOf, jobRank, jobStartCount, jobDrawn}
-use Rattle.job_record.proofs.Ranks.{meant-low, start-low}
+use Rattle.run_limits.proofs.Ranks.{meant-low}
+use Rattle.job_record.proofs.Ranks.{start-low}
 use Rattle.job_record.proofs.Sections.{Settings, Draws, head, run}
 use Rattle.job_record.proofs.Whole.{passed}
 

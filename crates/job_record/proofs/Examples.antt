@@ -13,7 +13,8 @@ use Rattle.ieee.specs.Floats.{zero64, one64}
 use Rattle.tables.specs.Check.{before, badEntry, unmirrored}
 use Rattle.tables.specs.Rank.{rootFrom, leastRoot, defaultRank}
 use Rattle.job_reader.specs.Bytes.{bigEndian}
-use Rattle.job_record.specs.Fields.{row, column, value, rankMeant, startCount}
+use Rattle.run_limits.specs.Rank.{rankMeant}
+use Rattle.job_record.specs.Fields.{row, column, value, startCount}
 use Rattle.job_record.specs.Number.{bounded, frameNumber, versionNumber, entryNumber, momentumNumber, headNumbers, entriesNumbers, costsNumbers, settingsNumbers, drawsNumbers, runNumbers, jobNumber}
 use Rattle.job_record.specs.Values.{settingsOf, drawsOf, jobOf, jobCost, jobRank, jobStartCount, jobStart, jobDrawn, jobDraw}
 use Rattle.job_record.specs.declared.job.Job.{Job}

@@ -6,7 +6,7 @@ use lib.Dec.{ltb}
 use lib.IntN.{ℤ}
 use lib.Ieee.{Float}
 use Rattle.tables.specs.Table.{Table}
-use Rattle.tables.specs.Rank.{defaultRank}
+use Rattle.run_limits.specs.Rank.{rankMeant}
 use Rattle.job_reader.specs.Bytes.{bigEndian, signedAt, doubleAt}
 
 -- length of the rest (4), version (1), n (1), entry count (2)
@@ -77,11 +77,6 @@ widthAt s at = bigEndian s (at + 34) 1
 
 abbrev pub startAt : List ℕ → ℕ → ℕ
 startAt s at = bigEndian s (at + 35) 1
-
--- the rank, for m signs: as given; 0 means the default rank
-unfoldable pub rankMeant : ℕ → ℕ → ℕ
-rankMeant m zero = defaultRank m
-rankMeant m (suc r) = suc r
 
 -- the doubles of a start (kinds 0, 1: m·rank; 2: m, then m·rank draws if most > 0 and rank > 1)
 unfoldable pub startCount : ℕ → ℕ → ℕ → ℕ → ℕ

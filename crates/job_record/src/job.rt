@@ -2,12 +2,12 @@
 use crate::arrays::read_doubles;
 use crate::arrays::read_entries;
 use crate::arrays::read_signed;
-use crate::settings::rank_meant;
 use crate::settings::start_count;
 use job_reader::fields::f64_at;
 use job_reader::fields::u8_at;
 use job_reader::fields::u16_at;
 use job_reader::fields::u32_at;
+use run_limits::rank_meant;
 ghost use mathlib.Core.Path.{_≡_};
 ghost use Prim.Native.Nat.{ℕ, _+_, _*_, _≤_, _<_};
 ghost use lib.ListN.{length};

@@ -10,7 +10,7 @@ use job_reader::fields::u8_at;
 use job_reader::fields::u16_at;
 use job_reader::fields::u32_at;
 use job_reader::read_field;
-use tables::rank::default_sdp_rank;
+use run_limits::rank_meant;
 ghost use mathlib.Core.Path.{_≡_};
 ghost use Prim.Native.Nat.{ℕ, _+_, _*_, _≤_, _<_};
 ghost use lib.ListN.{length};
@@ -18,7 +18,7 @@ ghost use Rattle.laws.specs.Refusal.{first};
 ghost use Rattle.tables.specs.Limits.{mostWagons, mostSigns};
 ghost use Rattle.run_limits.specs.Limits.{mostRank};
 ghost use Rattle.job_record.specs.Limits.{mostBytes, mostStart};
-ghost use Rattle.job_record.specs.Fields.{rankMeant, startCount};
+ghost use Rattle.job_record.specs.Fields.{startCount};
 ghost use Rattle.job_record.specs.Number.{bounded, isMomentum, momentumNumber, settingsNumbers, drawsNumbers, runNumbers};
 
 // A field of so many bytes: 11 past the end, `number` above its limit.
@@ -94,17 +94,6 @@ fn settings_number(job: &[u8], at: usize) -> u8
         }
     }
     0
-}
-
-// The rank that a given one means, for m signs.
-pub fn rank_meant(m: usize, given: usize) -> usize
-    requires { ⌜ (m ≤ mostSigns) × (given ≤ mostRank) ⌝ }
-    ensures { λ r. ⌜ (r ≡ rankMeant m given) × (r ≤ mostRank) ⌝ }
-{
-    if given != 0 {
-        return given;
-    }
-    default_sdp_rank(m as u16) as usize
 }
 
 // The doubles of a start.

@@ -19,22 +19,22 @@ use Rattle.tables.specs.Table.{tableOf}
 use Rattle.tables.specs.Limits.{mostWagons, mostEntries, mostMagnitude}
 use Rattle.tables.specs.Check.{hallNumber}
 use Rattle.run_record.specs.declared.Run.{Run}
-use Rattle.run_limits.specs.Limits.{searchWorkspace}
+use Rattle.run_limits.specs.Limits.{mostRank, searchWorkspace}
 use Rattle.run_record.specs.Numbers.{isStopped, tableShort, tableNumber, badMomentum, sweepNumber, FinishLengths, widthRefused, finishNumber, openRankRefused, startLength}
-use Rattle.run_record.proofs.Ranked.{resolved-small, resolved-some}
+use Rattle.run_limits.proofs.Ranks.{meant-low, meant-some}
 use Rattle.run_sweep.specs.Work.{Work, callWork}
 use Rattle.run_sweep.specs.Sweep.{sweepsUpTo}
 use Rattle.run_sweep.specs.Running.{Running}
 use Rattle.step_rules.specs.Rule.{ruleOf}
 use Rattle.run_contract.specs.Calls.{firstStage, openSize, openRank, openRun, startFactor, openNumberOf, used}
-use Rattle.job_record.specs.Fields.{wagons, entryCount, row, column, value, rankAt, mostAt, startAt}
+use Rattle.job_record.specs.Fields.{wagons, entryCount, row, column, value, mostAt, startAt}
 use Rattle.job_record.specs.Number.{jobNumber, isMomentum}
 use Rattle.job_record.specs.Values.{settingsOf, jobOf, jobCost, jobRank, jobStartCount, jobStart, jobDrawn}
 use Rattle.job_record.proofs.Same.{order-same, mirror-same, total-same}
 use Rattle.job_record.proofs.Accepted.{fields}
 use Rattle.job_record.proofs.Halls.{hall}
 use Rattle.record_call.specs.Record.{jobCosts, jobSettings, opened, stopped}
-use Rattle.record_call.proofs.Bridge.{rank-same, start-same}
+use Rattle.record_call.proofs.Bridge.{start-same}
 use Rattle.run_contract.proofs.Lengths.{length-start}
 use Rattle.run_contract.proofs.Accepting.{open-accepted}
 use Rattle.record_call.proofs.Stopping.{Sound, Ended, ends, sweeps-long}
@@ -95,28 +95,30 @@ module _ (s : List ℕ) (e : jobNumber s ≡ 0) where
   unfolding jobOf
   rank-passed = let f = fields s e in rank-passes _ _ (f .settings .rank) (f .settings .given)
 
+  rank-low : jobOf s .rank ≤ mostRank
+  unfolding jobOf
+  rank-low = fields s e .settings .rank
+
   pub few : jobCosts s .n ≤ mostWagons
   unfolding jobCosts
   few = fields s e .few
 
   pub rank-some : 1 ≤ openRank (jobSettings s)
   unfolding jobSettings
-  rank-some = resolved-some (jobOf s .rank) (jobCosts s .n + 1)
+  rank-some = meant-some (jobCosts s .n + 1) (jobOf s .rank)
 
   pub rank-few : openRank (jobSettings s) ≤ 32
   unfolding jobSettings
-  rank-few = resolved-small (jobOf s .rank) (jobOf s .start) (jobCosts s .n + 1) (omega (arith, few)) rank-passed
+  rank-few = meant-low (jobCosts s .n + 1) (jobOf s .rank) (omega (arith, few)) rank-low
 
   -- the rank that is meant, and the start's numbers, as the record's reader counts them
   pub rank-is : openRank (jobSettings s) ≡ jobRank s
   unfolding jobSettings jobCosts jobOf
-  rank-is = sym (rank-same (wagons s + 1) (rankAt s (settingsOf s)))
+  rank-is = refl
 
   pub start-is : startLength (jobOf s .start) (jobCosts s .n + 1) (openRank (jobSettings s)) (jobOf s .most) ≡ jobStartCount s
   unfolding jobSettings jobCosts jobOf
-  start-is =
-      ap (λ (r : ℕ). startLength (startAt s (settingsOf s)) (wagons s + 1) r (mostAt s (settingsOf s))) (sym (rank-same (wagons s + 1) (rankAt s (settingsOf s))))
-      ∙ sym (start-same (startAt s (settingsOf s)) (wagons s + 1) (jobRank s) (mostAt s (settingsOf s)) (fields s e .settings .start))
+  start-is = sym (start-same (startAt s (settingsOf s)) (wagons s + 1) (jobRank s) (mostAt s (settingsOf s)) (fields s e .settings .start))
 
   start-there : startLength (jobOf s .start) (jobCosts s .n + 1) (openRank (jobSettings s)) (jobOf s .most) ≤ length (tabulate (jobStart s) (jobStartCount s))
   start-there = let l = length-tabulate (jobStart s) (jobStartCount s) in omega (arith, start-is, l)

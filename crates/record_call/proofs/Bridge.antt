@@ -1,18 +1,12 @@
--- The record's reader and the run's calls mean the same by a rank, by a start's numbers and by momentum. Assumes nothing.
+-- The record's reader and the run's calls mean the same by a start's numbers and by momentum. Assumes nothing.
 use Prim.Native.Nat.{ℕ, zero, suc, _≤_}
 use mathlib.Core.Path.{_≡_, refl}
 use mathlib.Core.Bool.{not}
 use native.Mathlib.Omega.{arith}
 use lib.Ieee.{Float}
-use borrow.Author.Tests.{ne-eqb}
-use Rattle.run_record.specs.Numbers.{resolvedRank, startLength, badBeta}
-use Rattle.job_record.specs.Fields.{rankMeant, startCount}
+use Rattle.run_record.specs.Numbers.{startLength, badBeta}
+use Rattle.job_record.specs.Fields.{startCount}
 use Rattle.job_record.specs.Number.{isMomentum}
-
-pub rank-same : (m rank : ℕ) → rankMeant m rank ≡ resolvedRank rank m
-unfolding rankMeant
-rank-same m zero = refl
-rank-same m (suc r) = rw (ne-eqb (suc r) 0 (λ e. omega (arith, e)))
 
 pub start-same : (kind m rank most : ℕ) → kind ≤ 2 → startCount kind m rank most ≡ startLength kind m rank most
 unfolding startCount startLength

@@ -14,7 +14,8 @@ use Rattle.tables.specs.Check.{shortTable}
 use Rattle.run_record.specs.declared.Run.{Run}
 use Rattle.run_record.specs.CostTable.{CostTable}
 use Rattle.run_limits.specs.Limits.{mostRank, mostWidth, mostDraws, searchWorkspace}
-use Rattle.run_record.specs.Numbers.{isStopped, tableShort, factorShort, recordRefused, tableNumber, badBeta, badMomentum, sweepShort, sweepNumber, drawsRefused, drawsShort, choiceShort, FinishLengths, finishShort, widthRefused, finishNumber, resolvedRank, openRankRefused, startLength, startShort, openFactorShort, openShort, ruleRefused, openNumber}
+use Rattle.run_limits.specs.Rank.{rankMeant}
+use Rattle.run_record.specs.Numbers.{isStopped, tableShort, factorShort, recordRefused, tableNumber, badBeta, badMomentum, sweepShort, sweepNumber, drawsRefused, drawsShort, choiceShort, FinishLengths, finishShort, widthRefused, finishNumber, openRankRefused, startLength, startShort, openFactorShort, openShort, ruleRefused, openNumber}
 use Rattle.step_rules.specs.Rule.{ruleOf}
 use Rattle.job_record.specs.Number.{isMomentum}
 
@@ -62,7 +63,7 @@ rank-passes rank start h g =
     or-none (ltb mostRank rank) _ (le-ltb mostRank rank h) (and-none (eqb rank 0) (eqb start 1) (λ a b. g (eqb-true start 1 b) (eqb-true rank 0 a)))
 
 pub open-passes : (t : CostTable) (rank rule : ℕ) (number : Float) (most start numbers factor : ℕ) → tableShort t ≡ false → tableNumber t ≡ 0
-    → startLength start (t .n + 1) (resolvedRank rank (t .n + 1)) most ≤ numbers → (t .n + 1) * resolvedRank rank (t .n + 1) ≤ factor
+    → startLength start (t .n + 1) (rankMeant (t .n + 1) rank) most ≤ numbers → (t .n + 1) * rankMeant (t .n + 1) rank ≤ factor
     → openRankRefused rank start ≡ false → ruleRefused rule number ≡ false → start ≤ 2
     → openNumber t rank rule number most start numbers factor ≡ 0
 unfolding openNumber openShort startShort openFactorShort

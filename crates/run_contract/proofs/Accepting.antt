@@ -20,7 +20,8 @@ use Rattle.run_limits.specs.Limits.{mostRank, mostWidth, mostDraws}
 use Rattle.run_record.specs.Numbers.{tableShort, factorRefused, factorShort, recordRefused, sweepShort, sweepNumber, drawsRefused, drawsShort, choiceShort, FinishLengths, finishShort, widthRefused, finishNumber, openRankRefused, startLength, startShort, openFactorShort, openShort, openNumber, ruleRefused}
 use Rattle.run_record.proofs.Short.{tested}
 use Rattle.run_record.proofs.Holds.{table-lent, costs-lent}
-use Rattle.run_record.proofs.Ranked.{resolved-small, resolved-some}
+use Rattle.run_limits.proofs.Ranks.{meant-low, meant-some}
+use Rattle.run_record.proofs.Ranked.{taken-low}
 use Rattle.run_sweep.specs.Running.{Running}
 use Rattle.finalize.specs.Contracts.{Fits}
 use Rattle.run_contract.specs.Calls.{Settings, openSize, openRank, openNumberOf, used}
@@ -113,8 +114,8 @@ module _ (o : Settings) (factor : ℕ) where
         costs = costs-lent (o .table) table (hall .wagons);
         hall = hall;
         rule-few = ltb-false 4 (o .rule) (or-left (ltb 4 (o .rule)) _ rule-good);
-        rank-some = resolved-some (o .rank) (openSize o);
-        rank-few = resolved-small (o .rank) (o .start) (openSize o) (omega (arith, hall .wagons)) rank-good;
+        rank-some = meant-some (openSize o) (o .rank);
+        rank-few = meant-low (openSize o) (o .rank) (omega (arith, hall .wagons)) (taken-low (o .rank) (o .start) rank-good);
         numbers-room = rw (← (count-is (eqb (o .start) 2) (ltb 0 (o .most) && ltb 1 (openRank o)) (openRank o) (openSize o)))
             (tested _ _ _ (any-not _ _ few (any-not _ _ rank-good (any-not _ _ kind-good any-none))) (any-head _ _ (any-rest _ _ s)));
         factor-room = tested _ _ _ (any-not _ _ few (any-not _ _ rank-good any-none)) (any-head _ _ (any-rest _ _ (any-rest _ _ s)));

@@ -36,6 +36,7 @@ use Rattle.local_search.specs.SignSearch as SignSearch
 use Rattle.sign_search.specs.Search as Search
 use Rattle.step_rules.specs.Steps as Steps
 use Rattle.step_rules.specs.Rule as Rule
+use Rattle.run_limits.specs.Rank as Rank
 use Rattle.run_record.specs.CostTable.{CostTable, costTable}
 use Rattle.run_record.specs.Numbers as Numbers
 use Rattle.run_record.specs.Numbers.{isStopped}
@@ -94,7 +95,7 @@ pub run-computed :
     map shown (plainTrace (plainOpen settings) (finishing ∷ sweeping 2 2 ∷ sweeping 2 1 ∷ sweeping 2 2 ∷ sweeping 2 2 ∷ finishing ∷ []))
     ≡ (look 32 0 false 0 none ∷ look 0 2 false 0 none ∷ look 31 2 false 0 none ∷ look 0 3 true 1 none ∷ look 32 3 true 1 none ∷ look 0 3 true 1 (some (1 ∷ [])) ∷ [])
 unfolding plainOpen PlainRun.sweptFactor PlainRun.swept PlainRun.checked PlainRun.atMost PlainRun.plainSweeps PlainRun.recordOf PlainRun.plainNumber PlainRun.plainAfter
-    PlainRun.finishOf PlainRun.plainSeen Calls.startFactor Calls.finishResult
+    PlainRun.finishOf PlainRun.plainSeen Calls.startFactor Calls.finishResult Rank.rankMeant
     Refusal.orElse Refusal.first Refusal.anyOf Refusal.short Numbers.tableShort Numbers.factorRefused Numbers.factorShort Numbers.recordRefused Numbers.sweepShort
     Numbers.sweepNumber Numbers.drawsRefused Numbers.drawsShort Numbers.choiceShort Numbers.finishShort Numbers.widthRefused Numbers.finishNumber
     Check.badSize Check.before Check.badEntry Check.badOrder Check.unmirrored Check.hallNumber Check.shortTable Sum.total

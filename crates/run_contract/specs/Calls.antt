@@ -15,7 +15,8 @@ use Rattle.run_record.specs.declared.Stage.{Stage}
 use Rattle.run_record.specs.declared.Stage.the-variants.{Open, Stopped}
 use Rattle.run_record.specs.declared.Run.{Run}
 use Rattle.run_record.specs.CostTable.{CostTable, quadratic, linear}
-use Rattle.run_record.specs.Numbers.{resolvedRank, openNumber, sweepNumber, FinishLengths, finishNumber}
+use Rattle.run_limits.specs.Rank.{rankMeant}
+use Rattle.run_record.specs.Numbers.{openNumber, sweepNumber, FinishLengths, finishNumber}
 use Rattle.run_sweep.specs.Work.{signsOf, callWork}
 use Rattle.run_sweep.specs.Sweep.{State, sweepsUpTo}
 use Rattle.finalize.specs.Finalize.{diagonalTotal, floatBound, floorEighths, roundedCost, searchedChoice, searchedCost, searchedRounds, multipliersOf}
@@ -74,7 +75,7 @@ abbrev pub openSize : Settings → ℕ
 openSize o = o .table .n + 1
 
 abbrev pub openRank : Settings → ℕ
-openRank o = resolvedRank (o .rank) (openSize o)
+openRank o = rankMeant (openSize o) (o .rank)
 
 -- the start's factor: kind 2 is signs, and draws follow them where there are sweeps and the rank is above 1
 unfoldable pub startFactor : Settings → List Float

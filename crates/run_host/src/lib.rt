@@ -375,22 +375,7 @@ pub extern "C" fn host_finish(
         stage,
         status,
     );
-    let finished = finish(
-        run,
-        n,
-        count,
-        rows,
-        cols,
-        values,
-        c,
-        width,
-        draw_count,
-        draws,
-        factor,
-        b,
-        dual_variables,
-        workspace,
-    );
+    let finished = finish(run, n, count, rows, cols, values, c, width, draw_count, draws, factor, b, dual_variables, workspace);
     match finished {
         Finished::Result(result) => {
             put_result(

@@ -14,8 +14,8 @@ use Rattle.laws.specs.Refusal.{first, _if_, anyOf, short}
 use Rattle.ieee.specs.Floats.{zero64, one64}
 use Rattle.tables.specs.Limits.{mostWagons, mostEntries, mostMagnitude}
 use Rattle.tables.specs.Check.{hallNumber, shortTable}
-use Rattle.tables.specs.Rank.{defaultRank}
 use Rattle.run_limits.specs.Limits.{mostRank, mostWidth, mostDraws, searchWorkspace}
+use Rattle.run_limits.specs.Rank.{rankMeant}
 use Rattle.run_record.specs.CostTable.{CostTable, quadratic, linear}
 
 abbrev pub isStopped : Stage → Bool
@@ -123,9 +123,6 @@ finishNumber run t width drawCount lent =
     ∷ [])
 
 -- the open call: the factor rests on n and rank; the start's numbers on these and on the start's kind
-abbrev pub resolvedRank : ℕ → ℕ → ℕ
-resolvedRank rank m = cond (eqb rank 0) (defaultRank m) rank
-
 unfoldable pub openRankRefused : ℕ → ℕ → Bool
 openRankRefused rank start = ltb mostRank rank || (eqb rank 0 && eqb start 1)
 
@@ -136,10 +133,10 @@ startLength start m rank most =
 
 unfoldable pub startShort : ℕ → ℕ → ℕ → ℕ → ℕ → Bool
 startShort n rank most start numbers =
-    short (anyOf (ltb mostWagons n ∷ openRankRefused rank start ∷ ltb 2 start ∷ [])) (startLength start (n + 1) (resolvedRank rank (n + 1)) most) numbers
+    short (anyOf (ltb mostWagons n ∷ openRankRefused rank start ∷ ltb 2 start ∷ [])) (startLength start (n + 1) (rankMeant (n + 1) rank) most) numbers
 
 unfoldable pub openFactorShort : ℕ → ℕ → ℕ → ℕ → Bool
-openFactorShort n rank start factor = short (anyOf (ltb mostWagons n ∷ openRankRefused rank start ∷ [])) ((n + 1) * resolvedRank rank (n + 1)) factor
+openFactorShort n rank start factor = short (anyOf (ltb mostWagons n ∷ openRankRefused rank start ∷ [])) ((n + 1) * rankMeant (n + 1) rank) factor
 
 unfoldable pub openShort : CostTable → ℕ → ℕ → ℕ → ℕ → ℕ → Bool
 openShort t rank most start numbers factor =

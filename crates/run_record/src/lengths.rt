@@ -4,11 +4,12 @@ ghost use Prim.Native.Nat.{ℕ, _≤_, _+_};
 ghost use Rattle.laws.specs.Refusal.{short};
 ghost use Rattle.run_record.specs.CostTable.{costTable};
 ghost use Rattle.run_record.specs.Lengths.{lengthsOf};
-ghost use Rattle.run_record.specs.Numbers.{tableShort, factorShort, sweepShort, drawsShort, choiceShort, finishShort, resolvedRank, openRankRefused, startLength, startShort, openFactorShort, openShort};
+ghost use Rattle.run_record.specs.Numbers.{tableShort, factorShort, sweepShort, drawsShort, choiceShort, finishShort, openRankRefused, startLength, startShort, openFactorShort, openShort};
 use super::Run;
 use run_limits::SEARCH_WORKSPACE;
 use run_limits::MOST_DRAWS;
 use run_limits::MOST_RANK;
+use run_limits::rank_meant;
 use tables::check::short_table;
 use tables::check::too_short;
 use tables::limits;
@@ -125,18 +126,6 @@ pub fn finish_short(
     lent.workspace < SEARCH_WORKSPACE
 }
 
-// The rank that is meant: 0 is the default of m.
-pub fn resolved_rank(rank: usize, m: usize) -> usize
-    requires { ⌜ m ≤ 128 ⌝ }
-    ensures { λ r. ⌜ r ≡ resolvedRank rank m ⌝ }
-{
-    if rank == 0 {
-        tables::rank::default_sdp_rank(m as u16) as usize
-    } else {
-        rank
-    }
-}
-
 pub fn open_rank_refused(rank: usize, start: u8) -> bool
     ensures { λ r. ⌜ r ≡ openRankRefused rank start ⌝ }
 {
@@ -173,8 +162,8 @@ fn start_short(n: usize, rank: usize, most: u32, start: u8, numbers: usize) -> b
     if 2 < start {
         return false;
     }
-    let resolved = resolved_rank(rank, n + 1);
-    numbers < start_length(start, n + 1, resolved, most)
+    let meant = rank_meant(n + 1, rank);
+    numbers < start_length(start, n + 1, meant, most)
 }
 
 fn open_factor_short(n: usize, rank: usize, start: u8, factor: usize) -> bool
@@ -186,8 +175,8 @@ fn open_factor_short(n: usize, rank: usize, start: u8, factor: usize) -> bool
     if open_rank_refused(rank, start) {
         return false;
     }
-    let resolved = resolved_rank(rank, n + 1);
-    factor < (n + 1) * resolved
+    let meant = rank_meant(n + 1, rank);
+    factor < (n + 1) * meant
 }
 
 pub fn open_short(

@@ -4,7 +4,7 @@ use finalize::room;
 use initialize::prepare_initial_factor;
 use maxcut_oracle::objective::obj;
 use run_contract::Opened;
-use run_record::lengths::resolved_rank;
+use run_limits::rank_meant;
 use run_record::numbers::open_number;
 use run_record::Run;
 use run_record::Stage;
@@ -90,7 +90,7 @@ pub fn open_accepted(
     ensures { λ r. ⌜ Opens (settingsOf (costTable n count (now (rows .entry)) (now (cols .entry)) (now (values .entry)) (now (c .entry))) rank rule number most minimum «objective_tolerance» «stationarity_tolerance» start (now (numbers .entry))) (now (factor .entry)) (Started r) (now (factor .exit)) ⌝ }
 {
     let size = n + 1;
-    let meant = resolved_rank(rank, size);
+    let meant = rank_meant(size, rank);
     let used = size * meant;
     prepare_initial_factor(start == 2, takes_draws(most, meant), numbers, meant, size, factor);
     let last_objective = first_objective(n, count, rows, cols, values, c, meant, &factor[..used]);

@@ -25,7 +25,7 @@ cast-rank-meant-2 : tie.Need-cast-rank-meant-2
 cast-rank-meant-2 c = search needs
 
 rank-meant-requires : tie.Need-rank-meant-requires
-rank-meant-requires c κs = (omega (arith, fields (c .before .before .before .before .args .job .now) (c .before .before .before .before .pre) .few, c .before .u8-at .ensures), rw (c .u8-at2 .ensures, c .before .before .settings-at .ensures .0) (fields (c .before .before .before .before .args .job .now) (c .before .before .before .before .pre) .settings .rank))
+rank-meant-requires c κs = (λ _. omega (arith, fields (c .before .before .before .before .args .job .now) (c .before .before .before .before .pre) .few, c .before .u8-at .ensures), rw (c .u8-at2 .ensures, c .before .before .settings-at .ensures .0) (fields (c .before .before .before .before .args .job .now) (c .before .before .before .before .pre) .settings .rank))
 
 returns : tie.Need-returns
 returns c = (c .rank-meant .ensures .0 ∙ simp (c .before .before .u8-at .ensures, c .before .u8-at2 .ensures, c .before .before .before .settings-at .ensures .0), c .rank-meant .ensures .1)

@@ -27,7 +27,7 @@ cast-rank-meant : tie.Need-cast-rank-meant
 cast-rank-meant c = search needs
 
 rank-meant-requires : tie.Need-rank-meant-requires
-rank-meant-requires c κs = let a = c .before .before .before .before .args in (omega arith, omega (arith, c .u8-at .ensures, settings (a .job .now) (a .at) (sym (c .before .before .settings-number .ensures) ∙ c .before .if1 .left) .rank))
+rank-meant-requires c κs = let a = c .before .before .before .before .args in (λ _. omega arith, omega (arith, c .u8-at .ensures, settings (a .job .now) (a .at) (sym (c .before .before .settings-number .ensures) ∙ c .before .if1 .left) .rank))
 
 add-u8-at : tie.Need-add-u8-at
 add-u8-at c = search needs

@@ -9,7 +9,7 @@ use borrow.Author.Tests.{lt-ltb, le-ltb}
 use Rattle.laws.proofs.Any.{any-here, any-skip, any-none}
 use Rattle.run_record.proofs.Short.{untested, tests}
 use Rattle.run_record.specs.Numbers.{openFactorShort}
-use Rattle.run_record.proofs.Ranked.{resolved-small}
+use Rattle.run_record.proofs.Ranked.{taken-low}
 
 returns : tie.Need-returns
 unfolding openFactorShort
@@ -22,11 +22,11 @@ returns-2 : tie.Need-returns-2
 unfolding openFactorShort
 returns-2 c = untested _ _ _ (any-skip _ _ (le-ltb _ _ (c .before .before .if1 .left)) ∙ any-here _ _ (sym (c .before .open-rank-refused .ensures) ∙ c .if2 .taken))
 
-add-resolved-rank : tie.Need-add-resolved-rank
-add-resolved-rank c = search needs
+add-rank-meant : tie.Need-add-rank-meant
+add-rank-meant c = search needs
 
-resolved-rank-requires : tie.Need-resolved-rank-requires
-resolved-rank-requires c κs = search needs
+rank-meant-requires : tie.Need-rank-meant-requires
+rank-meant-requires c κs = (λ _. omega arith, taken-low _ _ (sym (c .before .open-rank-refused .ensures) ∙ c .if2 .left))
 
 add-result : tie.Need-add-result
 add-result c = search needs
@@ -34,12 +34,11 @@ add-result c = search needs
 mul-result : tie.Need-mul-result
 mul-result c = 
     let m : c .before .before .before .before .args .n + 1 ≤ 128 = omega arith in
-    let r : c .resolved-rank .result ≤ 32 = rw (c .resolved-rank .ensures) (resolved-small _ (c .before .before .before .before .args .start) _ m (sym (c .before .before .open-rank-refused .ensures) ∙ c .before .if2 .left)) in
-    omega (arith, mul-le-mul m r)
+    omega (arith, mul-le-mul m (c .rank-meant .ensures .1))
 
 returns-3 : tie.Need-returns-3
 unfolding openFactorShort
-returns-3 c = rw (c .resolved-rank .ensures) (tests _ _ _ (any-skip _ _ (le-ltb _ _ (c .before .before .before .if1 .left)) ∙ any-skip _ _ (sym (c .before .before .open-rank-refused .ensures) ∙ c .before .if2 .left) ∙ any-none))
+returns-3 c = rw (c .rank-meant .ensures .0) (tests _ _ _ (any-skip _ _ (le-ltb _ _ (c .before .before .before .if1 .left)) ∙ any-skip _ _ (sym (c .before .before .open-rank-refused .ensures) ∙ c .before .if2 .left) ∙ any-none))
 
 pub open-factor-short-spec : {M : Type 1} → statement M
 open-factor-short-spec =
@@ -48,8 +47,8 @@ open-factor-short-spec =
     returns
     open-rank-refused-requires
     returns-2
-    add-resolved-rank
-    resolved-rank-requires
+    add-rank-meant
+    rank-meant-requires
     add-result
     mul-result
     returns-3)

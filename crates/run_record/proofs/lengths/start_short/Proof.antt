@@ -2,13 +2,12 @@ use borrow.Author.Needs.{needs}
 use Rattle.run_record.proofs.lengths.start_short.Statement.{statement}
 use Rattle.run_record.proofs.lengths.start_short.Tie as tie
 use mathlib.Core.Path.{_≡_, sym, _∙_}
-use Prim.Native.Nat.{_≤_, _+_}
 use native.Mathlib.Omega.{arith}
 use borrow.Author.Tests.{lt-ltb, le-ltb}
 use Rattle.laws.proofs.Any.{any-here, any-skip, any-none}
 use Rattle.run_record.proofs.Short.{untested, tests}
 use Rattle.run_record.specs.Numbers.{startShort}
-use Rattle.run_record.proofs.Ranked.{resolved-small}
+use Rattle.run_record.proofs.Ranked.{taken-low}
 
 returns : tie.Need-returns
 unfolding startShort
@@ -25,23 +24,21 @@ returns-3 : tie.Need-returns-3
 unfolding startShort
 returns-3 c = untested _ _ _ (any-skip _ _ (le-ltb _ _ (c .before .before .before .if1 .left)) ∙ any-skip _ _ (sym (c .before .before .open-rank-refused .ensures) ∙ c .before .if2 .left) ∙ any-here _ _ (lt-ltb _ _ (c .if3 .taken)))
 
-add-resolved-rank : tie.Need-add-resolved-rank
-add-resolved-rank c = search needs
+add-rank-meant : tie.Need-add-rank-meant
+add-rank-meant c = search needs
 
-resolved-rank-requires : tie.Need-resolved-rank-requires
-resolved-rank-requires c κs = search needs
+rank-meant-requires : tie.Need-rank-meant-requires
+rank-meant-requires c κs = (λ _. omega arith, taken-low _ _ (sym (c .before .before .open-rank-refused .ensures) ∙ c .before .if2 .left))
 
 add-start-length : tie.Need-add-start-length
 add-start-length c = search needs
 
 start-length-requires : tie.Need-start-length-requires
-start-length-requires c κs = 
-    let r : c .resolved-rank .result ≤ 32 = rw (c .resolved-rank .ensures) (resolved-small _ (c .before .before .before .before .before .args .start) _ (omega arith) (sym (c .before .before .before .open-rank-refused .ensures) ∙ c .before .before .if2 .left)) in
-    (omega arith, r)
+start-length-requires c κs = (omega arith, c .rank-meant .ensures .1)
 
 returns-4 : tie.Need-returns-4
 unfolding startShort
-returns-4 c = rw (c .start-length .ensures, c .before .resolved-rank .ensures) (tests _ _ _ (any-skip _ _ (le-ltb _ _ (c .before .before .before .before .before .if1 .left)) ∙ any-skip _ _ (sym (c .before .before .before .before .open-rank-refused .ensures) ∙ c .before .before .before .if2 .left) ∙ any-skip _ _ (le-ltb _ _ (c .before .before .if3 .left)) ∙ any-none))
+returns-4 c = rw (c .start-length .ensures, c .before .rank-meant .ensures .0) (tests _ _ _ (any-skip _ _ (le-ltb _ _ (c .before .before .before .before .before .if1 .left)) ∙ any-skip _ _ (sym (c .before .before .before .before .open-rank-refused .ensures) ∙ c .before .before .before .if2 .left) ∙ any-skip _ _ (le-ltb _ _ (c .before .before .if3 .left)) ∙ any-none))
 
 pub start-short-spec : {M : Type 1} → statement M
 start-short-spec =
@@ -51,8 +48,8 @@ start-short-spec =
     open-rank-refused-requires
     returns-2
     returns-3
-    add-resolved-rank
-    resolved-rank-requires
+    add-rank-meant
+    rank-meant-requires
     add-start-length
     start-length-requires
     returns-4)

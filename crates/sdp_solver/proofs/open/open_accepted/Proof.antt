@@ -2,10 +2,12 @@
 use borrow.Author.Needs.{needs}
 use Prim.Native.Nat.{_+_, _*_, _≤_}
 use mathlib.Core.Path.{_≡_, refl, sym, ap}
+use native.Mathlib.Nat.{le-trans}
 use native.Mathlib.Omega.{arith}
 use denote.Ref.{now}
 use lib.ListN.{length}
 use lib.Seq.{length-take-le}
+use Rattle.run_limits.proofs.Ranks.{given-under}
 use Rattle.run_record.specs.declared.Run.{Run}
 use Rattle.run_record.specs.CostTable.{costTable}
 use Rattle.run_contract.specs.declared.Opened.the-variants.{Started}
@@ -24,17 +26,23 @@ settings s =
 openable : (s : tie.Start) → Openable (settings s) (length (now (s .args .factor)))
 openable s = open-accepted (settings s) (length (now (s .args .factor))) (s .pre)
 
+rank-meant-requires : tie.Need-rank-meant-requires
+rank-meant-requires c κs =
+    let s = c .before .before .before .before in
+    let u = openable s in
+    (λ _. omega (arith, u .hall .wagons), le-trans (given-under (s .args .n + 1) (s .args .rank)) (u .rank-few))
+
 -- the factor's numbers lie within the lent slice
-long : (c : tie.After-resolved-rank) → (c .before .before .before .before .before .args .n + 1) * c .resolved-rank .result ≤ length (now (c .before .before .before .before .before .args .factor))
-long c = rw (c .resolved-rank .ensures) (openable (c .before .before .before .before .before) .factor-room)
+long : (c : tie.After-rank-meant) → (c .before .before .before .before .before .args .n + 1) * c .rank-meant .result ≤ length (now (c .before .before .before .before .before .args .factor))
+long c = rw (c .rank-meant .ensures .0) (openable (c .before .before .before .before .before) .factor-room)
 
 prepare-initial-factor-requires : tie.Need-prepare-initial-factor-requires
 prepare-initial-factor-requires c κs =
     let u = openable (c .before .before .before .before .before .before .before) in
-    (rw (c .before .takes-draws .ensures, c .before .before .resolved-rank .ensures) (u .numbers-room), long (c .before .before), rw (c .before .before .resolved-rank .ensures) (u .rank-some))
+    (rw (c .before .takes-draws .ensures, c .before .before .rank-meant .ensures .0) (u .numbers-room), long (c .before .before), rw (c .before .before .rank-meant .ensures .0) (u .rank-some))
 
 -- and stay there
-still-long : (c : tie.After-slice-known2) → (c .before .before .before .before .before .before .before .before .before .before .args .n + 1) * c .before .before .before .before .before .resolved-rank .result ≤ length (c .before .before .prepare-initial-factor .last .1 .1 .1 .1 .1 .0)
+still-long : (c : tie.After-slice-known2) → (c .before .before .before .before .before .before .before .before .before .before .args .n + 1) * c .before .before .before .before .before .rank-meant .result ≤ length (c .before .before .prepare-initial-factor .last .1 .1 .1 .1 .1 .0)
 still-long c = rw (c .before .before .prepare-initial-factor .kept .1 .1 .1 .1 .1 .0) (long (c .before .before .before .before .before))
 
 first-objective-requires : tie.Need-first-objective-requires
@@ -47,7 +55,7 @@ returns c =
     let o = settings (c .before .before .before .before .before .before .before .before .before .before .before .before .before .before) in
     let factor = now (c .before .before .before .before .before .before .before .before .before .before .before .before .before .before .args .factor) in
     let ok = c .before .before .before .before .before .before .before .before .before .before .before .before .before .before .pre in
-    let meant = c .before .before .before .before .before .before .before .before .before .resolved-rank .ensures in
+    let meant = c .before .before .before .before .before .before .before .before .before .rank-meant .ensures .0 in
     let new = started o factor ok meant (c .before .before .before .before .before .before .before .before .takes-draws .ensures) (c .before .before .before .before .before .before .prepare-initial-factor .ensures) in
     record {
       numbered = sym ok;
@@ -60,7 +68,7 @@ open-accepted-spec =
     tie.close
     (tie.spec
     (λ c. omega (arith, openable (c .before .before .before .before) .hall .wagons))
-    (λ c κs. omega (arith, openable (c .before .before .before .before) .hall .wagons))
+    rank-meant-requires
     (λ c. omega (arith, long c))
     (λ c κs. search needs)
     prepare-initial-factor-requires
