@@ -33,26 +33,44 @@ fn gradient16(cols: &[u16], values: &[f64], factor: &[f64], vertex: usize, g: &m
     super::rank16::put_block(cols, values, factor, vertex, 0, g);
 }
 
-// Ranks 5 to 7 and 18 to 20 in one go over the entries, the others by blocks.
-fn gradient_between(cols: &[u16], values: &[f64], factor: &[f64], vertex: usize, g: &mut [f64])
+// Ranks 5 to 16 in one go over the entries, the others by blocks.
+fn gradient_below(cols: &[u16], values: &[f64], factor: &[f64], vertex: usize, g: &mut [f64])
     requires { ⌜ length (now cols) ≡ length (now values) ⌝ }
     requires { ⌜ ColumnsWithin (now cols) (length (now g)) (now factor) ⌝ }
     ensures { λ _. ⌜ now (g .exit) ≡ gradientOf (now (cols .entry)) (now (values .entry)) (now (factor .entry)) vertex (length (now (g .entry))) ⌝ }
 {
     let rank = g.len();
     if 4 < rank {
-        if rank < 8 {
+        if rank < 9 {
             super::two_fours::gradient_at_once(cols, values, factor, vertex, g);
             return;
         }
-    }
-    if 17 < rank {
-        if rank < 21 {
-            super::block20::gradient_at_once(cols, values, factor, vertex, g);
+        if rank < 17 {
+            super::two_eights::gradient_at_once(cols, values, factor, vertex, g);
             return;
         }
     }
     gradient_blocks(cols, values, factor, vertex, g);
+}
+
+// Ranks 17 to 24 in one go over the entries, too.
+fn gradient_between(cols: &[u16], values: &[f64], factor: &[f64], vertex: usize, g: &mut [f64])
+    requires { ⌜ length (now cols) ≡ length (now values) ⌝ }
+    requires { ⌜ ColumnsWithin (now cols) (length (now g)) (now factor) ⌝ }
+    ensures { λ _. ⌜ now (g .exit) ≡ gradientOf (now (cols .entry)) (now (values .entry)) (now (factor .entry)) vertex (length (now (g .entry))) ⌝ }
+{
+    let rank = g.len();
+    if 16 < rank {
+        if rank < 21 {
+            super::block20::gradient_at_once(cols, values, factor, vertex, g);
+            return;
+        }
+        if rank < 25 {
+            super::block24::gradient_at_once(cols, values, factor, vertex, g);
+            return;
+        }
+    }
+    gradient_below(cols, values, factor, vertex, g);
 }
 
 // The negated gradient of row `vertex` without its diagonal: one sum per column over the row's entries.
