@@ -1,6 +1,8 @@
 -- The gradient of a row is one sum per column.
 --     block-start, block-next    a block of columns before the first entry, and after one more
+--     column-next                a column after one more entry
 --     gradient-columns           the definition of the sweep, column by column
+--     whole-block                all columns as one block
 --     first-block                a block at the start of a row
 -- Assumes nothing.
 use mathlib.Core.Path.{_≡_, refl, sym, _∙_}
@@ -56,6 +58,11 @@ module _ (cols : List ℕ) (values factor : List Float) (vertex rank : ℕ) wher
       (λ j. columnTo cols values factor vertex rank (offset + j) n)
       ∙ tabulate-ext _ _ width (λ j h. rw (add-assoc (getD cols n 0 * rank) offset j)))
 
+  pub column-next : (j n : ℕ) (sum : Float) → sum ≡ columnTo cols values factor vertex rank j n
+      → lessEntry (eqb (getD cols n 0) vertex) (at values n) (at factor (getD cols n 0 * rank + j)) sum ≡ columnTo cols values factor vertex rank j (n + 1)
+  unfolding columnTo
+  column-next j n sum e = rw (e, add-one n)
+
   -- the sweep's sums, column by column
   pub gradientTo-columns : (n : ℕ) → gradientTo cols values factor vertex rank n ≡ tabulate (λ j. columnTo cols values factor vertex rank j n) rank
   unfolding gradientTo columnTo
@@ -70,6 +77,10 @@ module _ (cols : List ℕ) (values factor : List Float) (vertex rank : ℕ) wher
   pub gradient-columns : gradientOf cols values factor vertex rank ≡ tabulate (columnOf cols values factor vertex rank) rank
   unfolding gradientOf
   gradient-columns = gradientTo-columns (length cols)
+
+  -- all columns as one block
+  pub whole-block : blockTo cols values factor vertex rank 0 rank (length cols) ≡ gradientOf cols values factor vertex rank
+  whole-block = tabulate-ext _ _ rank (λ j h. rw (zero-add j)) ∙ sym gradient-columns
 
 -- the first block of columns
 pub first-block : (f : ℕ → Float) (width : ℕ) (g : List Float) → putBlock width 0 (tabulate (λ j. f (0 + j)) width) g ≡ over (tabulate f width) g

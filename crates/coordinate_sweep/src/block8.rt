@@ -22,7 +22,7 @@ fn subtract(sums: &mut [f64; 8], weight: f64, source: &[f64])
 }
 
 // One entry of row `vertex`, at column k, whose 8 elements of the factor lie from `start` on.
-fn subtract_entry(
+pub fn subtract_entry(
     sums: &mut [f64; 8],
     factor: &[f64],
     vertex: usize,
@@ -47,6 +47,15 @@ fn copy(out: &mut [f64], sums: &[f64; 8])
     for j in 0..8 {
         out[j] = sums[j];
     }
+}
+
+// The 8 sums, written from `offset` on.
+pub fn put_sums(g: &mut [f64], offset: usize, sums: &[f64; 8])
+    requires { ⌜ offset + 8 ≤ length (now g) ⌝ }
+    ensures { λ _. ⌜ now (g .exit) ≡ putBlock 8 offset (mapFirst (λ j old. at (now (sums .entry)) j) 8 (take 8 (drop offset (now (g .entry))))) (now (g .entry)) ⌝ }
+{
+    let end = offset + 8;
+    copy(&mut g[offset..end], sums);
 }
 
 // The sums of 8 columns from `offset` on.

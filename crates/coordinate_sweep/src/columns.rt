@@ -9,7 +9,7 @@ ghost use Rattle.coordinate_sweep.specs.Columns.{lessEntry, columnOf};
 ghost use Rattle.coordinate_sweep.specs.Sweep.{gradientOf};
 
 // One entry's share off the sum of a column, whose element of the factor is x.
-fn less_entry(sum: f64, vertex: usize, k: usize, weight: f64, x: f64) -> f64
+pub fn less_entry(sum: f64, vertex: usize, k: usize, weight: f64, x: f64) -> f64
     ensures { λ r. ⌜ r ≡ lessEntry (eqb k vertex) weight x sum ⌝ }
 {
     if k != vertex {

@@ -3,12 +3,15 @@ mod block4; // block4.rt: 4 columns of a row's gradient
 mod block8; // block8.rt: 8 columns
 mod block16; // block16.rt: 16 columns
 mod rank16; // rank16.rt: 16 columns at rank 16
-mod rank17; // rank17.rt: 16 columns at rank 17
+mod rank17; // rank17.rt: a row's gradient at rank 17
 mod columns; // columns.rt: a column
 mod two_fours; // two_fours.rt: a row's gradient at ranks 5 to 8
+mod two_eights; // two_eights.rt: a row's gradient at ranks 9 to 16
 mod block20; // block20.rt: a row's gradient at ranks 17 to 20
+mod block24; // block24.rt: a row's gradient at ranks 17 to 24
 mod gradient; // gradient.rt: a row's gradient at any rank
 mod ranks; // ranks.rt: a row's gradient, some ranks by themselves
+mod pair4; // pair4.rt: two rows' gradients at rank 4
 mod pairs; // pairs.rt: two rows at once
 
 ghost use mathlib.Core.Path.{_≡_};
@@ -23,6 +26,7 @@ ghost use Rattle.coordinate_sweep.specs.Sweep.{exactRow, momentumRow, no
 use factor::rows::clear;
 use factor::rows::scale;
 use factor::sums::squared_norm;
+use pair4::gradients;
 use pairs::next_apart;
 use pairs::renew_pair;
 use ranks::gradient;
@@ -107,6 +111,33 @@ fn gradient_at(
     gradient(&cols[lo..hi], &values[lo..hi], factor, i, g);
 }
 
+// The gradients of rows i and i + 1.
+fn gradients_at(
+    cols: &[u16],
+    values: &[f64],
+    starts: &[usize],
+    factor: &[f64],
+    i: usize,
+    g: &mut [f64],
+    h: &mut [f64],
+)
+    requires { ⌜ RowFits (now cols) (now values) (now starts) (now factor) (length (now g)) i ⌝ }
+    requires { ⌜ RowFits (now cols) (now values) (now starts) (now factor) (length (now g)) (i + 1) ⌝ }
+    requires { ⌜ (length (now h) ≡ length (now g)) × (i < 65536) ⌝ }
+    ensures { λ _. ⌜ now (g .exit) ≡ gradientAt (now (cols .entry)) (now (values .entry)) (now (starts .entry)) (length (now (g .entry))) (now (factor .entry)) i ⌝ }
+    ensures { λ _. ⌜ now (h .exit) ≡ gradientAt (now (cols .entry)) (now (values .entry)) (now (starts .entry)) (length (now (g .entry))) (now (factor .entry)) (i + 1) ⌝ }
+{
+    if g.len() == 4 {
+        let lo = starts[i];
+        let mid = starts[i + 1];
+        let hi = starts[i + 1 + 1];
+        gradients(&cols[lo..mid], &values[lo..mid], &cols[mid..hi], &values[mid..hi], factor, i, g, h);
+    } else {
+        gradient_at(cols, values, starts, factor, i, g);
+        gradient_at(cols, values, starts, factor, i + 1, h);
+    }
+}
+
 // Row i of the factor anew; g is left at its gradient. Whether the row was written.
 fn sweep_row(
     cols: &[u16],
@@ -144,8 +175,7 @@ fn sweep_pair(
     ensures { λ _. ⌜ now (factor .exit) ≡ sweptRow (now (cols .entry)) (now (values .entry)) (now (starts .entry)) (length (now (g .entry))) beta
         (sweptRow (now (cols .entry)) (now (values .entry)) (now (starts .entry)) (length (now (g .entry))) beta (now (factor .entry)) i) (i + 1) ⌝ }
 {
-    gradient_at(cols, values, starts, factor, i, g);
-    gradient_at(cols, values, starts, factor, i + 1, h);
+    gradients_at(cols, values, starts, factor, i, g, h);
     renew_pair(factor, g, h, i, beta);
 }
 

@@ -1,11 +1,19 @@
-// The gradient of a row, by its rank. Some ranks the code names, so that the compiler sees them: 8, 16, and 17, which 0 means at 128 signs.
+// The gradient of a row, by its rank. Some ranks the code names, so that the compiler sees them: 4, 8, 16, and 17, which 0 means at 128 signs.
 
 ghost use mathlib.Core.Path.{_≡_};
 ghost use lib.ListN.{length};
 ghost use Rattle.factor.specs.Shapes.{ColumnsWithin};
 ghost use Rattle.coordinate_sweep.specs.Sweep.{gradientOf};
-use super::columns::column;
 use super::gradient::gradient_blocks;
+
+// Rank 4: a block of 4 columns.
+fn gradient4(cols: &[u16], values: &[f64], factor: &[f64], vertex: usize, g: &mut [f64])
+    requires { ⌜ (length (now g) ≡ 4) × (length (now cols) ≡ length (now values)) ⌝ }
+    requires { ⌜ ColumnsWithin (now cols) (length (now g)) (now factor) ⌝ }
+    ensures { λ _. ⌜ now (g .exit) ≡ gradientOf (now (cols .entry)) (now (values .entry)) (now (factor .entry)) vertex (length (now (g .entry))) ⌝ }
+{
+    super::block4::put_block(cols, values, factor, vertex, 4, 0, g);
+}
 
 // Rank 8: a block of 8 columns.
 fn gradient8(cols: &[u16], values: &[f64], factor: &[f64], vertex: usize, g: &mut [f64])
@@ -25,36 +33,44 @@ fn gradient16(cols: &[u16], values: &[f64], factor: &[f64], vertex: usize, g: &m
     super::rank16::put_block(cols, values, factor, vertex, 0, g);
 }
 
-// Rank 17: a block of 16 columns, and one.
-fn gradient17(cols: &[u16], values: &[f64], factor: &[f64], vertex: usize, g: &mut [f64])
-    requires { ⌜ (length (now g) ≡ 17) × (length (now cols) ≡ length (now values)) ⌝ }
-    requires { ⌜ ColumnsWithin (now cols) (length (now g)) (now factor) ⌝ }
-    ensures { λ _. ⌜ now (g .exit) ≡ gradientOf (now (cols .entry)) (now (values .entry)) (now (factor .entry)) vertex (length (now (g .entry))) ⌝ }
-{
-    super::rank17::put_block(cols, values, factor, vertex, 0, g);
-    g[16] = column(cols, values, factor, vertex, 17, 16);
-}
-
-// Ranks 5 to 7 and 18 to 20 in one go over the entries, the others by blocks.
-fn gradient_between(cols: &[u16], values: &[f64], factor: &[f64], vertex: usize, g: &mut [f64])
+// Ranks 5 to 16 in one go over the entries, the others by blocks.
+fn gradient_below(cols: &[u16], values: &[f64], factor: &[f64], vertex: usize, g: &mut [f64])
     requires { ⌜ length (now cols) ≡ length (now values) ⌝ }
     requires { ⌜ ColumnsWithin (now cols) (length (now g)) (now factor) ⌝ }
     ensures { λ _. ⌜ now (g .exit) ≡ gradientOf (now (cols .entry)) (now (values .entry)) (now (factor .entry)) vertex (length (now (g .entry))) ⌝ }
 {
     let rank = g.len();
     if 4 < rank {
-        if rank < 8 {
+        if rank < 9 {
             super::two_fours::gradient_at_once(cols, values, factor, vertex, g);
             return;
         }
-    }
-    if 17 < rank {
-        if rank < 21 {
-            super::block20::gradient_at_once(cols, values, factor, vertex, g);
+        if rank < 17 {
+            super::two_eights::gradient_at_once(cols, values, factor, vertex, g);
             return;
         }
     }
     gradient_blocks(cols, values, factor, vertex, g);
+}
+
+// Ranks 17 to 24 in one go over the entries, too.
+fn gradient_between(cols: &[u16], values: &[f64], factor: &[f64], vertex: usize, g: &mut [f64])
+    requires { ⌜ length (now cols) ≡ length (now values) ⌝ }
+    requires { ⌜ ColumnsWithin (now cols) (length (now g)) (now factor) ⌝ }
+    ensures { λ _. ⌜ now (g .exit) ≡ gradientOf (now (cols .entry)) (now (values .entry)) (now (factor .entry)) vertex (length (now (g .entry))) ⌝ }
+{
+    let rank = g.len();
+    if 16 < rank {
+        if rank < 21 {
+            super::block20::gradient_at_once(cols, values, factor, vertex, g);
+            return;
+        }
+        if rank < 25 {
+            super::block24::gradient_at_once(cols, values, factor, vertex, g);
+            return;
+        }
+    }
+    gradient_below(cols, values, factor, vertex, g);
 }
 
 // The negated gradient of row `vertex` without its diagonal: one sum per column over the row's entries.
@@ -65,7 +81,7 @@ pub fn gradient(cols: &[u16], values: &[f64], factor: &[f64], vertex: usize, g: 
 {
     let rank = g.len();
     if rank == 17 {
-        gradient17(cols, values, factor, vertex, g);
+        super::rank17::gradient_at_once(cols, values, factor, vertex, g);
         return;
     }
     if rank == 16 {
@@ -74,6 +90,10 @@ pub fn gradient(cols: &[u16], values: &[f64], factor: &[f64], vertex: usize, g: 
     }
     if rank == 8 {
         gradient8(cols, values, factor, vertex, g);
+        return;
+    }
+    if rank == 4 {
+        gradient4(cols, values, factor, vertex, g);
         return;
     }
     gradient_between(cols, values, factor, vertex, g);

@@ -5,18 +5,17 @@ use Rattle.coordinate_sweep.proofs.TwoRows.{rows-swept}
 use Rattle.coordinate_sweep.proofs.sweep_pair.Statement.{statement}
 use Rattle.coordinate_sweep.proofs.sweep_pair.Tie as tie
 
-gradient-at-requires-2 : tie.Need-gradient-at-requires-2
-gradient-at-requires-2 c κs = rw (c .before .before .before .before .before .before .before .before .before .before .before .before .before .pre .1 .1 .0) (c .before .before .before .before .before .before .before .before .before .before .before .before .before .pre .1 .0)
+gradients-at-requires : tie.Need-gradients-at-requires
+gradients-at-requires c κs = (c .before .before .before .before .before .before .before .before .before .pre .0, (c .before .before .before .before .before .before .before .before .before .pre .1 .0, (c .before .before .before .before .before .before .before .before .before .pre .1 .1 .0, c .before .before .before .before .before .before .before .before .before .pre .1 .1 .1)))
 
 renew-pair-requires : tie.Need-renew-pair-requires
-renew-pair-requires c κs = (rw (c .before .before .before .before .before .before .before .before .before .before .gradient-at .kept .1 .1 .1 .1 .1 .0) (c .before .before .before .before .before .before .before .before .before .before .before .before .before .before .before .before .before .before .before .pre .1 .0 .whole), c .before .before .before .before .before .gradient-at2 .kept .1 .1 .1 .1 .1 .0 ∙ (c .before .before .before .before .before .before .before .before .before .before .before .before .before .before .before .before .before .before .before .pre .1 .1 .0 ∙ sym (c .before .before .before .before .before .before .before .before .before .before .gradient-at .kept .1 .1 .1 .1 .1 .0)), c .before .before .before .before .before .before .before .before .before .before .before .before .before .before .before .before .before .before .before .pre .1 .1 .1)
+renew-pair-requires c κs = (rw (c .before .before .before .before .before .before .before .gradients-at .kept .1 .1 .1 .1 .1 .0) (c .before .before .before .before .before .before .before .before .before .before .before .before .before .before .before .before .before .pre .1 .0 .whole), c .before .before .before .before .before .before .before .gradients-at .kept .1 .1 .1 .1 .1 .1 .0 ∙ (c .before .before .before .before .before .before .before .before .before .before .before .before .before .before .before .before .before .pre .1 .1 .0 ∙ sym (c .before .before .before .before .before .before .before .gradients-at .kept .1 .1 .1 .1 .1 .0)), c .before .before .before .before .before .before .before .before .before .before .before .before .before .before .before .before .before .pre .1 .1 .1)
 
 returns : tie.Need-returns
-returns c = (rw (c .before .before .before .before .before .before .before .before .before .before .before .before .before .gradient-at .kept .1 .1 .1 .1 .1 .0, c .before .before .before .before .before .before .before .before .before .before .before .before .before .gradient-at .ensures, c .before .before .before .before .before .before .before .before .gradient-at2 .ensures, c .before .before .before .before .before .before .before .before .before .before .before .before .before .before .before .before .before .before .before .before .before .before .pre .1 .1 .0) at (c .before .before .renew-pair .ensures)) ∙ rows-swept _ _ _ _ _ _ _ (c .before .before .before .before .before .before .before .before .before .before .before .before .before .before .before .before .before .before .before .before .before .before .pre .0 .whole) (c .before .before .before .before .before .before .before .before .before .before .before .before .before .before .before .before .before .before .before .before .before .before .pre .1 .1 .2)
+returns c = (rw (c .before .before .before .before .before .before .before .before .before .before .gradients-at .kept .1 .1 .1 .1 .1 .0, c .before .before .before .before .before .before .before .before .before .before .gradients-at .ensures .0, c .before .before .before .before .before .before .before .before .before .before .gradients-at .ensures .1) at (c .before .before .renew-pair .ensures)) ∙ rows-swept _ _ _ _ _ _ _ (c .before .before .before .before .before .before .before .before .before .before .before .before .before .before .before .before .before .before .before .before .pre .0 .whole) (c .before .before .before .before .before .before .before .before .before .before .before .before .before .before .before .before .before .before .before .before .pre .1 .1 .2)
 
 pub sweep-pair-spec : {M : Type 1} → statement M
 sweep-pair-spec =
     tie.close
     (tie.spec
-    (λ c κs. search needs) (λ c. search needs) gradient-at-requires-2 renew-pair-requires (λ c. search needs)
-    (λ c. search needs) (λ c. search needs) returns)
+    gradients-at-requires renew-pair-requires (λ c. search needs) (λ c. search needs) (λ c. search needs) returns)
