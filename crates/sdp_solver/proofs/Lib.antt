@@ -2,3 +2,4 @@ pub mod Prepared
 pub mod Written
 pub mod Opening
 pub mod Finishing
+pub mod Parameters

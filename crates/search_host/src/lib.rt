@@ -1,7 +1,6 @@
-// `beam_search` as C calls it: 0, or the number that applies.
-ghost use mathlib.Core.Path.{_≡_};
+// `beam_search` as C calls it: 0, or the number that applies; the signs in `out`.
 ghost use Rattle.sdp_local_search.specs.BeamSearch.{baseLimits};
-ghost use Rattle.sdp_local_search.specs.Call.{callNumber};
+ghost use Rattle.search_host.specs.Answer.{Answers};
 use sdp_local_search::BeamSearched;
 use sdp_local_search::beam_search;
 
@@ -17,7 +16,7 @@ pub extern "C" fn host_beam_search(
     out: &mut [u8],
     workspace: &mut [u8],
 ) -> u8
-    ensures { λ r. ⌜ r ≡ callNumber baseLimits m count (now (rows .entry)) (now (cols .entry)) (now (values .entry)) width (now (start .entry)) (now (out .entry)) (now (workspace .entry)) ⌝ }
+    ensures { λ r. ⌜ Answers baseLimits m count (now (rows .entry)) (now (cols .entry)) (now (values .entry)) width (now (start .entry)) (now (out .entry)) (now (workspace .entry)) (now (out .exit)) (now (workspace .exit)) r ⌝ }
 {
     let found = beam_search(m, count, rows, cols, values, width, start, out, workspace);
     match found {
