@@ -131,7 +131,16 @@ fn gradients_at(
         let lo = starts[i];
         let mid = starts[i + 1];
         let hi = starts[i + 1 + 1];
-        gradients(&cols[lo..mid], &values[lo..mid], &cols[mid..hi], &values[mid..hi], factor, i, g, h);
+        gradients(
+            &cols[lo..mid],
+            &values[lo..mid],
+            &cols[mid..hi],
+            &values[mid..hi],
+            factor,
+            i,
+            g,
+            h,
+        );
     } else {
         gradient_at(cols, values, starts, factor, i, g);
         gradient_at(cols, values, starts, factor, i + 1, h);

@@ -1,13 +1,13 @@
 -- `coordinate_sweep::columns::column` meets its contract. The sum is the definition at e. Assumes nothing.
-use mathlib.Core.Path.{_≡_}
+use mathlib.Core.Path.{_≡_, _∙_}
 use Prim.Native.Nat.{_≤_, _<_, _-_, _+_, _*_}
-use native.Mathlib.Numerals.{add-one}
 use native.Mathlib.Omega.{arith}
 use borrow.Author.Needs.{needs}
 use lib.Ieee.{ofBits}
 use lib.ListN.{length, getD}
 use Rattle.ieee.specs.Floats.{at}
 use Rattle.coordinate_sweep.specs.Columns.{columnTo}
+use Rattle.coordinate_sweep.proofs.ByColumns.{column-next}
 use Rattle.coordinate_sweep.proofs.columns.column.Statement.{statement}
 use Rattle.coordinate_sweep.proofs.columns.column.Tie as tie
 
@@ -37,8 +37,7 @@ shared-slice-read-less-entry-2 : tie.Need-shared-slice-read-less-entry-2 Inv-loo
 shared-slice-read-less-entry-2 c = omega (arith, c .before .before .before .before .before .before .before .before .pre .1 (c .before .before .before .before .loop .e) (c .before .before .before .loop-test .taken))
 
 loop-again : tie.Need-loop-again Inv-loop μ-loop
-unfolding columnTo
-loop-again c = (omega arith, rw (add-one (c .before .before .before .before .before .loop .e)) (rw (c .before .before .before .before .before .loop .inv .1) at (c .less-entry .ensures)))
+loop-again c = (omega arith, c .less-entry .ensures ∙ column-next _ _ _ _ _ _ _ _ (c .before .before .before .before .before .loop .inv .1))
 
 returns : tie.Need-returns Inv-loop μ-loop
 returns c = let e : c .before .loop .e ≡ length (c .before .before .before .before .before .args .cols .now) = omega arith in rw e at (c .before .loop .inv .1)
