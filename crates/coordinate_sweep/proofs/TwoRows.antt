@@ -27,9 +27,10 @@ use Rattle.ieee.specs.Sqrt.{sqrtOf}
 use Rattle.factor.specs.Shapes.{Shaped}
 use Rattle.factor.specs.Norms.{squaredNorm}
 use Rattle.factor.specs.Vectors.{scaled}
-use Rattle.coordinate_sweep.specs.Columns.{columnTo, lessEntry}
-use Rattle.coordinate_sweep.specs.Sweep.{momentumRow, exactRow, normalized, pickRow, wrote, updateRow, gradientOf, gradientAt, rowTo, rowBy, sweptRow, sweepTo, meetsNext}
-use Rattle.coordinate_sweep.proofs.ByColumns.{gradient-columns}
+use Rattle.row_gradient.specs.Columns.{columnTo, lessEntry}
+use Rattle.row_gradient.specs.Gradient.{gradientOf}
+use Rattle.coordinate_sweep.specs.Sweep.{momentumRow, exactRow, normalized, pickRow, wrote, updateRow, gradientAt, rowTo, rowBy, sweptRow, sweepTo, meetsNext}
+use Rattle.row_gradient.proofs.ByColumns.{gradient-columns}
 
 module _ {A : Type 0} (rank : ℕ) where
   set-at-row : (i : ℕ) (a p x u : List A) → length a ≡ i * rank → length p ≡ rank → setRow rank (a ++ (p ++ x)) i u ≡ a ++ (u ++ x)

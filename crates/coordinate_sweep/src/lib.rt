@@ -1,17 +1,4 @@
 // Rules 3 and 4: one coordinate sweep, each operation rounded once (001, `coordinate_sweep`).
-mod block4; // block4.rt: 4 columns of a row's gradient
-mod block8; // block8.rt: 8 columns
-mod block16; // block16.rt: 16 columns
-mod rank16; // rank16.rt: 16 columns at rank 16
-mod rank17; // rank17.rt: a row's gradient at rank 17
-mod columns; // columns.rt: a column
-mod two_fours; // two_fours.rt: a row's gradient at ranks 5 to 8
-mod two_eights; // two_eights.rt: a row's gradient at ranks 9 to 16
-mod block20; // block20.rt: a row's gradient at ranks 17 to 20
-mod block24; // block24.rt: a row's gradient at ranks 17 to 24
-mod gradient; // gradient.rt: a row's gradient at any rank
-mod ranks; // ranks.rt: a row's gradient, some ranks by themselves
-mod pair4; // pair4.rt: two rows' gradients at rank 4
 mod pairs; // pairs.rt: two rows at once
 
 ghost use mathlib.Core.Path.{_≡_};
@@ -26,10 +13,10 @@ ghost use Rattle.coordinate_sweep.specs.Sweep.{exactRow, momentumRow, no
 use factor::rows::clear;
 use factor::rows::scale;
 use factor::sums::squared_norm;
-use pair4::gradients;
 use pairs::next_apart;
 use pairs::renew_pair;
-use ranks::gradient;
+use row_gradient::pair4::gradients;
+use row_gradient::ranks::gradient;
 
 // The exact update: the gradient times `inv`.
 fn set_exact(row: &mut [f64], g: &[f64], inv: f64)
