@@ -7,6 +7,7 @@ ghost use Prim.Native.Nat.{_+_, _≤_};
 ghost use lib.ListN.{length};
 ghost use Rattle.job_reader.specs.Bytes.{bigEndian, signedAt, doubleAt};
 
+// The byte at `at`.
 pub fn u8_at(bytes: &[u8], at: usize) -> u8
     requires { ⌜ at + 1 ≤ length (now bytes) ⌝ }
     ensures { λ r. ⌜ r ≡ bigEndian (now (bytes .entry)) at 1 ⌝ }
@@ -14,6 +15,7 @@ pub fn u8_at(bytes: &[u8], at: usize) -> u8
     big_endian(bytes, at, 1) as u8
 }
 
+// The two bytes from `at` on.
 pub fn u16_at(bytes: &[u8], at: usize) -> u16
     requires { ⌜ at + 2 ≤ length (now bytes) ⌝ }
     ensures { λ r. ⌜ r ≡ bigEndian (now (bytes .entry)) at 2 ⌝ }
@@ -21,6 +23,7 @@ pub fn u16_at(bytes: &[u8], at: usize) -> u16
     big_endian(bytes, at, 2) as u16
 }
 
+// The four bytes from `at` on.
 pub fn u32_at(bytes: &[u8], at: usize) -> u32
     requires { ⌜ at + 4 ≤ length (now bytes) ⌝ }
     ensures { λ r. ⌜ r ≡ bigEndian (now (bytes .entry)) at 4 ⌝ }
@@ -28,6 +31,7 @@ pub fn u32_at(bytes: &[u8], at: usize) -> u32
     big_endian(bytes, at, 4) as u32
 }
 
+// The eight bytes from `at` on.
 pub fn u64_at(bytes: &[u8], at: usize) -> u64
     requires { ⌜ at + 8 ≤ length (now bytes) ⌝ }
     ensures { λ r. ⌜ r ≡ bigEndian (now (bytes .entry)) at 8 ⌝ }
@@ -35,6 +39,7 @@ pub fn u64_at(bytes: &[u8], at: usize) -> u64
     big_endian(bytes, at, 8)
 }
 
+// The same as a signed number.
 pub fn i64_at(bytes: &[u8], at: usize) -> i64
     requires { ⌜ at + 8 ≤ length (now bytes) ⌝ }
     ensures { λ r. ⌜ r ≡ signedAt (now (bytes .entry)) at ⌝ }
@@ -42,6 +47,7 @@ pub fn i64_at(bytes: &[u8], at: usize) -> i64
     signed_of(u64_at(bytes, at))
 }
 
+// The same as a double.
 pub fn f64_at(bytes: &[u8], at: usize) -> f64
     requires { ⌜ at + 8 ≤ length (now bytes) ⌝ }
     ensures { λ r. ⌜ r ≡ doubleAt (now (bytes .entry)) at ⌝ }

@@ -39,6 +39,7 @@ fn frame_number(job: &[u8]) -> u8
     0
 }
 
+// The numbers of length and version, 11 or 12; 0 for none.
 fn version_number(job: &[u8]) -> u8
     ensures { λ r. ⌜ r ≡ versionNumber (now (job .entry)) ⌝ }
 {
@@ -141,6 +142,7 @@ fn table_number(job: &[u8], n: usize, count: usize) -> u8
     costs_number(job, n, count, &values)
 }
 
+// The first number of a job record in the order of reading, 0 where it is accepted.
 pub fn job_number(job: &[u8]) -> u8
     ensures { λ r. ⌜ r ≡ jobNumber (now (job .entry)) ⌝ }
 {

@@ -38,6 +38,7 @@ pub fn bounded(job: &[u8], at: usize, width: usize, most: u64, number: u8) -> u8
     }
 }
 
+// Whether a momentum is finite, from 0 to below 1.
 pub fn is_momentum(beta: f64) -> bool
     ensures { λ r. ⌜ r ≡ isMomentum beta ⌝ }
 {

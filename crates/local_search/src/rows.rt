@@ -12,6 +12,7 @@ pub fn sign_at(row: &[u8], i: usize) -> u8
     row[i]
 }
 
+// The parent's signs, copied.
 pub fn copy_row(row: &mut [u8], parent: &[u8])
     requires { ⌜ length (now row) ≡ length (now parent) ⌝ }
     ensures { λ r. ⌜ now (row .exit) ≡ now (parent .entry) ⌝ }
@@ -23,6 +24,7 @@ pub fn copy_row(row: &mut [u8], parent: &[u8])
     }
 }
 
+// The other sign.
 pub fn flip_byte(sign: u8) -> u8
     ensures { λ r. ⌜ r ≡ flipByte sign ⌝ }
 {
@@ -58,6 +60,7 @@ pub fn shift_signs(signs: &mut [u8], from: usize, to: usize, m: usize)
     }
 }
 
+// The first n signs, copied.
 pub fn copy_signs(to: &mut [u8], from: &[u8], n: usize)
     requires { ⌜ (n ≤ length (now to)) × (n ≤ length (now from)) ⌝ }
     ensures { λ r. ⌜ take n (now (to .exit)) ≡ take n (now (from .entry)) ⌝ }

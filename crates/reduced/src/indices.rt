@@ -39,6 +39,7 @@ fn any_twice(variable_map: &[u16]) -> bool
     false
 }
 
+// 20: a size, a map index or a fixed index out of its limits, or a map index twice; 0 for none.
 pub fn index_refusal(size: usize, variable_map: &[u16], fixed_index: &[u16]) -> u8
     ensures { λ r. ⌜ r ≡ 20 if indexRefused mostSize size (now («variable_map» .entry)) (now («fixed_index» .entry)) ⌝ }
 {

@@ -58,6 +58,7 @@ fn lift_short(
     lifted < size
 }
 
+// 0.0 everywhere, over it the fixed values, over them the reduced solution, each at its index; 0, or the refusal, which writes nothing.
 pub fn lift_solution(
     size: usize,
     variable_map: &[u16],

@@ -16,12 +16,14 @@ use sdp_solver::sweep::sweep;
 use step_rules::rule_of;
 use step_rules::StepRule;
 
+// The stage of a number.
 fn stage_of(stage: u8) -> Stage
     ensures { λ r. ⌜ r ≡ stageOf stage ⌝ }
 {
     if stage == 0 { Stage::Open } else { Stage::Stopped }
 }
 
+// The number of a stage.
 fn stage_number(stage: Stage) -> u8
     ensures { λ r. ⌜ r ≡ stageNumber stage ⌝ }
 {
@@ -41,6 +43,7 @@ fn any_rule(rule: u8, number: f64) -> StepRule
     rule_of(rule, number)
 }
 
+// The number of a rule.
 fn rule_number(rule: StepRule) -> u8
     ensures { λ r. ⌜ r ≡ ruleNumber rule ⌝ }
 {
@@ -53,6 +56,7 @@ fn rule_number(rule: StepRule) -> u8
     }
 }
 
+// The rule's own value; 0.0 where it has none.
 fn rule_value(rule: StepRule) -> f64
     ensures { λ r. ⌜ r ≡ ruleValue rule ⌝ }
 {

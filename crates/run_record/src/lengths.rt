@@ -14,6 +14,7 @@ use tables::check::short_table;
 use tables::check::too_short;
 use tables::limits;
 
+// 31 of the slices of (H, c).
 fn table_short(n: usize, count: usize, rows: &[u16], cols: &[u16], values: &[i64], c: &[i64]) -> bool
     ensures { λ r. ⌜ r ≡ tableShort (costTable n count (now (rows .entry)) (now (cols .entry)) (now (values .entry)) (now (c .entry))) ⌝ }
 {
@@ -23,6 +24,7 @@ fn table_short(n: usize, count: usize, rows: &[u16], cols: &[u16], values: &[i64
     too_short(limits::MOST_WAGONS < n, n, c.len())
 }
 
+// 31 of the factor.
 fn factor_short(n: usize, size: usize, rank: usize, lent: usize) -> bool
     ensures { λ r. ⌜ r ≡ factorShort n size rank lent ⌝ }
 {
@@ -41,6 +43,7 @@ fn factor_short(n: usize, size: usize, rank: usize, lent: usize) -> bool
     lent < size * rank
 }
 
+// 31 of a sweep's slices.
 pub fn sweep_short(
     run: Run,
     n: usize,
@@ -68,6 +71,7 @@ pub struct FinishSlices {
     pub workspace: usize,
 }
 
+// 31 of the draws.
 fn draws_short(rank: usize, draw_count: usize, draws: usize) -> bool
     ensures { λ r. ⌜ r ≡ drawsShort rank «draw_count» draws ⌝ }
 {
@@ -86,6 +90,7 @@ fn draws_short(rank: usize, draw_count: usize, draws: usize) -> bool
     draws < draw_count * rank
 }
 
+// 31 of the choice and the multipliers.
 fn choice_short(n: usize, b: usize, dual: usize) -> bool
     ensures { λ r. ⌜ r ≡ choiceShort n b dual ⌝ }
 {
@@ -98,6 +103,7 @@ fn choice_short(n: usize, b: usize, dual: usize) -> bool
     dual < n + 1
 }
 
+// 31 of a finish's slices.
 pub fn finish_short(
     run: Run,
     n: usize,
@@ -126,6 +132,7 @@ pub fn finish_short(
     lent.workspace < SEARCH_WORKSPACE
 }
 
+// Whether 17 refuses the rank of an open.
 pub fn open_rank_refused(rank: usize, start: u8) -> bool
     ensures { λ r. ⌜ r ≡ openRankRefused rank start ⌝ }
 {
@@ -135,6 +142,7 @@ pub fn open_rank_refused(rank: usize, start: u8) -> bool
     if rank == 0 { start == 1 } else { false }
 }
 
+// How many numbers a start takes.
 pub fn start_length(start: u8, m: usize, rank: usize, most: u32) -> usize
     requires { ⌜ (m ≤ 128) × (rank ≤ 32) ⌝ }
     ensures { λ r. ⌜ r ≡ startLength start m rank most ⌝ }
@@ -150,6 +158,7 @@ pub fn start_length(start: u8, m: usize, rank: usize, most: u32) -> usize
     }
 }
 
+// 31 of the start's numbers.
 fn start_short(n: usize, rank: usize, most: u32, start: u8, numbers: usize) -> bool
     ensures { λ r. ⌜ r ≡ startShort n rank most start numbers ⌝ }
 {
@@ -166,6 +175,7 @@ fn start_short(n: usize, rank: usize, most: u32, start: u8, numbers: usize) -> b
     numbers < start_length(start, n + 1, meant, most)
 }
 
+// 31 of the factor that an open writes.
 fn open_factor_short(n: usize, rank: usize, start: u8, factor: usize) -> bool
     ensures { λ r. ⌜ r ≡ openFactorShort n rank start factor ⌝ }
 {
@@ -179,6 +189,7 @@ fn open_factor_short(n: usize, rank: usize, start: u8, factor: usize) -> bool
     factor < (n + 1) * meant
 }
 
+// 31 of an open's slices.
 pub fn open_short(
     n: usize,
     count: usize,

@@ -28,6 +28,7 @@ pub struct Run {
     pub status: u8,
 }
 
+// Whether a run takes no more sweeps.
 pub fn is_stopped(stage: Stage) -> bool
     ensures { λ r. ⌜ r ≡ isStopped stage ⌝ }
 {
@@ -37,6 +38,7 @@ pub fn is_stopped(stage: Stage) -> bool
     }
 }
 
+// The test, where the run is open.
 fn open_and(stage: Stage, test: bool) -> bool
     ensures { λ r. ⌜ r ≡ (not (isStopped stage) && test) ⌝ }
 {

@@ -18,6 +18,7 @@ use run_limits::MOST_WIDTH;
 use step_rules::StepRule;
 use tables::limits;
 
+// Whether no run of n wagons can have this record.
 fn record_refused(run: Run, n: usize) -> bool
     ensures { λ r. ⌜ r ≡ recordRefused run n ⌝ }
 {
@@ -55,12 +56,14 @@ fn table_number(n: usize, count: usize, rows: &[u16], cols: &[u16], values: &[i6
     tables::check::hall_number(limits::MOST_WAGONS, limits::MOST_ENTRIES, limits::MOST_MAGNITUDE, n, count, rows, cols, values, c)
 }
 
+// Whether a momentum is not finite, from 0 to below 1.
 fn bad_beta(beta: f64) -> bool
     ensures { λ r. ⌜ r ≡ badBeta beta ⌝ }
 {
     if 0.0 <= beta { !(beta < 1.0) } else { true }
 }
 
+// The same of a rule: only rule 4 has one.
 fn bad_momentum(rule: StepRule) -> bool
     ensures { λ r. ⌜ r ≡ badMomentum rule ⌝ }
 {
@@ -73,6 +76,7 @@ fn bad_momentum(rule: StepRule) -> bool
     }
 }
 
+// The first number of a sweep, 0 where it is accepted.
 pub fn sweep_number(
     run: Run,
     n: usize,
@@ -106,6 +110,7 @@ pub fn sweep_number(
     0
 }
 
+// Whether 19 refuses the count of draws.
 fn draws_refused(draw_count: usize) -> bool
     ensures { λ r. ⌜ r ≡ drawsRefused «draw_count» ⌝ }
 {
@@ -115,6 +120,7 @@ fn draws_refused(draw_count: usize) -> bool
     MOST_DRAWS < draw_count
 }
 
+// Whether 19 refuses the width or the count of draws.
 fn width_refused(width: usize, draw_count: usize) -> bool
     ensures { λ r. ⌜ r ≡ widthRefused width «draw_count» ⌝ }
 {
@@ -163,6 +169,7 @@ pub fn finish_number(
     0
 }
 
+// Whether 18 refuses the rule.
 fn rule_refused(rule: u8, number: f64) -> bool
     ensures { λ r. ⌜ r ≡ ruleRefused rule number ⌝ }
 {

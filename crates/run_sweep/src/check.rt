@@ -28,6 +28,7 @@ fn check_due(sweeps: u32, minimum: u32, most: u32) -> bool
     sweeps % 20 == 0
 }
 
+// The absolute value.
 fn magnitude(x: f64) -> f64
     ensures { λ r. ⌜ r ≡ magnitude x ⌝ }
 {
@@ -58,6 +59,7 @@ fn settled(minimum: u32, sweeps: u32, residual: f64, threshold: f64) -> bool
     if minimum <= sweeps { residual <= threshold } else { false }
 }
 
+// The stage after a check.
 fn stage_after(found: u8, full: bool, stage: Stage) -> Stage
     ensures { λ r. ⌜ r ≡ stageAfter found full stage ⌝ }
 {
@@ -67,6 +69,7 @@ fn stage_after(found: u8, full: bool, stage: Stage) -> Stage
     if full { Stage::Stopped } else { stage }
 }
 
+// The status after a check.
 fn status_after(found: u8, status: u8) -> u8
     ensures { λ r. ⌜ r ≡ statusAfter found status ⌝ }
 {

@@ -15,12 +15,14 @@ const MOST_ENTRIES: usize = 4478;
 
 const MOST_MAGNITUDE: u64 = 4398046511104;
 
+// Whether x is above its limit.
 fn above(limit: usize, x: usize) -> bool
     ensures { λ r. ⌜ r ≡ ltb limit x ⌝ }
 {
     limit < x
 }
 
+// Whether fewer are lent than are needed, where what is needed rests on no refused number.
 fn is_short(refused: bool, needed: usize, lent: usize) -> bool
     ensures { λ r. ⌜ r ≡ short refused needed lent ⌝ }
 {

@@ -10,6 +10,7 @@ ghost use Rattle.sign_search.specs.Contracts.{Sound, Room, Found-by};
 ghost use Rattle.sdp_local_search.specs.BeamSearch.{signByte, signBytes};
 ghost use Rattle.sdp_local_search.specs.Accepted.{FoundInto};
 
+// A sign as 0 or 1: any byte but 0 is 1.
 fn sign_byte(x: u8) -> u8
     ensures { λ r. ⌜ r ≡ signByte x ⌝ }
 {

@@ -21,6 +21,7 @@ ghost use Rattle.run_contract.specs.Calls.{firstStage, settingsOf, openNumberOf
 ghost use Rattle.run_contract.specs.declared.Opened.the-variants.{Started};
 ghost use Rattle.sdp_solver.specs.Usable.{Usable};
 
+// The stage of a new run: stopped where no sweep is allowed.
 fn first_stage(most: u32) -> Stage
     ensures { λ r. ⌜ r ≡ firstStage most ⌝ }
 {

@@ -36,6 +36,7 @@ fn is_here(count: usize, rows: &[u16], cols: &[u16], i: usize, j: usize, k: usiz
     false
 }
 
+// The column of entry k where it is of row i, else n.
 fn stored_column(n: usize, count: usize, rows: &[u16], cols: &[u16], i: usize, k: usize) -> usize
     requires { ⌜ (count ≤ length (now rows)) × (count ≤ length (now cols)) ⌝ }
     ensures { λ r. ⌜ r ≡ storedColumn n count (elem (now (rows .entry))) (elem (now (cols .entry))) i k ⌝ }
@@ -48,6 +49,7 @@ fn stored_column(n: usize, count: usize, rows: &[u16], cols: &[u16], i: usize, k
     n
 }
 
+// Whether a value is 0.
 pub fn vanishes(value: i64) -> bool
     ensures { λ r. ⌜ r ≡ isZero value ⌝ }
 {
@@ -80,6 +82,7 @@ pub fn next_column(
     stored
 }
 
+// The entry after k where k stands at (i, j), else k.
 pub fn after_here(count: usize, rows: &[u16], cols: &[u16], i: usize, j: usize, k: usize) -> usize
     requires { ⌜ (count ≤ length (now rows)) × (count ≤ length (now cols)) ⌝ }
     ensures { λ r. ⌜ r ≡ afterHere count (elem (now (rows .entry))) (elem (now (cols .entry))) i j k ⌝ }
@@ -92,6 +95,7 @@ pub fn after_here(count: usize, rows: &[u16], cols: &[u16], i: usize, j: usize, 
     k
 }
 
+// The value of entry k where it stands at (i, j), else 0.
 fn stored_value(
     count: usize,
     rows: &[u16],

@@ -37,6 +37,7 @@ fn before(i: u16, j: u16, k: u16, l: u16) -> bool
     false
 }
 
+// An index as a size.
 pub fn wide(x: u16) -> usize
     ensures { λ r. ⌜ r ≡ x ⌝ }
 {
@@ -86,6 +87,7 @@ pub fn abs_of(value: i64) -> u64
     }
 }
 
+// The lesser of the two.
 fn at_most(x: u64, cap: u64) -> u64
     ensures { λ r. ⌜ r ≡ min x cap ⌝ }
 {
