@@ -14,8 +14,8 @@ echo "the whole record call, large job: ours, the Rust"
 for rule in 0 1 2 3 4; do
     "$oracle" problem job "$rule" 17 200 128 30 1 >target/bench/job.txt
     for _ in 1 2 3; do
-        basenc --base16 -d target/bench/job.txt | "$oracle" bench answer 1 | sed -nE '1s/.* ([0-9]+) in the fastest.*/rust \1/p'
-        target/bench/time_record 1 <target/bench/job.txt | sed -E 's/.* /ours /'
+        basenc --base16 -d target/bench/job.txt | ${FIXED:-} "$oracle" bench answer 1 | sed -nE '1s/.* ([0-9]+) in the fastest.*/rust \1/p'
+        ${FIXED:-} target/bench/time_record 1 <target/bench/job.txt | sed -E 's/.* /ours /'
     done | awk -v rule="$rule" '
         !($1 in least) || $2 < least[$1] { least[$1] = $2 }
         END { printf "rule %d  %9.2f us %9.2f us   ours / Rust %5.2f\n", rule, least["ours"] / 1000, least["rust"] / 1000, least["ours"] / least["rust"] }'
