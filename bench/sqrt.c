@@ -22,8 +22,19 @@ static int differs(uint64_t b) {
     return !(isnan(a) && isnan(c)) && bits(a) != bits(c);
 }
 
-// Nanoseconds a call, of independent calls.
-static double timed(double (*root)(double)) {
+// Whether the code's guess (crates/ieee/src/root.rt), copied here, misses the root of a normal number.
+static int missed(uint64_t b) {
+    uint64_t digits = b & 0x1fffffffffffff;
+    double x = of(digits + 0x3fe0000000000000), scale = of((b / 0x10000000000000 + 1024) / 2 * 0x10000000000000), half = x * 0.5;
+    double y = of(0x3ff6eb50c7b537a9 - digits / 2);
+    y = y * 1.5008789 - half * y * (y * y);
+    y = y * 1.50000057 - half * y * (y * y);
+    double near = x * y, high = near + 100663296.0 - 100663296.0, slope = y * 0.5, last = 1.5 - near * slope, low = near * last - high;
+    return high * scale + (x - high * high + low * low) * (slope * last * scale) != sqrt(of(b));
+}
+
+// Nanoseconds a call: of calls that don't wait for each other, and of calls whose argument takes a product and a sum of the result before.
+static double apart(double (*root)(double)) {
     volatile double sink;
     double sum = 0, start = now();
     for (int i = 0; i < CALLS; i++) sum += root(numbers[i & (SIZE - 1)]);
@@ -32,9 +43,18 @@ static double timed(double (*root)(double)) {
     return (now() - start) * 1e9 / CALLS;
 }
 
+static double chained(double (*root)(double)) {
+    volatile double sink;
+    double x = 0, start = now();
+    for (int i = 0; i < CALLS; i++) x = root(numbers[i & (SIZE - 1)] + x * 0x1p-1000);
+    sink = x;
+    (void)sink;
+    return (now() - start) * 1e9 / CALLS;
+}
+
 static void row(const char *name) {
-    double ours = timed(host_sqrt), hardware = timed(machine);
-    printf("%-34s %6.1f ns  sqrtsd %5.1f ns  ratio %5.1f\n", name, ours, hardware, ours / hardware);
+    double a = apart(host_sqrt), b = apart(machine), c = chained(host_sqrt), d = chained(machine);
+    printf("%-26s apart %6.1f ns, sqrtsd %5.1f, ratio %4.1f   chained %6.1f ns, sqrtsd %5.1f, ratio %4.1f\n", name, a, b, a / b, c, d, c / d);
 }
 
 int main(void) {
@@ -50,8 +70,12 @@ int main(void) {
     row("numbers from 1 to 10^6");
     for (int i = 0; i < SIZE; i++) numbers[i] = of(next() & 0x7fefffffffffffff);
     row("any positive double");
-    for (int i = 0; i < SIZE; i++) { double k = 67108864.0 + (next() & 0x3ffffff); numbers[i] = k * k - 1; }
-    row("where the guess fails (digits)");
+    for (int i = 0; i < SIZE; i++) {
+        uint64_t b;
+        do b = 0x3fe0000000000000 + (next() & 0x1fffffffffffff); while (!missed(b));
+        numbers[i] = of(b);
+    }
+    row("what the guess misses");
     for (int i = 0; i < SIZE; i++) numbers[i] = of(next() >> (12 + (next() & 31)));
     row("subnormals");
     return bad != 0;
