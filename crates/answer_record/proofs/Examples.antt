@@ -1,6 +1,5 @@
 -- 01's example answer, computed: 00000039 01 00 02 01 00000000 0000000000000000 C000000000000028 FFFFFFFFFFFFFFF0 0000000000000000
 -- FFFFFFFFFFFFFFF0 0000000000000001 01.
-use Prim.Native.Nat.{ℕ}
 use mathlib.Core.Path.{_≡_, refl}
 use mathlib.Core.List.{List, [], _∷_, _++_}
 use lib.ListN.{replicate, take}

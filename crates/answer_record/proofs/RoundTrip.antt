@@ -5,7 +5,6 @@
 use Prim.Native.Nat.{ℕ, zero, suc, _+_, _*_, _^_, _<_, _≤_}
 use mathlib.Core.Path.{_≡_, refl, sym, ap, _∙_}
 use mathlib.Core.List.{List, [], _∷_, _++_, append-assoc}
-use native.Mathlib.Omega.{arith}
 use lib.Dec.{T}
 use lib.ListN.{length, take, drop, length-append}
 use lib.Seq.{take-at, drop-at, length-take-le}

@@ -3,12 +3,10 @@ use Prim.Native.Nat.{ℕ, zero, suc, _+_, _*_, _<_, _≤_}
 use mathlib.Core.Path.{_≡_, refl, sym, ap, _∙_}
 use mathlib.Core.List.{List, [], _∷_}
 use native.Mathlib.Omega.{arith}
-use borrow.Author.Tests.{ltb-false}
 use lib.ListN.{length}
 use Rattle.laws.specs.Refusal.{first}
 use Rattle.laws.proofs.Refusal.{clear, first-head}
 use Rattle.tables.specs.Limits.{mostWagons, mostEntries}
-use Rattle.job_reader.specs.Bytes.{bigEndian}
 use Rattle.job_record.specs.Limits.{mostBytes, mostStart, mostDrawn}
 use Rattle.job_record.specs.Fields.{wagons, entryCount, entryAt, rankAt, mostAt, startAt, settingsAfter}
 use Rattle.job_record.specs.Number.{costsNumbers, jobNumber}

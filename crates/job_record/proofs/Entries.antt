@@ -17,7 +17,6 @@ use Rattle.laws.proofs.Following.{answers, moves-on, answers-if, moves-on-if, a
 use Rattle.tables.specs.Table.{Table, tableOf}
 use Rattle.tables.specs.Check.{badEntry, badOrder, unmirrored, Placed, hallMagnitude}
 use Rattle.tables.proofs.Checks.{order-placed}
-use Rattle.tables.specs.Limits.{mostMagnitude}
 use Rattle.job_record.specs.Fields.{entryAt, row, column, value, entries, signedFrom, settingsAfter}
 use Rattle.job_record.specs.Number.{past, entryNumber, entriesNumbers, costsNumbers}
 use Rattle.job_record.proofs.Same.{filled, first-same, order-same, mirror-same, total-same}

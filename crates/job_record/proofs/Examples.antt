@@ -17,7 +17,6 @@ use Rattle.run_limits.specs.Rank.{rankMeant}
 use Rattle.job_record.specs.Fields.{row, column, value, startCount}
 use Rattle.job_record.specs.Number.{bounded, frameNumber, versionNumber, entryNumber, momentumNumber, headNumbers, entriesNumbers, costsNumbers, settingsNumbers, drawsNumbers, runNumbers, jobNumber}
 use Rattle.job_record.specs.Values.{settingsOf, drawsOf, jobOf, jobCost, jobRank, jobStartCount, jobStart, jobDrawn, jobDraw}
-use Rattle.job_record.specs.declared.job.Job.{Job}
 
 unfoldable pub example : List ℕ
 example =

@@ -10,7 +10,6 @@ use Rattle.laws.specs.Refusal.{firstOf}
 use Rattle.laws.specs.Sum.{total}
 use Rattle.laws.specs.Lists.{anyBelow, fill}
 use Rattle.laws.proofs.MapFirst.{getD-mapFirst}
-use Rattle.tables.specs.Table.{Table}
 use Rattle.tables.specs.Check.{badEntry, badOrder, isMirror, unmirrored}
 
 pub filled : {A : Type 0} (f : ℕ → A) (l : List A) (d : A) (n : ℕ) → n ≤ length l → (i : ℕ) → i < n → getD (fill f n l) i d ≡ f i

@@ -2,7 +2,6 @@
 use Prim.Native.Nat.{ℕ, zero, suc, _+_, _*_, _<_, _≤_}
 use mathlib.Core.Path.{_≡_, refl, sym, ap, _∙_}
 use mathlib.Core.List.{List, [], _∷_, _++_}
-use native.Mathlib.Omega.{arith}
 use Rattle.laws.specs.Refusal.{first, orElse}
 use Rattle.laws.proofs.Refusal.{stop, pass, both}
 use Rattle.laws.proofs.Following.{first-append}

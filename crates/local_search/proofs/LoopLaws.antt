@@ -1,7 +1,6 @@
 -- The loop over the levels: what is left of the search at each turn. Assumes nothing.
 use Prim.Native.Nat.{ℕ, zero, suc, _+_, _*_, _^_, _≤_, _<_}
 use native.Mathlib.Omega.{arith}
-use native.Mathlib.Numerals.{add-one}
 use mathlib.Core.Bool.{Bool, cond}
 use mathlib.Core.List.{List, [], _∷_, _++_, cons≢nil}
 use mathlib.Core.Path.{_≡_, refl, sym, ap, _∙_, subst, subst₂}

@@ -14,7 +14,6 @@ use mir.Val.{toZ, ofZ}
 use mir.Facts.{toZ-ofZ}
 use Rattle.sign_search.specs.Contracts.{Sound, Found-by}
 use Rattle.sign_search.proofs.Lawful.{objective-fits}
-use Rattle.sdp_local_search.specs.BeamSearch.{signBytes}
 use Rattle.sdp_local_search.specs.Accepted.{FoundInto}
 use Rattle.sdp_local_search.specs.Call.{Searched-so}
 use Rattle.sdp_local_search.specs.declared.BeamSearched.{BeamSearched}

@@ -6,7 +6,6 @@ use native.Mathlib.Numerals.{add-one}
 use lib.IntN.{ℤ}
 use lib.Ieee.{Float}
 use lib.ListN.{length, take}
-use Rattle.laws.specs.Lists.{over}
 use Rattle.ieee.specs.Floats.{_+ᶠ_}
 use Rattle.run_record.specs.declared.Run.{Run}
 use Rattle.run_record.specs.CostTable.{CostTable, quadratic, linear}

@@ -24,7 +24,6 @@ use Rattle.tables.specs.Flip.{flipped, flipChange}
 use Rattle.tables.proofs.Shares.{abs-share, abs-least, sign-vector}
 use Rattle.tables.proofs.Quadratic.{objective-places, floor-below}
 use Rattle.tables.proofs.Flips.{flip-change, flip-four}
-use Rattle.local_search.specs.LocalSearch.{Found}
 use Rattle.local_search.specs.Level.{flipByte, flipSign}
 use Rattle.local_search.specs.SignSearch.{Lawful}
 use Rattle.sign_search.specs.Search.{objectiveIn, changeIn, heightIn, Mirrors}

@@ -15,7 +15,6 @@ use Rattle.laws.proofs.Integer.{abs-add, abs-mul, abs-neg, fits-abs, held}
 use Rattle.laws.proofs.Sums.{sum-abs, total-at, total-le, Held, sum-held}
 use Rattle.laws.proofs.Totals.{onlyℕ, total-ext, total-mono, total-add, total-scale, total-swap, total-only}
 use Rattle.tables.specs.Table.{Table, InRange, magnitudeOf, valueAt}
-use Rattle.sign_table.specs.SignTable.{absorbed}
 use Rattle.sign_table.specs.Walk.{rowTerm, rowTotal, Convertible}
 
 pub abs-only : (a b : ℕ) (v : ℤ) → natAbs (only a b v) ≡ onlyℕ a b (natAbs v)

@@ -3,7 +3,6 @@ use mathlib.Core.Path.{_≡_, refl, sym, _∙_, ap, ap₂}
 use mathlib.Core.Bool.{Bool, true, false, cond}
 use Prim.Native.Nat.{ℕ, zero, suc, _+_, _^_, _≤_, _<_}
 use native.Mathlib.Nat.{le-trans}
-use native.Mathlib.Decide.{ℕ-discrete}
 use native.Mathlib.Omega.{arith}
 use borrow.Author.Tests.{eq-eqb, ne-eqb}
 use lib.Dec.{eqb}
@@ -11,7 +10,6 @@ use lib.IntN.{ℤ, pos, negℤ, natAbs, _+ℤ_}
 use lib.Ieee.{Float, binary64, ofBits, ofInt, div, neg}
 use Rattle.laws.specs.Sum.{sum, total}
 use Rattle.laws.proofs.Sums.{sum-abs, total-le, total-at}
-use Rattle.laws.proofs.Integer.{abs-neg}
 use Rattle.laws.proofs.Totals.{total-mono}
 use Rattle.ieee.specs.Floats.{_+ᶠ_, _-ᶠ_, zero64, eighthOf}
 use Rattle.ieee.proofs.Eighths.{eighth-add, eighth-less}

@@ -1,7 +1,6 @@
 -- `factor_calls::compute_rounded_sol` meets its contract. By the number. Assumes nothing.
 use borrow.Author.Needs.{needs}
 use mathlib.Core.Path.{_≡_, sym, ap, _∙_}
-use native.Mathlib.Omega.{arith}
 use denote.Ref.{now}
 use lib.ListN.{length}
 use Rattle.laws.proofs.Integer.{held}

@@ -3,7 +3,6 @@ use borrow.Author.Needs.{needs}
 use mathlib.Core.Path.{_≡_, sym}
 use lib.ListN.{length, take}
 use lib.Seq.{length-take-le}
-use Rattle.laws.specs.Lists.{over}
 use Rattle.prepared_table.proofs.Preparing.{length-diagonalOf}
 use Rattle.prepared_table.proofs.diagonal.Statement.{statement}
 use Rattle.prepared_table.proofs.diagonal.Tie as tie

@@ -1,6 +1,5 @@
 -- `prepared_table::sets_aside` meets its contract. What is found is the definition at e. Assumes nothing.
 use borrow.Author.Needs.{needs}
-use mathlib.Core.Bool.{false}
 use mathlib.Core.Path.{_≡_, _∙_}
 use Prim.Native.Nat.{_≤_, _-_}
 use native.Mathlib.Omega.{arith}

@@ -8,26 +8,11 @@ use mathlib.Core.List.{List}
 use Prim.Native.Nat.{ℕ}
 use Rattle.laws.specs.Lists.{over}
 
-slice-aggregate-job-result : tie.Need-slice-aggregate-job-result
-slice-aggregate-job-result c = search needs
-
-job-result-requires : tie.Need-job-result-requires
-job-result-requires c κs = search needs
-
 fields-of-requires : tie.Need-fields-of-requires
 fields-of-requires c κs = bytes-hold (c .before .before .before .before .before .before .before .before .before .args .job .now) (c .before .before .before .before .before .before .before .before .before .pre .0) (c .before .before .before .job-result .result) (c .before .before .before .job-result .ensures .0)
 
-slice-aggregate-write-answer : tie.Need-slice-aggregate-write-answer
-slice-aggregate-write-answer c = search needs
-
 write-answer-requires : tie.Need-write-answer-requires
 write-answer-requires c κs = let n = n-fits (c .before .before .before .before .before .before .before .before .before .before .before .before .args .job .now) (c .before .before .before .before .before .before .before .before .before .before .before .before .pre .0) (c .before .before .fields-of .result) (c .before .before .before .before .before .before .job-result .result) (c .before .before .fields-of .ensures) (c .before .before .before .before .before .before .job-result .ensures .0) in (omega (arith, n, c .before .before .before .before .before .before .before .before .before .before .before .before .pre .2), omega (arith, n, c .before .before .before .before .before .before .job-result .kept))
-
-same-length : tie.Need-same-length
-same-length c = search needs
-
-same-length-2 : tie.Need-same-length-2
-same-length-2 c = search needs
 
 returns : tie.Need-returns
 returns c = c .before .before .write-answer .ensures ∙ ap (λ (x : List ℕ). over x (c .before .before .before .before .before .before .before .before .before .before .before .before .before .before .before .args .answer .now)) (written-bytes (c .before .before .before .before .before .before .before .before .before .before .before .before .before .before .before .args .job .now) (c .before .before .before .before .before .before .before .before .before .before .before .before .before .before .before .pre .0) (c .before .before .before .before .before .fields-of .result) (c .before .before .before .before .before .before .before .before .before .job-result .result) _ _ (c .before .before .before .before .before .fields-of .ensures) (c .before .before .before .before .before .before .before .before .before .job-result .ensures .0) (c .before .before .before .before .before .before .before .before .before .job-result .ensures .1))
@@ -36,11 +21,11 @@ pub answer-job-spec : {M : Type 1} → statement M
 answer-job-spec =
     tie.close
     (tie.spec
-    slice-aggregate-job-result
-    job-result-requires
+    (λ c. search needs)
+    (λ c κs. search needs)
     fields-of-requires
-    slice-aggregate-write-answer
+    (λ c. search needs)
     write-answer-requires
-    same-length
-    same-length-2
+    (λ c. search needs)
+    (λ c. search needs)
     returns)

@@ -10,26 +10,8 @@ returns c = answers-short (c .before .before .before .before .args .job .now) (c
 returns-2 : tie.Need-returns-2
 returns-2 c = answers-short (c .before .before .before .before .before .args .job .now) (c .before .before .before .before .before .args .workspace .now) (c .before .before .before .before .before .args .answer .now) (short-workspace (c .before .before .before .before .before .args .job .now) (c .before .before .before .before .before .args .workspace .now) (c .before .before .before .before .before .args .answer .now) (c .before .if1 .left) (c .if2 .taken))
 
-job-number-requires : tie.Need-job-number-requires
-job-number-requires c κs = search needs
-
-write-refusal-requires : tie.Need-write-refusal-requires
-write-refusal-requires c κs = search needs
-
-same-length : tie.Need-same-length
-same-length c = search needs
-
 returns-3 : tie.Need-returns-3
 returns-3 c = answers-refused (c .before .before .before .before .before .before .before .before .before .before .before .args .job .now) (c .before .before .before .before .before .before .before .before .before .before .before .args .workspace .now) (c .before .before .before .before .before .before .before .before .before .before .before .args .answer .now) _ _ (roomy (c .before .before .before .before .before .before .before .before .before .before .before .args .job .now) (c .before .before .before .before .before .before .before .before .before .before .before .args .workspace .now) (c .before .before .before .before .before .before .before .before .before .before .before .args .answer .now) (c .before .before .before .before .before .before .before .if1 .left) (c .before .before .before .before .before .before .if2 .left)) (c .before .before .before .before .before .job-number .ensures) (c .before .before .before .before .if3 .taken) (c .before .before .write-refusal .ensures)
-
-answer-job-requires : tie.Need-answer-job-requires
-answer-job-requires c κs = search needs
-
-same-length-2 : tie.Need-same-length-2
-same-length-2 c = search needs
-
-same-length-3 : tie.Need-same-length-3
-same-length-3 c = search needs
 
 returns-4 : tie.Need-returns-4
 returns-4 c = answers-accepted (c .before .before .before .before .before .before .before .before .before .before .before .before .before .before .args .job .now) (c .before .before .before .before .before .before .before .before .before .before .before .before .before .before .args .workspace .now) (c .before .before .before .before .before .before .before .before .before .before .before .before .before .before .args .answer .now) _ _ (roomy (c .before .before .before .before .before .before .before .before .before .before .before .before .before .before .args .job .now) (c .before .before .before .before .before .before .before .before .before .before .before .before .before .before .args .workspace .now) (c .before .before .before .before .before .before .before .before .before .before .before .before .before .before .args .answer .now) (c .before .before .before .before .before .before .before .before .before .before .if1 .left) (c .before .before .before .before .before .before .before .before .before .if2 .left)) (sym (c .before .before .before .before .before .before .before .before .job-number .ensures) ∙ c .before .before .before .before .before .before .before .if3 .left) (c .before .before .before .before .answer-job .ensures)
@@ -40,11 +22,11 @@ answer-record-spec =
     (tie.spec
     returns
     returns-2
-    job-number-requires
-    write-refusal-requires
-    same-length
+    (λ c κs. search needs)
+    (λ c κs. search needs)
+    (λ c. search needs)
     returns-3
-    answer-job-requires
-    same-length-2
-    same-length-3
+    (λ c κs. search needs)
+    (λ c. search needs)
+    (λ c. search needs)
     returns-4)

@@ -1,7 +1,6 @@
 -- `rounding::round_at` meets its contract. By what its callees ensure: the part is the draw's row of signs. Assumes nothing.
 use borrow.Author.Needs.{needs}
 use native.Mathlib.Nat.{add-sub-cancel-left}
-use lib.Seq.{length-take-le}
 use Rattle.rounding.proofs.round_at.Statement.{statement}
 use Rattle.rounding.proofs.round_at.Tie as tie
 

@@ -29,9 +29,6 @@ abbrev μ-loop : tie.MeasureT-loop
 loop-holds : tie.Need-loop-holds Inv-loop μ-loop
 loop-holds c = (omega arith, refl, refl, refl, refl, c .before .before .before .before .before .before .before .before .pre .0, c .before .before .before .before .before .before .before .before .pre .1, sweeps-all _ _ _ _)
 
-is-stopped-requires : tie.Need-is-stopped-requires Inv-loop μ-loop
-is-stopped-requires c κs = search needs
-
 same-length : tie.Need-same-length Inv-loop μ-loop
 same-length c = c .before .before .before .loop .inv .1
 
@@ -89,7 +86,7 @@ sweeps-up-to-spec =
     Inv-loop
     μ-loop
     loop-holds
-    is-stopped-requires
+    (λ c κs. search needs)
     same-length
     same-length-2
     same-length-3

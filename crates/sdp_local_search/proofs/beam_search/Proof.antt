@@ -10,9 +10,6 @@ use Rattle.tables.specs.Table.{tableOf}
 use Rattle.sdp_local_search.specs.BeamSearch.{signBytes}
 use Rattle.sdp_local_search.proofs.Calls.{answered}
 
-search-refusal-requires : tie.Need-search-refusal-requires
-search-refusal-requires c κs = search needs
-
 returns : tie.Need-returns
 returns c = record {
   numbered = c .before .search-refusal .ensures;
@@ -53,7 +50,7 @@ pub beam-search-spec : {M : Type 1} → statement M
 beam-search-spec =
     tie.close
     (tie.spec
-    search-refusal-requires
+    (λ c κs. search needs)
     returns
     search-accepted-requires
     same-length

@@ -4,51 +4,21 @@ use Rattle.wagonplan.proofs.main.Tie as tie
 use mathlib.Core.Path.{sym}
 use lib.Seq.{length-take-le}
 
-slice-aggregate-read-full : tie.Need-slice-aggregate-read-full
-slice-aggregate-read-full c = search needs
-
-read-full-requires : tie.Need-read-full-requires
-read-full-requires c κs = search needs
-
-array-share-prefix-job : tie.Need-array-share-prefix-job
-array-share-prefix-job c = search needs
-
-slice-aggregate-respond : tie.Need-slice-aggregate-respond
-slice-aggregate-respond c = search needs
-
-slice-aggregate-respond-2 : tie.Need-slice-aggregate-respond-2
-slice-aggregate-respond-2 c = search needs
-
-slice-aggregate-respond-3 : tie.Need-slice-aggregate-respond-3
-slice-aggregate-respond-3 c = search needs
-
-respond-requires : tie.Need-respond-requires
-respond-requires c κs = search needs
-
-array-share-prefix-answer : tie.Need-array-share-prefix-answer
-array-share-prefix-answer c = search needs
-
 slice-aggregate-write-all : tie.Need-slice-aggregate-write-all
 slice-aggregate-write-all c = sym (length-take-le _ _ (c .before .before .before .respond .ensures .1))
-
-write-all-requires : tie.Need-write-all-requires
-write-all-requires c κs = search needs
-
-returns : tie.Need-returns
-returns c = search needs
 
 pub main-spec : {M : Type 1} → statement M
 main-spec =
     tie.close
     (tie.spec
-    slice-aggregate-read-full
-    read-full-requires
-    array-share-prefix-job
-    slice-aggregate-respond
-    slice-aggregate-respond-2
-    slice-aggregate-respond-3
-    respond-requires
-    array-share-prefix-answer
+    (λ c. search needs)
+    (λ c κs. search needs)
+    (λ c. search needs)
+    (λ c. search needs)
+    (λ c. search needs)
+    (λ c. search needs)
+    (λ c κs. search needs)
+    (λ c. search needs)
     slice-aggregate-write-all
-    write-all-requires
-    returns)
+    (λ c κs. search needs)
+    (λ c. search needs))

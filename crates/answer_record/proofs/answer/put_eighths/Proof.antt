@@ -14,29 +14,8 @@ use Rattle.answer_record.proofs.Written.{put-next}
 use mir.Syntax.{w64}
 use mir.ValLaws.{toZ-ofZ}
 
-bits-of-signed-requires : tie.Need-bits-of-signed-requires
-bits-of-signed-requires c κs = search needs
-
-bits-of-signed-requires-2 : tie.Need-bits-of-signed-requires-2
-bits-of-signed-requires-2 c κs = search needs
-
-bits-of-signed-requires-3 : tie.Need-bits-of-signed-requires-3
-bits-of-signed-requires-3 c κs = search needs
-
-put-number-requires : tie.Need-put-number-requires
-put-number-requires c κs = search needs
-
-put-number-requires-2 : tie.Need-put-number-requires-2
-put-number-requires-2 c κs = search needs
-
-put-number-requires-3 : tie.Need-put-number-requires-3
-put-number-requires-3 c κs = search needs
-
 put-number-requires-4 : tie.Need-put-number-requires-4
 put-number-requires-4 c κs = omega (arith, c .before .before .before .before .before .before .before .before .before .before .before .before .before .before .before .before .before .pre)
-
-same-length : tie.Need-same-length
-same-length c = search needs
 
 returns : tie.Need-returns
 unfolding eighthBytes
@@ -51,12 +30,12 @@ pub put-eighths-spec : {M : Type 1} → statement M
 put-eighths-spec =
     tie.close
     (tie.spec
-    bits-of-signed-requires
-    bits-of-signed-requires-2
-    bits-of-signed-requires-3
-    put-number-requires
-    put-number-requires-2
-    put-number-requires-3
+    (λ c κs. search needs)
+    (λ c κs. search needs)
+    (λ c κs. search needs)
+    (λ c κs. search needs)
+    (λ c κs. search needs)
+    (λ c κs. search needs)
     put-number-requires-4
-    same-length
+    (λ c. search needs)
     returns)

@@ -5,28 +5,12 @@ use Rattle.answer_record.proofs.answer.put_floats.Tie as tie
 use mathlib.Core.Path.{ap, _∙_}
 use mathlib.Core.List.{_++_}
 use native.Mathlib.Omega.{arith}
-use lib.ListN.{length-append}
 use Rattle.ieee.specs.Floats.{bitsOf}
 use Rattle.job_reader.specs.Encode.{bytesOf}
 use Rattle.job_reader.proofs.Encode.{length-bytesOf}
 use Rattle.answer_record.specs.Put.{put}
 use Rattle.answer_record.specs.Answer.{floatBytes}
 use Rattle.answer_record.proofs.Written.{put-next}
-
-bits-of-requires : tie.Need-bits-of-requires
-bits-of-requires c κs = search needs
-
-bits-of-requires-2 : tie.Need-bits-of-requires-2
-bits-of-requires-2 c κs = search needs
-
-put-number-requires : tie.Need-put-number-requires
-put-number-requires c κs = search needs
-
-put-number-requires-2 : tie.Need-put-number-requires-2
-put-number-requires-2 c κs = search needs
-
-same-length : tie.Need-same-length
-same-length c = search needs
 
 returns : tie.Need-returns
 unfolding floatBytes
@@ -37,9 +21,9 @@ pub put-floats-spec : {M : Type 1} → statement M
 put-floats-spec =
     tie.close
     (tie.spec
-    bits-of-requires
-    bits-of-requires-2
-    put-number-requires
-    put-number-requires-2
-    same-length
+    (λ c κs. search needs)
+    (λ c κs. search needs)
+    (λ c κs. search needs)
+    (λ c κs. search needs)
+    (λ c. search needs)
     returns)

@@ -24,9 +24,6 @@ put-floats-requires c κs = omega (arith, c .before .before .before .before .bef
 put-eighths-requires : tie.Need-put-eighths-requires
 put-eighths-requires c κs = omega (arith, c .before .before .before .before .before .before .before .before .before .before .before .before .before .before .before .before .before .before .pre)
 
-cast-put-bytes : tie.Need-cast-put-bytes
-cast-put-bytes c = search needs
-
 put-bytes-requires : tie.Need-put-bytes-requires
 put-bytes-requires c κs = omega (arith, c .before .before .before .before .before .before .before .before .before .before .before .before .before .before .before .before .before .before .before .before .before .before .before .pre, c .before .before .before .before .before, c .before .before .before .before .before .before .before .before .before .before, c .before .before .before .before .before .before .before .before .before .before .before .before .before .before .before, c .before .before .before .before .before .before .before .before .before .before .before .before .before .before .before .before .before .before .before .before)
 
@@ -64,7 +61,7 @@ write-answer-spec =
     put-counts-requires
     put-floats-requires
     put-eighths-requires
-    cast-put-bytes
+    (λ c. search needs)
     put-bytes-requires
     same-length
     returns)

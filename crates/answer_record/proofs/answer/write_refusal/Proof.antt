@@ -10,18 +10,6 @@ use Rattle.job_reader.proofs.Encode.{length-bytesOf}
 use Rattle.answer_record.specs.Answer.{refusalBytes}
 use Rattle.answer_record.proofs.Written.{put-next, put-front}
 
-put-number-requires : tie.Need-put-number-requires
-put-number-requires c κs = search needs
-
-put-number-requires-2 : tie.Need-put-number-requires-2
-put-number-requires-2 c κs = search needs
-
-put-number-requires-3 : tie.Need-put-number-requires-3
-put-number-requires-3 c κs = search needs
-
-same-length : tie.Need-same-length
-same-length c = search needs
-
 returns : tie.Need-returns
 unfolding refusalBytes
 returns c = let a = c .before .before .before .before .before .before .before .before .before .before .before .before .before .args in
@@ -33,4 +21,4 @@ returns c = let a = c .before .before .before .before .before .before .before .b
 pub write-refusal-spec : {M : Type 1} → statement M
 write-refusal-spec =
     tie.close
-    (tie.spec put-number-requires put-number-requires-2 put-number-requires-3 same-length returns)
+    (tie.spec (λ c κs. search needs) (λ c κs. search needs) (λ c κs. search needs) (λ c. search needs) returns)

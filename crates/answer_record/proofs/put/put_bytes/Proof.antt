@@ -17,26 +17,8 @@ abbrev μ-loop : tie.MeasureT-loop
 loop-holds : tie.Need-loop-holds Inv-loop μ-loop
 loop-holds c = (omega arith, put-none (c .args .out .now) (c .args .at) (c .args .bytes .now), refl)
 
-shared-slice-read-out : tie.Need-shared-slice-read-out Inv-loop μ-loop
-shared-slice-read-out c = search needs
-
-add-out : tie.Need-add-out Inv-loop μ-loop
-add-out c = search needs
-
-slice-write-out : tie.Need-slice-write-out Inv-loop μ-loop
-slice-write-out c = search needs
-
-add-i : tie.Need-add-i Inv-loop μ-loop
-add-i c = search needs
-
-loop-less : tie.Need-loop-less Inv-loop μ-loop
-loop-less c = search needs
-
 loop-again : tie.Need-loop-again Inv-loop μ-loop
 loop-again c = (omega arith, put-more (c .before .before .before .args .out .now) (c .before .before .before .args .at) (c .before .before .before .args .bytes .now) (c .before .before .loop .i) (c .before .before .loop .inv .1) (omega arith) (omega arith), simp length-set (c .before .before .loop .inv .2))
-
-same-length : tie.Need-same-length Inv-loop μ-loop
-same-length c = search needs
 
 returns : tie.Need-returns Inv-loop μ-loop
 returns c = put-all (c .before .before .args .out .now) (c .before .before .args .at) (c .before .before .args .bytes .now) (c .before .before .args .count) (c .before .loop .i) (c .before .loop .inv .1) (c .before .loop .inv .0) (c .loop-test .left) (c .before .before .pre .1)
@@ -48,11 +30,11 @@ put-bytes-spec =
     Inv-loop
     μ-loop
     loop-holds
-    shared-slice-read-out
-    add-out
-    slice-write-out
-    add-i
-    loop-less
+    (λ c. search needs)
+    (λ c. search needs)
+    (λ c. search needs)
+    (λ c. search needs)
+    (λ c. search needs)
     loop-again
-    same-length
+    (λ c. search needs)
     returns)

@@ -1,11 +1,7 @@
 -- `factor::product::multiply_row` meets its contract. By the rank. Assumes nothing.
 use borrow.Author.Needs.{needs}
-use native.Mathlib.Omega.{arith}
 use Rattle.factor.proofs.product.multiply_row.Statement.{statement}
 use Rattle.factor.proofs.product.multiply_row.Tie as tie
-
-multiply-blocks-requires : tie.Need-multiply-blocks-requires
-multiply-blocks-requires c κs = search needs
 
 returns : tie.Need-returns
 returns c = c .before .before .multiply-plain .ensures
@@ -17,4 +13,4 @@ pub multiply-row-spec : {M : Type 1} → statement M
 multiply-row-spec =
     tie.close
     (tie.spec
-    (λ c κs. search needs) multiply-blocks-requires (λ c. search needs) returns (λ c. search needs) returns-2)
+    (λ c κs. search needs) (λ c κs. search needs) (λ c. search needs) returns (λ c. search needs) returns-2)

@@ -31,24 +31,12 @@ module _ (bits : ℕ) (high : 2 ^ 63 ≤ bits) (fits : bits < 2 ^ 64) where
       let e : 2 ^ 64 - suc rest ≡ bits = omega arith in
       less ∙ sym (toZ-neg w64 rest (omega arith)) ∙ ap (toZ w64) e
 
-cast-result : tie.Need-cast-result
-cast-result c = search needs
-
-sub-result : tie.Need-sub-result
-sub-result c = search needs
-
-cast-result-2 : tie.Need-cast-result-2
-cast-result-2 c = search needs
-
 sub-result-2 : tie.Need-sub-result-2
 sub-result-2 c = in-range (c .before .args .bits) (search needs) (search needs)
-
-returns : tie.Need-returns
-returns c = search needs
 
 returns-2 : tie.Need-returns-2
 returns-2 c = let z = in-range (c .before .args .bits) (search needs) (search needs) in toZ-ofZ z ∙ twos (c .before .args .bits) (search needs) (search needs)
 
 pub signed-of-spec : {M : Type 1} → statement M
 signed-of-spec =
-    tie.close (tie.spec cast-result sub-result cast-result-2 sub-result-2 returns returns-2)
+    tie.close (tie.spec (λ c. search needs) (λ c. search needs) (λ c. search needs) sub-result-2 (λ c. search needs) returns-2)

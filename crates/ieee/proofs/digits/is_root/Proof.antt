@@ -4,7 +4,6 @@ use mathlib.Core.Bool.{true, false}
 use native.Mathlib.Nat.{lt-of-lt-of-le}
 use borrow.Author.Needs.{needs}
 use lib.Dec.{T, lit≤}
-use Rattle.ieee.specs.Sqrt.{Root}
 use Rattle.ieee.proofs.Squares.{square-lt}
 use Rattle.ieee.proofs.digits.is_root.Statement.{statement}
 use Rattle.ieee.proofs.digits.is_root.Tie as tie

@@ -21,21 +21,6 @@ held c = ofBits-toBits binary64 (c .args .f) (subst T (sym (c .good .1 .0 .1)) t
 float-to-bits-bits : tie.Need-float-to-bits-bits
 float-to-bits-bits c = equal-itself _ (c .if1 .left)
 
-scaled-requires : tie.Need-scaled-requires
-scaled-requires c κs = search needs
-
-add-r : tie.Need-add-r
-add-r c = omega arith
-
-sub-if2 : tie.Need-sub-if2
-sub-if2 c = omega arith
-
-mul-if2 : tie.Need-mul-if2
-mul-if2 c = omega arith
-
-add-if2 : tie.Need-add-if2
-add-if2 c = omega arith
-
 is-rounded-requires : tie.Need-is-rounded-requires
 is-rounded-requires c κs = (omega arith, omega arith)
 
@@ -55,11 +40,11 @@ is-root-spec =
     (tie.spec
     (λ c e. no e)
     float-to-bits-bits
-    scaled-requires
-    add-r
-    sub-if2
-    mul-if2
-    add-if2
+    (λ c κs. search needs)
+    (λ c. omega arith)
+    (λ c. omega arith)
+    (λ c. omega arith)
+    (λ c. omega arith)
     (λ c e. no e)
     is-rounded-requires
     returns-3)

@@ -3,7 +3,6 @@ use mathlib.Core.Path.{_≡_, sym, subst}
 use mathlib.Core.Bool.{true, false}
 use Prim.Native.Nat.{_/_, _%_, _^_}
 use native.Mathlib.Omega.{arith}
-use borrow.Author.Needs.{needs}
 use borrow.Author.Tests.{leb-true}
 use lib.Dec.{T}
 use Rattle.ieee.proofs.Halves.{near, Parts, parts}
@@ -16,29 +15,17 @@ no e = absurd (subst T (sym e) tt)
 mul-square : tie.Need-mul-square
 mul-square c = let p = parts (c .args .r) (c .pre .1) in omega arith
 
-mul-left : tie.Need-mul-left
-mul-left c = omega arith
-
-add-left : tie.Need-add-left
-add-left c = omega arith
-
 mul-product : tie.Need-mul-product
 mul-product c = let p = parts (c .before .before .args .r) (c .before .before .pre .1) in omega arith
 
 mul-product-2 : tie.Need-mul-product-2
 mul-product-2 c = let p = parts (c .before .before .args .r) (c .before .before .pre .1) in omega arith
 
-mul-high : tie.Need-mul-high
-mul-high c = omega arith
-
 mul-low : tie.Need-mul-low
 mul-low c = let p = parts (c .before .before .before .before .args .r) (c .before .before .before .before .pre .1) in omega arith
 
 add-low : tie.Need-add-low
 add-low c = let p = parts (c .before .before .before .before .args .r) (c .before .before .before .before .pre .1) in omega arith
-
-add-if5 : tie.Need-add-if5
-add-if5 c = omega arith
 
 add-result : tie.Need-add-result
 add-result c = let p = parts (c .before .before .before .before .before .args .r) (c .before .before .before .before .before .pre .1) in omega arith
@@ -53,16 +40,16 @@ is-rounded-spec =
     mul-square
     (λ c e. no e)
     (λ c e. no e)
-    mul-left
-    add-left
+    (λ c. omega arith)
+    (λ c. omega arith)
     mul-product
     mul-product-2
     (λ c e. no e)
     (λ c e. no e)
-    mul-high
+    (λ c. omega arith)
     mul-low
     add-low
-    add-if5
+    (λ c. omega arith)
     (λ c e. no e)
     add-result
     returns-6)

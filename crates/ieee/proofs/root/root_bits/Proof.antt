@@ -6,20 +6,8 @@ use Rattle.ieee.proofs.Patterns.{root-pattern}
 use Rattle.ieee.proofs.root.root_bits.Statement.{statement}
 use Rattle.ieee.proofs.root.root_bits.Tie as tie
 
-scaled-requires : tie.Need-scaled-requires
-scaled-requires c κs = search needs
-
-isqrt54-requires : tie.Need-isqrt54-requires
-isqrt54-requires c κs = search needs
-
 long : (c : tie.After-struct-known) → Long (c .before .isqrt54 .result)
 long c = long-root (c .before .before .scaled .ensures .least) (c .before .before .scaled .ensures .most) (c .before .isqrt54 .ensures)
-
-sub-result : tie.Need-sub-result
-sub-result c = omega arith
-
-mul-result : tie.Need-mul-result
-mul-result c = omega arith
 
 add-result : tie.Need-add-result
 add-result c = omega (arith, long c .most)
@@ -34,10 +22,10 @@ pub root-bits-spec : {M : Type 1} → statement M
 root-bits-spec =
     tie.close
     (tie.spec
-    scaled-requires
-    isqrt54-requires
-    sub-result
-    mul-result
+    (λ c κs. search needs)
+    (λ c κs. search needs)
+    (λ c. omega arith)
+    (λ c. omega arith)
     add-result
     add-result-2
     returns)

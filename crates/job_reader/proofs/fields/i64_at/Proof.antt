@@ -6,14 +6,8 @@ use Rattle.ieee.specs.Floats.{signedOf}
 use Rattle.job_reader.proofs.fields.i64_at.Statement.{statement}
 use Rattle.job_reader.proofs.fields.i64_at.Tie as tie
 
-u64-at-requires : tie.Need-u64-at-requires
-u64-at-requires c κs = search needs
-
-signed-of-requires : tie.Need-signed-of-requires
-signed-of-requires c κs = search needs
-
 returns : tie.Need-returns
 returns c = toZ-ofZ w64 _ (record { sfits = c .signed-of .ok }) ∙ c .signed-of .ensures ∙ ap signedOf (c .before .u64-at .ensures)
 
 pub i64-at-spec : {M : Type 1} → statement M
-i64-at-spec = tie.close (tie.spec u64-at-requires signed-of-requires returns)
+i64-at-spec = tie.close (tie.spec (λ c κs. search needs) (λ c κs. search needs) returns)

@@ -9,12 +9,6 @@ use Rattle.job_record.proofs.Accepted.{fields}
 settings-at-requires : tie.Need-settings-at-requires
 settings-at-requires c κs = fields (c .before .args .job .now) (c .before .pre) .there
 
-add-result : tie.Need-add-result
-add-result c = search needs
-
-job-start-count-requires : tie.Need-job-start-count-requires
-job-start-count-requires c κs = search needs
-
 mul-result : tie.Need-mul-result
 mul-result c = omega (arith, c .job-start-count .ensures .1)
 
@@ -29,8 +23,8 @@ draws-at-spec =
     tie.close
     (tie.spec
     settings-at-requires
-    add-result
-    job-start-count-requires
+    (λ c. search needs)
+    (λ c κs. search needs)
     mul-result
     add-result-2
     returns)

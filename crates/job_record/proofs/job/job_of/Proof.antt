@@ -10,83 +10,41 @@ use Rattle.job_record.proofs.Accepted.{fields}
 settings-at-requires : tie.Need-settings-at-requires
 settings-at-requires c κs = fields (c .before .args .job .now) (c .before .pre) .there
 
-draws-at-requires : tie.Need-draws-at-requires
-draws-at-requires c κs = search needs
-
 u8-at-requires : tie.Need-u8-at-requires
 u8-at-requires c κs = omega (arith, fields (c .before .before .before .args .job .now) (c .before .before .before .pre) .there)
-
-cast-t5 : tie.Need-cast-t5
-cast-t5 c = search needs
 
 u16-at-requires : tie.Need-u16-at-requires
 u16-at-requires c κs = omega (arith, fields (c .before .before .before .before .args .job .now) (c .before .before .before .before .pre) .there)
 
-cast-t7 : tie.Need-cast-t7
-cast-t7 c = search needs
-
 u8-at-requires-2 : tie.Need-u8-at-requires-2
 u8-at-requires-2 c κs = omega (arith, fields (c .before .before .before .before .before .args .job .now) (c .before .before .before .before .before .pre) .settings .there, c .before .before .before .settings-at .ensures)
-
-cast-t9 : tie.Need-cast-t9
-cast-t9 c = search needs
-
-add-u8-at : tie.Need-add-u8-at
-add-u8-at c = search needs
 
 u8-at-requires-3 : tie.Need-u8-at-requires-3
 u8-at-requires-3 c κs = omega (arith, fields (c .before .before .before .before .before .before .args .job .now) (c .before .before .before .before .before .before .pre) .settings .there, c .before .before .before .before .settings-at .ensures)
 
-add-f64-at : tie.Need-add-f64-at
-add-f64-at c = search needs
-
 f64-at-requires : tie.Need-f64-at-requires
 f64-at-requires c κs = omega (arith, fields (c .before .before .before .before .before .before .before .args .job .now) (c .before .before .before .before .before .before .before .pre) .settings .there, c .before .before .before .before .before .settings-at .ensures)
-
-add-u32-at : tie.Need-add-u32-at
-add-u32-at c = search needs
 
 u32-at-requires : tie.Need-u32-at-requires
 u32-at-requires c κs = omega (arith, fields (c .before .before .before .before .before .before .before .before .args .job .now) (c .before .before .before .before .before .before .before .before .pre) .settings .there, c .before .before .before .before .before .before .settings-at .ensures)
 
-add-u32-at-2 : tie.Need-add-u32-at-2
-add-u32-at-2 c = search needs
-
 u32-at-requires-2 : tie.Need-u32-at-requires-2
 u32-at-requires-2 c κs = omega (arith, fields (c .before .before .before .before .before .before .before .before .before .args .job .now) (c .before .before .before .before .before .before .before .before .before .pre) .settings .there, c .before .before .before .before .before .before .before .settings-at .ensures)
-
-add-f64-at-2 : tie.Need-add-f64-at-2
-add-f64-at-2 c = search needs
 
 f64-at-requires-2 : tie.Need-f64-at-requires-2
 f64-at-requires-2 c κs = omega (arith, fields (c .before .before .before .before .before .before .before .before .before .before .args .job .now) (c .before .before .before .before .before .before .before .before .before .before .pre) .settings .there, c .before .before .before .before .before .before .before .before .settings-at .ensures)
 
-add-f64-at-3 : tie.Need-add-f64-at-3
-add-f64-at-3 c = search needs
-
 f64-at-requires-3 : tie.Need-f64-at-requires-3
 f64-at-requires-3 c κs = omega (arith, fields (c .before .before .before .before .before .before .before .before .before .before .before .args .job .now) (c .before .before .before .before .before .before .before .before .before .before .before .pre) .settings .there, c .before .before .before .before .before .before .before .before .before .settings-at .ensures)
 
-add-u8-at-2 : tie.Need-add-u8-at-2
-add-u8-at-2 c = search needs
-
 u8-at-requires-4 : tie.Need-u8-at-requires-4
 u8-at-requires-4 c κs = omega (arith, fields (c .before .before .before .before .before .before .before .before .before .before .before .before .args .job .now) (c .before .before .before .before .before .before .before .before .before .before .before .before .pre) .settings .there, c .before .before .before .before .before .before .before .before .before .before .settings-at .ensures)
-
-cast-t24 : tie.Need-cast-t24
-cast-t24 c = search needs
-
-add-u8-at-3 : tie.Need-add-u8-at-3
-add-u8-at-3 c = search needs
 
 u8-at-requires-5 : tie.Need-u8-at-requires-5
 u8-at-requires-5 c κs = omega (arith, fields (c .before .before .before .before .before .before .before .before .before .before .before .before .before .args .job .now) (c .before .before .before .before .before .before .before .before .before .before .before .before .before .pre) .settings .there, c .before .before .before .before .before .before .before .before .before .before .before .settings-at .ensures)
 
 u16-at-requires-2 : tie.Need-u16-at-requires-2
 u16-at-requires-2 c κs = omega (arith, fields (c .before .before .before .before .before .before .before .before .before .before .before .before .before .before .args .job .now) (c .before .before .before .before .before .before .before .before .before .before .before .before .before .before .pre) .draws .there, c .before .before .before .before .before .before .before .before .before .before .before .draws-at .ensures)
-
-cast-t28 : tie.Need-cast-t28
-cast-t28 c = search needs
 
 returns : tie.Need-returns
 unfolding jobOf
@@ -97,30 +55,30 @@ job-of-spec =
     tie.close
     (tie.spec
     settings-at-requires
-    draws-at-requires
+    (λ c κs. search needs)
     u8-at-requires
-    cast-t5
+    (λ c. search needs)
     u16-at-requires
-    cast-t7
+    (λ c. search needs)
     u8-at-requires-2
-    cast-t9
-    add-u8-at
+    (λ c. search needs)
+    (λ c. search needs)
     u8-at-requires-3
-    add-f64-at
+    (λ c. search needs)
     f64-at-requires
-    add-u32-at
+    (λ c. search needs)
     u32-at-requires
-    add-u32-at-2
+    (λ c. search needs)
     u32-at-requires-2
-    add-f64-at-2
+    (λ c. search needs)
     f64-at-requires-2
-    add-f64-at-3
+    (λ c. search needs)
     f64-at-requires-3
-    add-u8-at-2
+    (λ c. search needs)
     u8-at-requires-4
-    cast-t24
-    add-u8-at-3
+    (λ c. search needs)
+    (λ c. search needs)
     u8-at-requires-5
     u16-at-requires-2
-    cast-t28
+    (λ c. search needs)
     returns)

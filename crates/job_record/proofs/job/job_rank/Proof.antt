@@ -12,17 +12,8 @@ settings-at-requires c κs = fields (c .before .args .job .now) (c .before .pre)
 u8-at-requires : tie.Need-u8-at-requires
 u8-at-requires c κs = omega (arith, fields (c .before .before .args .job .now) (c .before .before .pre) .there)
 
-cast-rank-meant : tie.Need-cast-rank-meant
-cast-rank-meant c = search needs
-
-add-rank-meant : tie.Need-add-rank-meant
-add-rank-meant c = search needs
-
 u8-at-requires-2 : tie.Need-u8-at-requires-2
 u8-at-requires-2 c κs = omega (arith, fields (c .before .before .before .args .job .now) (c .before .before .before .pre) .settings .there, c .before .settings-at .ensures)
-
-cast-rank-meant-2 : tie.Need-cast-rank-meant-2
-cast-rank-meant-2 c = search needs
 
 rank-meant-requires : tie.Need-rank-meant-requires
 rank-meant-requires c κs = (λ _. omega (arith, fields (c .before .before .before .before .args .job .now) (c .before .before .before .before .pre) .few, c .before .u8-at .ensures), rw (c .u8-at2 .ensures, c .before .before .settings-at .ensures .0) (fields (c .before .before .before .before .args .job .now) (c .before .before .before .before .pre) .settings .rank))
@@ -36,9 +27,9 @@ job-rank-spec =
     (tie.spec
     settings-at-requires
     u8-at-requires
-    cast-rank-meant
-    add-rank-meant
+    (λ c. search needs)
+    (λ c. search needs)
     u8-at-requires-2
-    cast-rank-meant-2
+    (λ c. search needs)
     rank-meant-requires
     returns)

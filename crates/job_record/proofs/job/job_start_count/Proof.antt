@@ -9,26 +9,11 @@ use Rattle.job_record.proofs.Accepted.{fields}
 settings-at-requires : tie.Need-settings-at-requires
 settings-at-requires c κs = fields (c .before .args .job .now) (c .before .pre) .there
 
-job-rank-requires : tie.Need-job-rank-requires
-job-rank-requires c κs = search needs
-
-add-u8-at : tie.Need-add-u8-at
-add-u8-at c = search needs
-
 u8-at-requires : tie.Need-u8-at-requires
 u8-at-requires c κs = omega (arith, fields (c .before .before .before .args .job .now) (c .before .before .before .pre) .settings .there, c .before .settings-at .ensures)
 
 u8-at-requires-2 : tie.Need-u8-at-requires-2
 u8-at-requires-2 c κs = omega (arith, fields (c .before .before .before .before .args .job .now) (c .before .before .before .before .pre) .there)
-
-cast-start-count : tie.Need-cast-start-count
-cast-start-count c = search needs
-
-add-start-count : tie.Need-add-start-count
-add-start-count c = search needs
-
-add-u32-at : tie.Need-add-u32-at
-add-u32-at c = search needs
 
 u32-at-requires : tie.Need-u32-at-requires
 u32-at-requires c κs = omega (arith, fields (c .before .before .before .before .before .args .job .now) (c .before .before .before .before .before .pre) .settings .there, c .before .before .before .settings-at .ensures)
@@ -44,13 +29,13 @@ job-start-count-spec =
     tie.close
     (tie.spec
     settings-at-requires
-    job-rank-requires
-    add-u8-at
+    (λ c κs. search needs)
+    (λ c. search needs)
     u8-at-requires
     u8-at-requires-2
-    cast-start-count
-    add-start-count
-    add-u32-at
+    (λ c. search needs)
+    (λ c. search needs)
+    (λ c. search needs)
     u32-at-requires
     start-count-requires
     returns)

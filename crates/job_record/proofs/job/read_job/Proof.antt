@@ -9,20 +9,8 @@ use Rattle.job_record.proofs.Accepted.{fields}
 u16-at-requires : tie.Need-u16-at-requires
 u16-at-requires c κs = omega (arith, fields (c .before .before .before .before .before .args .job .now) (c .before .before .before .before .before .pre .0) .there)
 
-cast-count : tie.Need-cast-count
-cast-count c = search needs
-
 u8-at-requires : tie.Need-u8-at-requires
 u8-at-requires c κs = omega (arith, fields (c .before .before .before .before .before .before .args .job .now) (c .before .before .before .before .before .before .pre .0) .there)
-
-cast-n : tie.Need-cast-n
-cast-n c = search needs
-
-mul-costs : tie.Need-mul-costs
-mul-costs c = search needs
-
-add-costs : tie.Need-add-costs
-add-costs c = search needs
 
 read-entries-requires : tie.Need-read-entries-requires
 read-entries-requires c κs = let f = fields (c .before .before .before .before .before .before .before .before .before .before .args .job .now) (c .before .before .before .before .before .before .before .before .before .before .pre .0) in (omega (arith, f .entries-end, f .settings .there, c .before .before .before .before .u16-at .ensures), omega (arith, f .short, c .before .before .before .before .u16-at .ensures, c .before .before .before .before .before .before .before .before .before .before .pre .1), omega (arith, f .short, c .before .before .before .before .u16-at .ensures, c .before .before .before .before .before .before .before .before .before .before .pre .2), omega (arith, f .short, c .before .before .before .before .u16-at .ensures, c .before .before .before .before .before .before .before .before .before .before .pre .3))
@@ -38,24 +26,6 @@ read-draws-requires c κs = (c .before .before .before .before .before .before .
 
 job-of-requires : tie.Need-job-of-requires
 job-of-requires c κs = c .before .before .before .before .before .before .before .before .before .before .before .before .before .before .before .before .before .before .before .before .before .before .before .before .before .before .before .pre .0
-
-same-length : tie.Need-same-length
-same-length c = search needs
-
-same-length-2 : tie.Need-same-length-2
-same-length-2 c = search needs
-
-same-length-3 : tie.Need-same-length-3
-same-length-3 c = search needs
-
-same-length-4 : tie.Need-same-length-4
-same-length-4 c = search needs
-
-same-length-5 : tie.Need-same-length-5
-same-length-5 c = search needs
-
-same-length-6 : tie.Need-same-length-6
-same-length-6 c = search needs
 
 returns : tie.Need-returns
 returns c = (
@@ -75,20 +45,20 @@ read-job-spec =
     tie.close
     (tie.spec
     u16-at-requires
-    cast-count
+    (λ c. search needs)
     u8-at-requires
-    cast-n
-    mul-costs
-    add-costs
+    (λ c. search needs)
+    (λ c. search needs)
+    (λ c. search needs)
     read-entries-requires
     read-signed-requires
     read-start-requires
     read-draws-requires
     job-of-requires
-    same-length
-    same-length-2
-    same-length-3
-    same-length-4
-    same-length-5
-    same-length-6
+    (λ c. search needs)
+    (λ c. search needs)
+    (λ c. search needs)
+    (λ c. search needs)
+    (λ c. search needs)
+    (λ c. search needs)
     returns)

@@ -9,17 +9,11 @@ use Rattle.job_record.proofs.Accepted.{fields}
 settings-at-requires : tie.Need-settings-at-requires
 settings-at-requires c κs = fields (c .before .before .args .job .now) (c .before .before .pre .0) .there
 
-add-at : tie.Need-add-at
-add-at c = search needs
-
 job-start-count-requires : tie.Need-job-start-count-requires
 job-start-count-requires c κs = c .before .before .before .pre .0
 
 read-doubles-requires : tie.Need-read-doubles-requires
 read-doubles-requires c κs = let f = fields (c .before .before .before .before .before .args .job .now) (c .before .before .before .before .before .pre .0) in (omega (arith, f .start-end, f .draws .there, c .before .before .settings-at .ensures .0, c .before .job-start-count .ensures .0), omega (arith, c .before .before .before .before .before .pre .1, c .before .job-start-count .ensures .1))
-
-same-length : tie.Need-same-length
-same-length c = search needs
 
 returns : tie.Need-returns
 returns c = c .before .before .read-doubles .ensures ∙ simp (c .before .before .before .before .before .settings-at .ensures .0, c .before .before .before .before .job-start-count .ensures .0)
@@ -29,8 +23,8 @@ read-start-spec =
     tie.close
     (tie.spec
     settings-at-requires
-    add-at
+    (λ c. search needs)
     job-start-count-requires
     read-doubles-requires
-    same-length
+    (λ c. search needs)
     returns)

@@ -13,33 +13,9 @@ use Rattle.tables.specs.Limits.{mostMagnitude}
 use Rattle.job_record.specs.Number.{costsNumbers}
 use Rattle.job_record.proofs.Entries.{magnitude-is}
 
-mul-at : tie.Need-mul-at
-mul-at c = search needs
-
-add-at : tie.Need-add-at
-add-at c = search needs
-
-mul-if1 : tie.Need-mul-if1
-mul-if1 c = search needs
-
-add-if1 : tie.Need-add-if1
-add-if1 c = search needs
-
 returns : tie.Need-returns
 unfolding costsNumbers
 returns c = answers-if _ _ _ (lt-ltb _ _ (c .if1 .taken))
-
-slice-aggregate-read-signed : tie.Need-slice-aggregate-read-signed
-slice-aggregate-read-signed c = search needs
-
-read-signed-requires : tie.Need-read-signed-requires
-read-signed-requires c κs = search needs
-
-slice-aggregate-hall-too-large : tie.Need-slice-aggregate-hall-too-large
-slice-aggregate-hall-too-large c = search needs
-
-hall-too-large-requires : tie.Need-hall-too-large-requires
-hall-too-large-requires c κs = search needs
 
 returns-2 : tie.Need-returns-2
 unfolding costsNumbers
@@ -55,14 +31,14 @@ pub costs-number-spec : {M : Type 1} → statement M
 costs-number-spec =
     tie.close
     (tie.spec
-    mul-at
-    add-at
-    mul-if1
-    add-if1
+    (λ c. search needs)
+    (λ c. search needs)
+    (λ c. search needs)
+    (λ c. search needs)
     returns
-    slice-aggregate-read-signed
-    read-signed-requires
-    slice-aggregate-hall-too-large
-    hall-too-large-requires
+    (λ c. search needs)
+    (λ c κs. search needs)
+    (λ c. search needs)
+    (λ c κs. search needs)
     returns-2
     returns-3)

@@ -5,36 +5,15 @@ use Rattle.job_record.proofs.number.entries_number.Tie as tie
 use native.Mathlib.Omega.{arith}
 use Rattle.job_record.proofs.Entries.{refused-14, refused-11, refused-15, accepted, placed}
 
-whole-entries-requires : tie.Need-whole-entries-requires
-whole-entries-requires c κs = search needs
-
 read-entries-requires : tie.Need-read-entries-requires
 read-entries-requires c κs = omega (arith, c .before .before .before .whole-entries .ensures, c .before .before .before .before .before .before .before .pre)
 
 bad-order-requires : tie.Need-bad-order-requires
 bad-order-requires c κs = omega (arith, c .before .before .before .before .before .before .before .before .before .before .before .whole-entries .ensures, c .before .before .before .before .before .before .before .before .before .before .before .before .before .before .before .pre)
 
-same-length : tie.Need-same-length
-same-length c = search needs
-
-same-length-2 : tie.Need-same-length-2
-same-length-2 c = search needs
-
-same-length-3 : tie.Need-same-length-3
-same-length-3 c = search needs
-
 returns : tie.Need-returns
 returns c = let a = c .before .before .before .before .before .before .before .before .before .before .before .before .before .before .before .before .before .args in let w = c .before .before .before .before .before .before .before .before .before .before .before .before .before .whole-entries in
     refused-14 (a .job .now) (a .n) (a .count) (w .result) (w .ensures .0) (w .ensures .1) (w .ensures .2) (a .rows .now) (a .cols .now) (a .values .now) (c .before .before .before .before .before .before .before .before .before .read-entries .ensures .0) (c .before .before .before .before .before .before .before .before .before .read-entries .ensures .1 .0) (c .before .before .before .before .before .before .before .before .before .read-entries .ensures .1 .1) (omega (arith, w .ensures .0, c .before .before .before .before .before .before .before .before .before .before .before .before .before .before .before .before .before .pre)) (omega (arith, w .ensures .0, c .before .before .before .before .before .before .before .before .before .before .before .before .before .before .before .before .before .pre)) (omega (arith, w .ensures .0, c .before .before .before .before .before .before .before .before .before .before .before .before .before .before .before .before .before .pre)) (c .before .bad-order .ensures) (c .if1 .taken)
-
-same-length-4 : tie.Need-same-length-4
-same-length-4 c = search needs
-
-same-length-5 : tie.Need-same-length-5
-same-length-5 c = search needs
-
-same-length-6 : tie.Need-same-length-6
-same-length-6 c = search needs
 
 returns-2 : tie.Need-returns-2
 returns-2 c = let a = c .before .before .before .before .before .before .before .before .before .before .before .before .before .before .before .before .before .before .args in let w = c .before .before .before .before .before .before .before .before .before .before .before .before .before .before .whole-entries in
@@ -46,27 +25,9 @@ unmirrored-requires c κs = let a = c .before .before .before .before .before .b
   placed (a .job .now) (a .n) (a .count) (w .result) (w .ensures .0) (w .ensures .1) (w .ensures .2) (a .rows .now) (a .cols .now) (a .values .now) (c .before .before .before .before .before .before .before .before .before .before .before .before .before .read-entries .ensures .0) (c .before .before .before .before .before .before .before .before .before .before .before .before .before .read-entries .ensures .1 .0) (c .before .before .before .before .before .before .before .before .before .before .before .before .before .read-entries .ensures .1 .1) (omega (arith, w .ensures .0, c .before .before .before .before .before .before .before .before .before .before .before .before .before .before .before .before .before .before .before .before .before .pre)) (omega (arith, w .ensures .0, c .before .before .before .before .before .before .before .before .before .before .before .before .before .before .before .before .before .before .before .before .before .pre)) (omega (arith, w .ensures .0, c .before .before .before .before .before .before .before .before .before .before .before .before .before .before .before .before .before .before .before .before .before .pre)) (c .before .before .before .before .before .bad-order .ensures) (c .before .before .before .before .if1 .left) (c .before .before .before .if2 .left) (omega (arith, c .before .before .before .before .before .before .before .before .before .before .before .before .before .before .before .before .before .before .before .before .before .pre)),
 )
 
-same-length-7 : tie.Need-same-length-7
-same-length-7 c = search needs
-
-same-length-8 : tie.Need-same-length-8
-same-length-8 c = search needs
-
-same-length-9 : tie.Need-same-length-9
-same-length-9 c = search needs
-
 returns-3 : tie.Need-returns-3
 returns-3 c = let a = c .before .before .before .before .before .before .before .before .before .before .before .before .before .before .before .before .before .before .before .before .before .before .before .args in let w = c .before .before .before .before .before .before .before .before .before .before .before .before .before .before .before .before .before .before .before .whole-entries in
     refused-15 (a .job .now) (a .n) (a .count) (w .result) (w .ensures .0) (w .ensures .1) (w .ensures .2) (a .rows .now) (a .cols .now) (a .values .now) (c .before .before .before .before .before .before .before .before .before .before .before .before .before .before .before .read-entries .ensures .0) (c .before .before .before .before .before .before .before .before .before .before .before .before .before .before .before .read-entries .ensures .1 .0) (c .before .before .before .before .before .before .before .before .before .before .before .before .before .before .before .read-entries .ensures .1 .1) (omega (arith, w .ensures .0, c .before .before .before .before .before .before .before .before .before .before .before .before .before .before .before .before .before .before .before .before .before .before .before .pre)) (omega (arith, w .ensures .0, c .before .before .before .before .before .before .before .before .before .before .before .before .before .before .before .before .before .before .before .before .before .before .before .pre)) (omega (arith, w .ensures .0, c .before .before .before .before .before .before .before .before .before .before .before .before .before .before .before .before .before .before .before .before .before .before .before .pre)) (c .before .before .before .before .before .before .before .bad-order .ensures) (c .before .before .before .before .before .before .if1 .left) (c .before .before .before .before .before .if2 .left) (c .before .unmirrored .ensures) (c .if3 .taken)
-
-same-length-10 : tie.Need-same-length-10
-same-length-10 c = search needs
-
-same-length-11 : tie.Need-same-length-11
-same-length-11 c = search needs
-
-same-length-12 : tie.Need-same-length-12
-same-length-12 c = search needs
 
 returns-4 : tie.Need-returns-4
 returns-4 c = let a = c .before .before .before .before .before .before .before .before .before .before .before .before .before .before .before .before .before .before .before .before .before .before .before .args in let w = c .before .before .before .before .before .before .before .before .before .before .before .before .before .before .before .before .before .before .before .whole-entries in
@@ -76,23 +37,23 @@ pub entries-number-spec : {M : Type 1} → statement M
 entries-number-spec =
     tie.close
     (tie.spec
-    whole-entries-requires
+    (λ c κs. search needs)
     read-entries-requires
     bad-order-requires
-    same-length
-    same-length-2
-    same-length-3
+    (λ c. search needs)
+    (λ c. search needs)
+    (λ c. search needs)
     returns
-    same-length-4
-    same-length-5
-    same-length-6
+    (λ c. search needs)
+    (λ c. search needs)
+    (λ c. search needs)
     returns-2
     unmirrored-requires
-    same-length-7
-    same-length-8
-    same-length-9
+    (λ c. search needs)
+    (λ c. search needs)
+    (λ c. search needs)
     returns-3
-    same-length-10
-    same-length-11
-    same-length-12
+    (λ c. search needs)
+    (λ c. search needs)
+    (λ c. search needs)
     returns-4)

@@ -3,7 +3,6 @@ use borrow.Author.Needs.{needs}
 use Rattle.job_record.proofs.number.frame_number.Statement.{statement}
 use Rattle.job_record.proofs.number.frame_number.Tie as tie
 use mathlib.Core.Path.{_≡_, sym, ap, _∙_}
-use native.Mathlib.Omega.{arith}
 use borrow.Author.Tests.{lt-ltb, le-ltb, eq-eqb, ne-eqb}
 use Rattle.laws.specs.Refusal.{first, orElse}
 use Rattle.job_record.specs.Number.{frameNumber}
@@ -16,15 +15,6 @@ returns-2 : tie.Need-returns-2
 unfolding frameNumber first orElse
 returns-2 c = simp (le-ltb _ _ (c .before .if1 .left), lt-ltb _ _ (c .if2 .taken))
 
-u32-at-requires : tie.Need-u32-at-requires
-u32-at-requires c κs = search needs
-
-cast-if3 : tie.Need-cast-if3
-cast-if3 c = search needs
-
-add-if3 : tie.Need-add-if3
-add-if3 c = search needs
-
 returns-3 : tie.Need-returns-3
 unfolding frameNumber first orElse
 returns-3 c = simp (le-ltb _ _ (c .before .before .before .if1 .left), le-ltb _ _ (c .before .before .if2 .left), ← c .before .u32-at .ensures, ne-eqb _ _ (c .if3 .taken))
@@ -35,4 +25,4 @@ returns-4 c = simp (le-ltb _ _ (c .before .before .before .if1 .left), le-ltb _ 
 
 pub frame-number-spec : {M : Type 1} → statement M
 frame-number-spec =
-    tie.close (tie.spec returns returns-2 u32-at-requires cast-if3 add-if3 returns-3 returns-4)
+    tie.close (tie.spec returns returns-2 (λ c κs. search needs) (λ c. search needs) (λ c. search needs) returns-3 returns-4)

@@ -5,29 +5,17 @@ use Rattle.job_record.proofs.number.head_number.Tie as tie
 use Rattle.laws.proofs.Following.{answers, moves-on, answers-last}
 use Rattle.job_record.specs.Number.{headNumbers}
 
-frame-number-requires : tie.Need-frame-number-requires
-frame-number-requires c κs = search needs
-
 returns : tie.Need-returns
 unfolding headNumbers
 returns c = answers _ _ (c .before .frame-number .ensures) (c .if1 .taken)
-
-version-number-requires : tie.Need-version-number-requires
-version-number-requires c κs = search needs
 
 returns-2 : tie.Need-returns-2
 unfolding headNumbers
 returns-2 c = moves-on _ _ (c .before .before .before .frame-number .ensures) (c .before .before .if1 .left) (answers _ _ (c .before .version-number .ensures) (c .if2 .taken))
 
-bounded-requires : tie.Need-bounded-requires
-bounded-requires c κs = search needs
-
 returns-3 : tie.Need-returns-3
 unfolding headNumbers
 returns-3 c = moves-on _ _ (c .before .before .before .before .before .frame-number .ensures) (c .before .before .before .before .if1 .left) (moves-on _ _ (c .before .before .before .version-number .ensures) (c .before .before .if2 .left) (answers _ _ (c .before .bounded .ensures) (c .if3 .taken)))
-
-bounded-requires-2 : tie.Need-bounded-requires-2
-bounded-requires-2 c κs = search needs
 
 returns-4 : tie.Need-returns-4
 unfolding headNumbers
@@ -37,11 +25,11 @@ pub head-number-spec : {M : Type 1} → statement M
 head-number-spec =
     tie.close
     (tie.spec
-    frame-number-requires
+    (λ c κs. search needs)
     returns
-    version-number-requires
+    (λ c κs. search needs)
     returns-2
-    bounded-requires
+    (λ c κs. search needs)
     returns-3
-    bounded-requires-2
+    (λ c κs. search needs)
     returns-4)

@@ -7,41 +7,20 @@ use native.Mathlib.Omega.{arith}
 use Rattle.job_record.proofs.Sections.{head}
 use Rattle.job_record.proofs.Whole.{at-head, at-table, at-run}
 
-head-number-requires : tie.Need-head-number-requires
-head-number-requires c κs = search needs
-
 returns : tie.Need-returns
 returns c = at-head (c .before .before .before .args .job .now) (c .before .head-number .ensures) (c .if1 .taken)
 
 u8-at-requires : tie.Need-u8-at-requires
 u8-at-requires c κs = omega (arith, head (c .before .before .before .args .job .now) (sym (c .before .head-number .ensures) ∙ c .if1 .left))
 
-cast-n : tie.Need-cast-n
-cast-n c = search needs
-
 u16-at-requires : tie.Need-u16-at-requires
 u16-at-requires c κs = omega (arith, head (c .before .before .before .before .args .job .now) (sym (c .before .before .head-number .ensures) ∙ c .before .if1 .left))
-
-cast-count : tie.Need-cast-count
-cast-count c = search needs
 
 table-number-requires : tie.Need-table-number-requires
 table-number-requires c κs = omega (arith, head (c .before .before .before .before .before .args .job .now) (sym (c .before .before .before .head-number .ensures) ∙ c .before .before .if1 .left), c .before .u8-at .ensures, c .u16-at .ensures)
 
 returns-2 : tie.Need-returns-2
 returns-2 c = at-table (c .before .before .before .before .before .before .before .args .job .now) (c .before .before .before .u8-at .ensures) (c .before .before .u16-at .ensures) (c .before .before .before .before .before .head-number .ensures) (c .before .before .before .before .if1 .left) (c .before .table-number .ensures) (c .if2 .taken)
-
-mul-run-number : tie.Need-mul-run-number
-mul-run-number c = search needs
-
-add-run-number : tie.Need-add-run-number
-add-run-number c = search needs
-
-mul-run-number-2 : tie.Need-mul-run-number-2
-mul-run-number-2 c = search needs
-
-add-run-number-2 : tie.Need-add-run-number-2
-add-run-number-2 c = search needs
 
 run-number-requires : tie.Need-run-number-requires
 run-number-requires c κs = omega (arith, head (c .before .before .before .before .before .before .before .args .job .now) (sym (c .before .before .before .before .before .head-number .ensures) ∙ c .before .before .before .before .if1 .left), c .before .before .before .u8-at .ensures, c .before .before .u16-at .ensures)
@@ -53,17 +32,17 @@ pub job-number-spec : {M : Type 1} → statement M
 job-number-spec =
     tie.close
     (tie.spec
-    head-number-requires
+    (λ c κs. search needs)
     returns
     u8-at-requires
-    cast-n
+    (λ c. search needs)
     u16-at-requires
-    cast-count
+    (λ c. search needs)
     table-number-requires
     returns-2
-    mul-run-number
-    add-run-number
-    mul-run-number-2
-    add-run-number-2
+    (λ c. search needs)
+    (λ c. search needs)
+    (λ c. search needs)
+    (λ c. search needs)
     run-number-requires
     returns-3)

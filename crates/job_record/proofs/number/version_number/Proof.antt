@@ -10,9 +10,6 @@ returns : tie.Need-returns
 unfolding versionNumber first orElse
 returns c = simp (lt-ltb _ _ (c .if1 .taken))
 
-u8-at-requires : tie.Need-u8-at-requires
-u8-at-requires c κs = search needs
-
 returns-2 : tie.Need-returns-2
 unfolding versionNumber first orElse
 returns-2 c = simp (le-ltb _ _ (c .before .before .if1 .left), ← c .before .u8-at .ensures, ne-eqb _ _ (c .if2 .taken))
@@ -22,4 +19,4 @@ unfolding versionNumber first orElse
 returns-3 c = simp (le-ltb _ _ (c .before .before .if1 .left), ← c .before .u8-at .ensures, eq-eqb _ _ (c .if2 .left))
 
 pub version-number-spec : {M : Type 1} → statement M
-version-number-spec = tie.close (tie.spec returns u8-at-requires returns-2 returns-3)
+version-number-spec = tie.close (tie.spec returns (λ c κs. search needs) returns-2 returns-3)

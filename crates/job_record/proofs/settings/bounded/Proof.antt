@@ -3,17 +3,7 @@ use borrow.Author.Needs.{needs}
 use Rattle.job_record.proofs.settings.bounded.Statement.{statement}
 use Rattle.job_record.proofs.settings.bounded.Tie as tie
 use mathlib.Core.Path.{sym, _∙_}
-use native.Mathlib.Omega.{arith}
 use Rattle.job_record.proofs.Bounded.{bounded-short, bounded-above, bounded-within}
-
-read-field-requires : tie.Need-read-field-requires
-read-field-requires c κs = search needs
-
-enum-told : tie.Need-enum-told
-enum-told c = search needs
-
-enum-known-field : tie.Need-enum-known-field
-enum-known-field c = search needs
 
 returns : tie.Need-returns
 returns c = let a = c .before .before .before .before .before .before .args in bounded-above (a .job .now) (a .at) (a .width) (a .most) (a .number) (sym (c .before .before .field .given .1) ∙ c .before .before .before .before .read-field .ensures) (c .if1 .taken)
@@ -26,4 +16,4 @@ returns-3 c = let a = c .before .before .before .before .before .before .args in
 
 pub bounded-spec : {M : Type 1} → statement M
 bounded-spec =
-    tie.close (tie.spec read-field-requires enum-told enum-known-field returns returns-2 returns-3)
+    tie.close (tie.spec (λ c κs. search needs) (λ c. search needs) (λ c. search needs) returns returns-2 returns-3)

@@ -5,7 +5,6 @@ use Rattle.job_record.proofs.settings.draws_number.Tie as tie
 use mathlib.Core.Path.{_≡_, sym, ap, _∙_}
 use Prim.Native.Nat.{_≤_, _*_}
 use native.Mathlib.Omega.{arith}
-use native.Mathlib.Nat.{mul-le-mul}
 use borrow.Author.Tests.{lt-ltb, le-ltb, eq-eqb, ne-eqb}
 use Rattle.laws.proofs.Following.{answers, moves-on, answers-if, moves-on-if, answers-last}
 use Rattle.job_record.specs.Number.{drawsNumbers}
@@ -17,9 +16,6 @@ returns : tie.Need-returns
 unfolding drawsNumbers
 returns c = answers-if _ _ _ (lt-ltb _ _ (c .if1 .taken))
 
-bounded-requires : tie.Need-bounded-requires
-bounded-requires c κs = search needs
-
 returns-2 : tie.Need-returns-2
 unfolding drawsNumbers
 returns-2 c = moves-on-if _ _ _ (le-ltb _ _ (c .before .before .if1 .left)) (answers _ _ (c .before .bounded .ensures) (c .if2 .taken))
@@ -27,15 +23,9 @@ returns-2 c = moves-on-if _ _ _ (le-ltb _ _ (c .before .before .if1 .left)) (ans
 u16-at-requires : tie.Need-u16-at-requires
 u16-at-requires c κs = let a = c .before .before .before .before .args in bounded-passed (a .job .now) (a .at) 2 1000 18 (sym (c .before .bounded .ensures) ∙ c .if2 .left) .0
 
-cast-count : tie.Need-cast-count
-cast-count c = search needs
-
 returns-3 : tie.Need-returns-3
 unfolding drawsNumbers
 returns-3 c = moves-on-if _ _ _ (le-ltb _ _ (c .before .before .before .before .if1 .left)) (moves-on _ _ (c .before .before .before .bounded .ensures) (c .before .before .if2 .left) (answers-if _ _ _ (eq-eqb _ _ (sym (c .before .u16-at .ensures) ∙ c .if3 .taken))))
-
-add-end : tie.Need-add-end
-add-end c = search needs
 
 mul-end : tie.Need-mul-end
 mul-end c = let a = c .before .before .before .before .before .before .args in let h : c .before .u16-at .result * a .rank ≤ 1000 * 32 = area _ _ 1000 32 (omega (arith, bounded-passed (a .job .now) (a .at) 2 1000 18 (sym (c .before .before .before .bounded .ensures) ∙ c .before .before .if2 .left))) (omega arith) in omega arith
@@ -63,12 +53,12 @@ draws-number-spec =
     tie.close
     (tie.spec
     returns
-    bounded-requires
+    (λ c κs. search needs)
     returns-2
     u16-at-requires
-    cast-count
+    (λ c. search needs)
     returns-3
-    add-end
+    (λ c. search needs)
     mul-end
     mul-end-2
     add-end-2

@@ -1,4 +1,3 @@
-use borrow.Author.Needs.{needs}
 use Rattle.job_record.proofs.settings.is_momentum.Statement.{statement}
 use Rattle.job_record.proofs.settings.is_momentum.Tie as tie
 

@@ -3,32 +3,13 @@ use borrow.Author.Needs.{needs}
 use Rattle.job_record.proofs.settings.momentum_number.Statement.{statement}
 use Rattle.job_record.proofs.settings.momentum_number.Tie as tie
 use mathlib.Core.Path.{sym, ap, _∙_}
-use native.Mathlib.Omega.{arith}
 use borrow.Author.Tests.{lt-ltb, le-ltb, eq-eqb, ne-eqb}
 use Rattle.laws.specs.Refusal.{first, orElse}
 use Rattle.job_record.specs.Number.{momentumNumber}
 
-add-if1 : tie.Need-add-if1
-add-if1 c = search needs
-
 returns : tie.Need-returns
 unfolding momentumNumber first orElse
 returns c = simp (lt-ltb _ _ (c .if1 .taken))
-
-add-u8-at : tie.Need-add-u8-at
-add-u8-at c = search needs
-
-u8-at-requires : tie.Need-u8-at-requires
-u8-at-requires c κs = search needs
-
-add-f64-at : tie.Need-add-f64-at
-add-f64-at c = search needs
-
-f64-at-requires : tie.Need-f64-at-requires
-f64-at-requires c κs = search needs
-
-is-momentum-requires : tie.Need-is-momentum-requires
-is-momentum-requires c κs = search needs
 
 returns-2 : tie.Need-returns-2
 unfolding momentumNumber first orElse
@@ -46,13 +27,13 @@ pub momentum-number-spec : {M : Type 1} → statement M
 momentum-number-spec =
     tie.close
     (tie.spec
-    add-if1
+    (λ c. search needs)
     returns
-    add-u8-at
-    u8-at-requires
-    add-f64-at
-    f64-at-requires
-    is-momentum-requires
+    (λ c. search needs)
+    (λ c κs. search needs)
+    (λ c. search needs)
+    (λ c κs. search needs)
+    (λ c κs. search needs)
     returns-2
     returns-3
     returns-4)

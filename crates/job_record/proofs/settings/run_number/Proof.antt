@@ -10,45 +10,24 @@ use Rattle.job_record.specs.Number.{runNumbers, settingsNumbers, drawsNu
 use Rattle.job_record.specs.Fields.{rankOf, drawsAfter}
 use Rattle.job_record.proofs.Sections.{settings}
 
-settings-number-requires : tie.Need-settings-number-requires
-settings-number-requires c κs = search needs
-
 returns : tie.Need-returns
 unfolding runNumbers
 returns c = let a = c .before .before .before .args in stop _ _ (c .before .settings-number .ensures) (c .if1 .taken) ∙ sym (first-append (settingsNumbers (a .job .now) (a .at)) (drawsNumbers (a .job .now) (drawsAfter (a .job .now) (a .n) (a .at)) (rankOf (a .job .now) (a .n) (a .at))))
 
-add-rank-meant : tie.Need-add-rank-meant
-add-rank-meant c = search needs
-
 u8-at-requires : tie.Need-u8-at-requires
 u8-at-requires c κs = let a = c .before .before .before .args in omega (arith, settings (a .job .now) (a .at) (sym (c .before .settings-number .ensures) ∙ c .if1 .left) .there)
-
-cast-rank-meant : tie.Need-cast-rank-meant
-cast-rank-meant c = search needs
 
 rank-meant-requires : tie.Need-rank-meant-requires
 rank-meant-requires c κs = let a = c .before .before .before .before .args in (λ _. omega arith, omega (arith, c .u8-at .ensures, settings (a .job .now) (a .at) (sym (c .before .before .settings-number .ensures) ∙ c .before .if1 .left) .rank))
 
-add-u8-at : tie.Need-add-u8-at
-add-u8-at c = search needs
-
 u8-at-requires-2 : tie.Need-u8-at-requires-2
 u8-at-requires-2 c κs = let a = c .before .before .before .before .before .args in omega (arith, settings (a .job .now) (a .at) (sym (c .before .before .before .settings-number .ensures) ∙ c .before .before .if1 .left) .there)
-
-add-start-count : tie.Need-add-start-count
-add-start-count c = search needs
-
-add-u32-at : tie.Need-add-u32-at
-add-u32-at c = search needs
 
 u32-at-requires : tie.Need-u32-at-requires
 u32-at-requires c κs = let a = c .before .before .before .before .before .before .args in omega (arith, settings (a .job .now) (a .at) (sym (c .before .before .before .before .settings-number .ensures) ∙ c .before .before .before .if1 .left) .there)
 
 start-count-requires : tie.Need-start-count-requires
 start-count-requires c κs = omega (arith, c .before .before .rank-meant .ensures)
-
-add-draws-number : tie.Need-add-draws-number
-add-draws-number c = search needs
 
 mul-draws-number : tie.Need-mul-draws-number
 mul-draws-number c = omega (arith, c .start-count .ensures)
@@ -69,19 +48,19 @@ pub run-number-spec : {M : Type 1} → statement M
 run-number-spec =
     tie.close
     (tie.spec
-    settings-number-requires
+    (λ c κs. search needs)
     returns
-    add-rank-meant
+    (λ c. search needs)
     u8-at-requires
-    cast-rank-meant
+    (λ c. search needs)
     rank-meant-requires
-    add-u8-at
+    (λ c. search needs)
     u8-at-requires-2
-    add-start-count
-    add-u32-at
+    (λ c. search needs)
+    (λ c. search needs)
     u32-at-requires
     start-count-requires
-    add-draws-number
+    (λ c. search needs)
     mul-draws-number
     add-draws-number-2
     draws-number-requires

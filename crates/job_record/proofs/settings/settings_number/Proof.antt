@@ -10,59 +10,29 @@ use Rattle.job_record.specs.Number.{settingsNumbers}
 use Rattle.job_record.proofs.Bounded.{bounded-passed}
 use Prim.Native.Nat.{_+_}
 
-bounded-requires : tie.Need-bounded-requires
-bounded-requires c κs = search needs
-
 returns : tie.Need-returns
 unfolding settingsNumbers
 returns c = answers _ _ (c .before .bounded .ensures) (c .if1 .taken)
-
-add-bounded : tie.Need-add-bounded
-add-bounded c = search needs
-
-bounded-requires-2 : tie.Need-bounded-requires-2
-bounded-requires-2 c κs = search needs
 
 returns-2 : tie.Need-returns-2
 unfolding settingsNumbers
 returns-2 c = moves-on _ _ (c .before .before .before .bounded .ensures) (c .before .before .if1 .left) (answers _ _ (c .before .bounded2 .ensures) (c .if2 .taken))
 
-momentum-number-requires : tie.Need-momentum-number-requires
-momentum-number-requires c κs = search needs
-
 returns-3 : tie.Need-returns-3
 unfolding settingsNumbers
 returns-3 c = moves-on _ _ (c .before .before .before .before .before .bounded .ensures) (c .before .before .before .before .if1 .left) (moves-on _ _ (c .before .before .before .bounded2 .ensures) (c .before .before .if2 .left) (answers _ _ (c .before .momentum-number .ensures) (c .if3 .taken)))
-
-add-if4 : tie.Need-add-if4
-add-if4 c = search needs
 
 returns-4 : tie.Need-returns-4
 unfolding settingsNumbers
 returns-4 c = moves-on _ _ (c .before .before .before .before .before .before .bounded .ensures) (c .before .before .before .before .before .if1 .left) (moves-on _ _ (c .before .before .before .before .bounded2 .ensures) (c .before .before .before .if2 .left) (moves-on _ _ (c .before .before .momentum-number .ensures) (c .before .if3 .left) (answers-if _ _ _ (lt-ltb _ _ (c .if4 .taken)))))
 
-add-bounded-2 : tie.Need-add-bounded-2
-add-bounded-2 c = search needs
-
-bounded-requires-3 : tie.Need-bounded-requires-3
-bounded-requires-3 c κs = search needs
-
 returns-5 : tie.Need-returns-5
 unfolding settingsNumbers
 returns-5 c = moves-on _ _ (c .before .before .before .before .before .before .before .before .bounded .ensures) (c .before .before .before .before .before .before .before .if1 .left) (moves-on _ _ (c .before .before .before .before .before .before .bounded2 .ensures) (c .before .before .before .before .before .if2 .left) (moves-on _ _ (c .before .before .before .before .momentum-number .ensures) (c .before .before .before .if3 .left) (moves-on-if _ _ _ (le-ltb _ _ (c .before .before .if4 .left)) (answers _ _ (c .before .bounded3 .ensures) (c .if5 .taken)))))
 
-add-bounded-3 : tie.Need-add-bounded-3
-add-bounded-3 c = search needs
-
-bounded-requires-4 : tie.Need-bounded-requires-4
-bounded-requires-4 c κs = search needs
-
 returns-6 : tie.Need-returns-6
 unfolding settingsNumbers
 returns-6 c = moves-on _ _ (c .before .before .before .before .before .before .before .before .before .before .bounded .ensures) (c .before .before .before .before .before .before .before .before .before .if1 .left) (moves-on _ _ (c .before .before .before .before .before .before .before .before .bounded2 .ensures) (c .before .before .before .before .before .before .before .if2 .left) (moves-on _ _ (c .before .before .before .before .before .before .momentum-number .ensures) (c .before .before .before .before .before .if3 .left) (moves-on-if _ _ _ (le-ltb _ _ (c .before .before .before .before .if4 .left)) (moves-on _ _ (c .before .before .before .bounded3 .ensures) (c .before .before .if5 .left) (answers _ _ (c .before .bounded4 .ensures) (c .if6 .taken))))))
-
-add-u8-at : tie.Need-add-u8-at
-add-u8-at c = search needs
 
 u8-at-requires : tie.Need-u8-at-requires
 u8-at-requires c κs = let a = c .before .before .before .before .before .before .before .before .before .before .before .before .args in omega (arith, bounded-passed (a .job .now) (a .at + 35) 1 2 18 (sym (c .before .bounded4 .ensures) ∙ c .if6 .left))
@@ -86,22 +56,22 @@ pub settings-number-spec : {M : Type 1} → statement M
 settings-number-spec =
     tie.close
     (tie.spec
-    bounded-requires
+    (λ c κs. search needs)
     returns
-    add-bounded
-    bounded-requires-2
+    (λ c. search needs)
+    (λ c κs. search needs)
     returns-2
-    momentum-number-requires
+    (λ c κs. search needs)
     returns-3
-    add-if4
+    (λ c. search needs)
     returns-4
-    add-bounded-2
-    bounded-requires-3
+    (λ c. search needs)
+    (λ c κs. search needs)
     returns-5
-    add-bounded-3
-    bounded-requires-4
+    (λ c. search needs)
+    (λ c κs. search needs)
     returns-6
-    add-u8-at
+    (λ c. search needs)
     u8-at-requires
     u8-at-requires-2
     returns-7

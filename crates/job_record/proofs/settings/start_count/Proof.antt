@@ -1,9 +1,7 @@
-use borrow.Author.Needs.{needs}
 use Rattle.job_record.proofs.settings.start_count.Statement.{statement}
 use Rattle.job_record.proofs.settings.start_count.Tie as tie
 use Prim.Native.Nat.{_≤_, _*_}
 use native.Mathlib.Omega.{arith}
-use native.Mathlib.Nat.{mul-le-mul}
 use borrow.Author.Tests.{lt-ltb, le-ltb}
 use Rattle.job_record.specs.Fields.{startCount}
 use Rattle.job_record.proofs.Ranks.{area}

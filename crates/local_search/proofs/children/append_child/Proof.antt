@@ -24,20 +24,11 @@ use Rattle.local_search.proofs.level.insert_row.Reads as insert-row-rea
 changed : (c : tie.After-d) → let a = c .before .before .before .args in toZ w64 (ofZ w64 (getD (now (a .changes)) (a .i) (pos 0))) ≡ getD (now (a .changes)) (a .i) (pos 0)
 changed c = toZ-ofZ (sfits-of (c .d .given))
 
-mul-d : tie.Need-mul-d
-mul-d c = search needs
-
-shared-slice-copy-out-d : tie.Need-shared-slice-copy-out-d
-shared-slice-copy-out-d c = search needs
-
 add-insert-objective : tie.Need-add-insert-objective
 add-insert-objective c =
     let d = c .before .before in
     let s = d .before .before .before in
     rw (toZ-ofZ (s .fits .objective), changed d) (s .pre .0 .safe (s .args .i) (s .pre .1) (rw (changed d) at (c .before .if1 .taken)))
-
-insert-objective-requires : tie.Need-insert-objective-requires
-insert-objective-requires c κs = search needs
 
 insert-row-requires : tie.Need-insert-row-requires
 insert-row-requires c κs =
@@ -45,15 +36,6 @@ insert-row-requires c κs =
     let m = length (now (s .args .start)) in
     let h : suc (s .args .count) ≤ m = omega arith in
     (omega arith, omega (arith, mul-le-mul-right m h, s .pre .0 .signs-room), s .pre .1)
-
-add-result : tie.Need-add-result
-add-result c = search needs
-
-same-length : tie.Need-same-length
-same-length c = search needs
-
-same-length-2 : tie.Need-same-length-2
-same-length-2 c = search needs
 
 returns : tie.Need-returns
 unfolding flipC childOf
@@ -86,13 +68,13 @@ pub append-child-spec : {M : Type 1} → statement M
 append-child-spec =
     tie.close
     (tie.spec
-    mul-d
-    shared-slice-copy-out-d
+    (λ c. search needs)
+    (λ c. search needs)
     add-insert-objective
-    insert-objective-requires
+    (λ c κs. search needs)
     insert-row-requires
-    add-result
-    same-length
-    same-length-2
+    (λ c. search needs)
+    (λ c. search needs)
+    (λ c. search needs)
     returns
     returns-2)

@@ -18,26 +18,11 @@ use Rattle.local_search.proofs.level.insert_child.Reads as insert-child
 changed : (c : tie.After-d) → let a = c .before .before .before .args in toZ w64 (ofZ w64 (getD (now (a .changes)) (a .i) (pos 0))) ≡ getD (now (a .changes)) (a .i) (pos 0)
 changed c = toZ-ofZ (sfits-of (c .d .given))
 
-mul-d : tie.Need-mul-d
-mul-d c = search needs
-
-shared-slice-copy-out-d : tie.Need-shared-slice-copy-out-d
-shared-slice-copy-out-d c = search needs
-
 add-insert-child : tie.Need-add-insert-child
 add-insert-child c =
     let d = c .before .before .before in
     let s = d .before .before .before in
     rw (toZ-ofZ (s .fits .objective), changed d) (s .pre .0 .safe (s .args .i) (s .pre .1) (rw (changed d) at (c .before .before .if1 .taken)))
-
-insert-child-requires : tie.Need-insert-child-requires
-insert-child-requires c κs = search needs
-
-same-length : tie.Need-same-length
-same-length c = search needs
-
-same-length-2 : tie.Need-same-length-2
-same-length-2 c = search needs
 
 returns : tie.Need-returns
 returns c =
@@ -60,11 +45,11 @@ pub consider-child-spec : {M : Type 1} → statement M
 consider-child-spec =
     tie.close
     (tie.spec
-    mul-d
-    shared-slice-copy-out-d
+    (λ c. search needs)
+    (λ c. search needs)
     add-insert-child
-    insert-child-requires
-    same-length
-    same-length-2
+    (λ c κs. search needs)
+    (λ c. search needs)
+    (λ c. search needs)
     returns
     returns-2)

@@ -7,12 +7,6 @@ use Rattle.local_search.proofs.least.keep_better.Reads as reads
 use Rattle.local_search.proofs.least.keep_better.Lts as lts
 use Rattle.local_search.proofs.rows.copy_row.Reads as copy-row-reads
 
-copy-row-requires : tie.Need-copy-row-requires
-copy-row-requires c κs = search needs
-
-same-length : tie.Need-same-length
-same-length c = search needs
-
 returns : tie.Need-returns
 unfolding below
 returns c =
@@ -28,4 +22,4 @@ returns-2 c =
     rw (toZ-ofZ (s .fits .least), higher)
 
 pub keep-better-spec : {M : Type 1} → statement M
-keep-better-spec = tie.close (tie.spec copy-row-requires same-length returns returns-2)
+keep-better-spec = tie.close (tie.spec (λ c κs. search needs) (λ c. search needs) returns returns-2)

@@ -46,18 +46,6 @@ mul-at c = omega (arith, room c)
 add-end : tie.Need-add-end Inv-loop μ-loop
 add-end c = omega (arith, room c)
 
-mul-objective : tie.Need-mul-objective Inv-loop μ-loop
-mul-objective c = omega arith
-
-shared-slice-copy-out-objective : tie.Need-shared-slice-copy-out-objective Inv-loop μ-loop
-shared-slice-copy-out-objective c = omega arith
-
-sub-keep-better : tie.Need-sub-keep-better Inv-loop μ-loop
-sub-keep-better c = omega arith
-
-part-keep-better-start : tie.Need-part-keep-better-start Inv-loop μ-loop
-part-keep-better-start c = omega arith
-
 part-keep-better-end : tie.Need-part-keep-better-end Inv-loop μ-loop
 part-keep-better-end c = room (c .before .before)
 
@@ -67,12 +55,6 @@ keep-better-requires c κs =
     let l = i .before .loop in
     let a = i .before .before .before .before .args in
     l .inv .1 ∙ sym (part-long (length (now (a .kept))) (now (a .objectives)) (now (a .signs)) (l .k) (room i))
-
-add-k : tie.Need-add-k Inv-loop μ-loop
-add-k c = omega arith
-
-loop-less : tie.Need-loop-less Inv-loop μ-loop
-loop-less c = omega arith
 
 loop-again : tie.Need-loop-again Inv-loop μ-loop
 loop-again c =
@@ -108,14 +90,14 @@ keep-least-spec =
     loop-holds
     mul-at
     add-end
-    mul-objective
-    shared-slice-copy-out-objective
-    sub-keep-better
-    part-keep-better-start
+    (λ c. omega arith)
+    (λ c. omega arith)
+    (λ c. omega arith)
+    (λ c. omega arith)
     part-keep-better-end
     keep-better-requires
-    add-k
-    loop-less
+    (λ c. omega arith)
+    (λ c. omega arith)
     loop-again
     same-length
     returns)

@@ -20,18 +20,6 @@ abbrev μ-loop : tie.MeasureT-loop
 loop-holds : tie.Need-loop-holds Inv-loop μ-loop
 loop-holds c = (omega arith, refl, refl)
 
-shared-slice-read-row : tie.Need-shared-slice-read-row Inv-loop μ-loop
-shared-slice-read-row c = omega arith
-
-slice-write-row : tie.Need-slice-write-row Inv-loop μ-loop
-slice-write-row c = omega arith
-
-add-k : tie.Need-add-k Inv-loop μ-loop
-add-k c = omega arith
-
-loop-less : tie.Need-loop-less Inv-loop μ-loop
-loop-less c = omega arith
-
 loop-again : tie.Need-loop-again Inv-loop μ-loop
 loop-again c =
     let a = c .before .before .before .args in
@@ -54,10 +42,10 @@ copy-row-spec =
     Inv-loop
     μ-loop
     loop-holds
-    shared-slice-read-row
-    slice-write-row
-    add-k
-    loop-less
+    (λ c. omega arith)
+    (λ c. omega arith)
+    (λ c. omega arith)
+    (λ c. omega arith)
     loop-again
     same-length
     returns)

@@ -26,9 +26,6 @@ long c =
 loop-holds : tie.Need-loop-holds Inv-loop μ-loop
 loop-holds c = (c .pre .0, omega arith, shifted-none (c .args .m) (c .args .to) (now (c .args .signs)))
 
-sub-j : tie.Need-sub-j Inv-loop μ-loop
-sub-j c = omega arith
-
 slice-read-signs : tie.Need-slice-read-signs Inv-loop μ-loop
 slice-read-signs c = omega (arith, long (c .before .before))
 
@@ -37,9 +34,6 @@ add-signs c = omega (arith, long (c .before .before))
 
 slice-write-signs : tie.Need-slice-write-signs Inv-loop μ-loop
 slice-write-signs c = omega (arith, long (c .before .before))
-
-loop-less : tie.Need-loop-less Inv-loop μ-loop
-loop-less c = omega arith
 
 loop-again : tie.Need-loop-again Inv-loop μ-loop
 loop-again c =
@@ -63,11 +57,11 @@ shift-signs-spec =
     Inv-loop
     μ-loop
     loop-holds
-    sub-j
+    (λ c. omega arith)
     slice-read-signs
     add-signs
     slice-write-signs
-    loop-less
+    (λ c. omega arith)
     loop-again
     same-length
     returns)

@@ -21,17 +21,8 @@ array-borrow-prefix-factor c = omega (arith, sizes (c .before .before .before .b
 slice-aggregate-finish-run : tie.Need-slice-aggregate-finish-run
 slice-aggregate-finish-run c = sym (length-take-le _ _ (omega (arith, sizes (c .before .before .before .before .before .before .before .before .before .before .pre .0) (c .before .before .job-rank .result) (c .before .before .job-rank .ensures .0) .1)))
 
-slice-aggregate-finish-run-2 : tie.Need-slice-aggregate-finish-run-2
-slice-aggregate-finish-run-2 c = search needs
-
 finish-run-requires : tie.Need-finish-run-requires
 finish-run-requires c κs = let z = sizes (c .before .before .before .before .before .before .before .before .before .before .before .before .before .pre .0) (c .before .before .before .before .before .job-rank .result) (c .before .before .before .before .before .job-rank .ensures .0) in (c .before .before .before .before .before .before .before .before .before .before .before .before .before .pre .0, c .before .before .before .before .before .before .before .before .before .before .before .before .before .pre .1, length-take-le _ _ (omega (arith, z .1)) ∙ z .2, c .before .before .before .before .before .before .before .before .before .before .before .before .before .pre .2, omega arith, c .before .before .before .before .before .before .before .before .before .before .before .before .before .pre .3)
-
-same-length : tie.Need-same-length
-same-length c = search needs
-
-same-length-2 : tie.Need-same-length-2
-same-length-2 c = search needs
 
 returns : tie.Need-returns
 returns c = c .before .before .before .before .before .before .finish-run .ensures
@@ -45,8 +36,8 @@ finish-job-spec =
     mul-used
     array-borrow-prefix-factor
     slice-aggregate-finish-run
-    slice-aggregate-finish-run-2
+    (λ c. search needs)
     finish-run-requires
-    same-length
-    same-length-2
+    (λ c. search needs)
+    (λ c. search needs)
     returns)

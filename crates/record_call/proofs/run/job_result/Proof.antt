@@ -7,24 +7,6 @@ use lib.Seq.{length-take-le}
 use Rattle.job_record.specs.declared.job.Job.{Job}
 use Rattle.record_call.proofs.Decoding.{fronts-fit, decoded, draws-read}
 
-slice-aggregate-read-job : tie.Need-slice-aggregate-read-job
-slice-aggregate-read-job c = search needs
-
-slice-aggregate-read-job-2 : tie.Need-slice-aggregate-read-job-2
-slice-aggregate-read-job-2 c = search needs
-
-slice-aggregate-read-job-3 : tie.Need-slice-aggregate-read-job-3
-slice-aggregate-read-job-3 c = search needs
-
-slice-aggregate-read-job-4 : tie.Need-slice-aggregate-read-job-4
-slice-aggregate-read-job-4 c = search needs
-
-slice-aggregate-read-job-5 : tie.Need-slice-aggregate-read-job-5
-slice-aggregate-read-job-5 c = search needs
-
-slice-aggregate-read-job-6 : tie.Need-slice-aggregate-read-job-6
-slice-aggregate-read-job-6 c = search needs
-
 read-job-requires : tie.Need-read-job-requires
 read-job-requires c κs = (c .before .before .before .before .before .before .before .before .before .pre .0, omega arith, omega arith, omega arith, omega arith, omega arith, omega arith)
 
@@ -78,12 +60,6 @@ finish-job-requires c κs = (
   c .before .before .before .before .before .before .before .before .before .before .before .before .before .before .before .before .before .before .before .before .before .before .before .before .before .before .pre .2,
 )
 
-same-length : tie.Need-same-length
-same-length c = search needs
-
-same-length-2 : tie.Need-same-length-2
-same-length-2 c = search needs
-
 returns : tie.Need-returns
 returns c = c .before .before .before .before .finish-job .ensures
 
@@ -91,12 +67,12 @@ pub job-result-spec : {M : Type 1} → statement M
 job-result-spec =
     tie.close
     (tie.spec
-    slice-aggregate-read-job
-    slice-aggregate-read-job-2
-    slice-aggregate-read-job-3
-    slice-aggregate-read-job-4
-    slice-aggregate-read-job-5
-    slice-aggregate-read-job-6
+    (λ c. search needs)
+    (λ c. search needs)
+    (λ c. search needs)
+    (λ c. search needs)
+    (λ c. search needs)
+    (λ c. search needs)
     read-job-requires
     job-start-count-requires
     drawn-numbers-requires
@@ -113,6 +89,6 @@ job-result-spec =
     array-share-prefix-draws
     slice-aggregate-finish-job-6
     finish-job-requires
-    same-length
-    same-length-2
+    (λ c. search needs)
+    (λ c. search needs)
     returns)

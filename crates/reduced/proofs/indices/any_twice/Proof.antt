@@ -24,15 +24,6 @@ loop-holds : tie.Need-loop-holds Inv-loop μ-loop
 unfolding upTo
 loop-holds c = (search needs, any-start _, refl)
 
-mul-wide : tie.Need-mul-wide Inv-loop μ-loop
-mul-wide c = search needs
-
-shared-slice-read-wide : tie.Need-shared-slice-read-wide Inv-loop μ-loop
-shared-slice-read-wide c = search needs
-
-wide-requires : tie.Need-wide-requires Inv-loop μ-loop
-wide-requires c κs = search needs
-
 array-read-if1 : tie.Need-array-read-if1 Inv-loop μ-loop
 array-read-if1 c = index-low (now (c .before .before .before .before .before .args .variable-map)) (c .before .before .before .before .before .pre) _ (c .before .before .loop-test .taken) (c .before .before .before .loop .inv .2) (c .wide .ensures)
 
@@ -41,12 +32,6 @@ returns c = marked (now (c .before .before .before .before .before .before .args
 
 array-write-seen : tie.Need-array-write-seen Inv-loop μ-loop
 array-write-seen c = index-low (now (c .before .before .before .before .before .before .args .variable-map)) (c .before .before .before .before .before .before .pre) _ (c .before .before .before .loop-test .taken) (c .before .before .before .before .loop .inv .2) (c .before .wide .ensures)
-
-add-j : tie.Need-add-j Inv-loop μ-loop
-add-j c = search needs
-
-loop-less : tie.Need-loop-less Inv-loop μ-loop
-loop-less c = search needs
 
 loop-again : tie.Need-loop-again Inv-loop μ-loop
 loop-again c = (search needs, unmarked-next (now (c .before .before .before .before .before .before .args .variable-map)) (c .before .before .before .before .before .before .pre) _ (c .before .before .before .loop-test .taken) (c .before .before .before .before .loop .inv .2) (c .before .wide .ensures) (c .if1 .left) (c .before .before .before .before .loop .inv .1), put-next _ _ _ _ (c .before .before .before .before .loop .inv .2) (c .before .wide .ensures) refl)
@@ -62,13 +47,13 @@ any-twice-spec =
     Inv-loop
     μ-loop
     loop-holds
-    mul-wide
-    shared-slice-read-wide
-    wide-requires
+    (λ c. search needs)
+    (λ c. search needs)
+    (λ c κs. search needs)
     array-read-if1
     returns
     array-write-seen
-    add-j
-    loop-less
+    (λ c. search needs)
+    (λ c. search needs)
     loop-again
     returns-2)

@@ -12,9 +12,6 @@ returns : tie.Need-returns
 unfolding indexRefused anyOf
 returns c = simp (lt-ltb _ _ (c .if1 .taken))
 
-any-outside-requires : tie.Need-any-outside-requires
-any-outside-requires c κs = search needs
-
 returns-2 : tie.Need-returns-2
 unfolding indexRefused anyOf
 returns-2 c = rw (le-ltb _ _ (c .before .before .if1 .left), sym (c .before .any-outside .ensures) ∙ c .if2 .taken)
@@ -25,9 +22,6 @@ any-twice-requires c κs = within-up (c .before .before .if1 .left) (outside-wit
 returns-3 : tie.Need-returns-3
 unfolding indexRefused anyOf
 returns-3 c = rw (le-ltb _ _ (c .before .before .before .before .if1 .left), sym (c .before .before .before .any-outside .ensures) ∙ c .before .before .if2 .left, sym (c .before .any-twice .ensures) ∙ c .if3 .taken)
-
-any-outside-requires-2 : tie.Need-any-outside-requires-2
-any-outside-requires-2 c κs = search needs
 
 returns-4 : tie.Need-returns-4
 unfolding indexRefused anyOf
@@ -42,10 +36,10 @@ index-refusal-spec =
     tie.close
     (tie.spec
     returns
-    any-outside-requires
+    (λ c κs. search needs)
     returns-2
     any-twice-requires
     returns-3
-    any-outside-requires-2
+    (λ c κs. search needs)
     returns-4
     returns-5)

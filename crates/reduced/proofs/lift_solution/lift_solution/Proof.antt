@@ -5,14 +5,8 @@ use Rattle.reduced.proofs.Lifting.{lifts-short, judged, lifts-index, li
 use denote.Ref.{now}
 use mathlib.Core.Path.{_∙_}
 
-lift-short-requires : tie.Need-lift-short-requires
-lift-short-requires c κs = search needs
-
 returns : tie.Need-returns
 returns c = lifts-short (c .before .lift-short .ensures) (c .if1 .taken)
-
-index-refusal-requires : tie.Need-index-refusal-requires
-index-refusal-requires c κs = search needs
 
 returns-2 : tie.Need-returns-2
 returns-2 c = lifts-index (judged (c .before .before .before .before .before .before .before .before .before .args .size) (now (c .before .before .before .before .before .before .before .before .before .args .variable-map)) (now (c .before .before .before .before .before .before .before .before .before .args .fixed-index)) (now (c .before .before .before .before .before .before .before .before .before .args .fixed-value)) (now (c .before .before .before .before .before .before .before .before .before .args .reduced-solution)) (now (c .before .before .before .before .before .before .before .before .before .args .lifted)) (c .before .before .before .lift-short .ensures) (c .before .before .if1 .left) (c .before .index-refusal .ensures)) (c .if2 .taken)
@@ -26,9 +20,6 @@ put-each-requires c κs = lift-fixed (judged (c .before .before .before .before 
 put-each-requires-2 : tie.Need-put-each-requires-2
 put-each-requires-2 c κs = lift-map (judged (c .before .before .before .before .before .before .before .before .before .before .before .before .before .before .before .before .before .before .args .size) (now (c .before .before .before .before .before .before .before .before .before .before .before .before .before .before .before .before .before .before .args .variable-map)) (now (c .before .before .before .before .before .before .before .before .before .before .before .before .before .before .before .before .before .before .args .fixed-index)) (now (c .before .before .before .before .before .before .before .before .before .before .before .before .before .before .before .before .before .before .args .fixed-value)) (now (c .before .before .before .before .before .before .before .before .before .before .before .before .before .before .before .before .before .before .args .reduced-solution)) (now (c .before .before .before .before .before .before .before .before .before .before .before .before .before .before .before .before .before .before .args .lifted)) (c .before .before .before .before .before .before .before .before .before .before .before .before .lift-short .ensures) (c .before .before .before .before .before .before .before .before .before .before .before .if1 .left) (c .before .before .before .before .before .before .before .before .before .before .index-refusal .ensures)) (c .before .before .before .before .before .before .before .before .before .if2 .left) (c .before .before .before .put-each .last .1 .1 .0) (c .before .before .before .put-each .kept .1 .1 .0 ∙ c .before .before .before .before .before .before .before .clear .kept .1 .0)
 
-same-length : tie.Need-same-length
-same-length c = search needs
-
 returns-3 : tie.Need-returns-3
 returns-3 c = lifts-done (judged (c .before .before .before .before .before .before .before .before .before .before .before .before .before .before .before .before .before .before .before .before .before .args .size) (now (c .before .before .before .before .before .before .before .before .before .before .before .before .before .before .before .before .before .before .before .before .before .args .variable-map)) (now (c .before .before .before .before .before .before .before .before .before .before .before .before .before .before .before .before .before .before .before .before .before .args .fixed-index)) (now (c .before .before .before .before .before .before .before .before .before .before .before .before .before .before .before .before .before .before .before .before .before .args .fixed-value)) (now (c .before .before .before .before .before .before .before .before .before .before .before .before .before .before .before .before .before .before .before .before .before .args .reduced-solution)) (now (c .before .before .before .before .before .before .before .before .before .before .before .before .before .before .before .before .before .before .before .before .before .args .lifted)) (c .before .before .before .before .before .before .before .before .before .before .before .before .before .before .before .lift-short .ensures) (c .before .before .before .before .before .before .before .before .before .before .before .before .before .before .if1 .left) (c .before .before .before .before .before .before .before .before .before .before .before .before .before .index-refusal .ensures)) (c .before .before .before .before .before .before .before .before .before .before .before .before .if2 .left) (c .before .before .before .before .before .before .before .before .before .before .clear .ensures) (c .before .before .before .before .before .before .put-each .ensures) (c .before .before .put-each2 .ensures)
 
@@ -36,12 +27,12 @@ pub lift-solution-spec : {M : Type 1} → statement M
 lift-solution-spec =
     tie.close
     (tie.spec
-    lift-short-requires
+    (λ c κs. search needs)
     returns
-    index-refusal-requires
+    (λ c κs. search needs)
     returns-2
     clear-requires
     put-each-requires
     put-each-requires-2
-    same-length
+    (λ c. search needs)
     returns-3)

@@ -21,38 +21,14 @@ loop-holds : tie.Need-loop-holds Inv-loop μ-loop
 unfolding upTo
 loop-holds c = (search needs, refl, refl)
 
-mul-wide : tie.Need-mul-wide Inv-loop μ-loop
-mul-wide c = search needs
-
-shared-slice-read-wide : tie.Need-shared-slice-read-wide Inv-loop μ-loop
-shared-slice-read-wide c = search needs
-
-wide-requires : tie.Need-wide-requires Inv-loop μ-loop
-wide-requires c κs = search needs
-
-mul-lifted : tie.Need-mul-lifted Inv-loop μ-loop
-mul-lifted c = search needs
-
-shared-slice-read-lifted : tie.Need-shared-slice-read-lifted Inv-loop μ-loop
-shared-slice-read-lifted c = search needs
-
 mul-lifted-2 : tie.Need-mul-lifted-2 Inv-loop μ-loop
 mul-lifted-2 c = record { fits = omega (arith, c .before .before .shared-slice-known3 .given (c .before .before .before .before .loop .j), c .before .wide .ensures) }
 
 slice-write-lifted : tie.Need-slice-write-lifted Inv-loop μ-loop
 slice-write-lifted c = omega (arith, c .before .before .before .before .before .before .before .before .pre .0 .below (c .before .before .before .before .loop .j) (c .before .before .before .loop-test .taken))
 
-add-j : tie.Need-add-j Inv-loop μ-loop
-add-j c = search needs
-
-loop-less : tie.Need-loop-less Inv-loop μ-loop
-loop-less c = search needs
-
 loop-again : tie.Need-loop-again Inv-loop μ-loop
 loop-again c = (search needs, search needs, put-next _ _ _ _ (c .before .before .before .before .loop .inv .2) (c .before .wide .ensures) refl)
-
-same-length : tie.Need-same-length Inv-loop μ-loop
-same-length c = search needs
 
 returns : tie.Need-returns Inv-loop μ-loop
 returns c = put-all _ _ _ _ _ (c .before .loop .inv .2) (c .before .loop .inv .0) (c .loop-test .left)
@@ -64,15 +40,15 @@ put-each-spec =
     Inv-loop
     μ-loop
     loop-holds
-    mul-wide
-    shared-slice-read-wide
-    wide-requires
-    mul-lifted
-    shared-slice-read-lifted
+    (λ c. search needs)
+    (λ c. search needs)
+    (λ c κs. search needs)
+    (λ c. search needs)
+    (λ c. search needs)
     mul-lifted-2
     slice-write-lifted
-    add-j
-    loop-less
+    (λ c. search needs)
+    (λ c. search needs)
     loop-again
-    same-length
+    (λ c. search needs)
     returns)

@@ -1,7 +1,6 @@
 use borrow.Author.Needs.{needs}
 use Prim.Native.Nat.{_≤_, _<_, _-_}
 use mathlib.Core.Path.{_≡_}
-use lib.ListN.{length}
 use Rattle.replay.proofs.typed.same_doubles.Statement.{statement}
 use Rattle.replay.proofs.typed.same_doubles.Tie as tie
 
@@ -11,57 +10,21 @@ Inv-loop numbers from count xs k₀ k = k ≤ count
 abbrev μ-loop : tie.MeasureT-loop
 μ-loop numbers from count xs k₀ k = count - k
 
-loop-holds : tie.Need-loop-holds Inv-loop μ-loop
-loop-holds c = search needs
-
-returns : tie.Need-returns Inv-loop μ-loop
-returns c = search needs
-
-add-word : tie.Need-add-word Inv-loop μ-loop
-add-word c = search needs
-
-word-requires : tie.Need-word-requires Inv-loop μ-loop
-word-requires c κs = search needs
-
-mul-same-double : tie.Need-mul-same-double Inv-loop μ-loop
-mul-same-double c = search needs
-
-shared-slice-read-same-double : tie.Need-shared-slice-read-same-double Inv-loop μ-loop
-shared-slice-read-same-double c = search needs
-
-same-double-requires : tie.Need-same-double-requires Inv-loop μ-loop
-same-double-requires c κs = search needs
-
-returns-2 : tie.Need-returns-2 Inv-loop μ-loop
-returns-2 c = search needs
-
-add-k : tie.Need-add-k Inv-loop μ-loop
-add-k c = search needs
-
-loop-less : tie.Need-loop-less Inv-loop μ-loop
-loop-less c = search needs
-
-loop-again : tie.Need-loop-again Inv-loop μ-loop
-loop-again c = search needs
-
-returns-3 : tie.Need-returns-3 Inv-loop μ-loop
-returns-3 c = search needs
-
 pub same-doubles-spec : {M : Type 1} → statement M
 same-doubles-spec =
     tie.close
     (tie.spec
     Inv-loop
     μ-loop
-    loop-holds
-    returns
-    add-word
-    word-requires
-    mul-same-double
-    shared-slice-read-same-double
-    same-double-requires
-    returns-2
-    add-k
-    loop-less
-    loop-again
-    returns-3)
+    (λ c. search needs)
+    (λ c. search needs)
+    (λ c. search needs)
+    (λ c κs. search needs)
+    (λ c. search needs)
+    (λ c. search needs)
+    (λ c κs. search needs)
+    (λ c. search needs)
+    (λ c. search needs)
+    (λ c. search needs)
+    (λ c. search needs)
+    (λ c. search needs))

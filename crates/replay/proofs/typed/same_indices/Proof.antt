@@ -1,6 +1,5 @@
 use Prim.Native.Nat.{_≤_, _<_, _-_, _+_, _*_}
 use mathlib.Core.Path.{_≡_}
-use lib.ListN.{length}
 use borrow.Author.Needs.{needs}
 use Rattle.replay.proofs.typed.same_indices.Statement.{statement}
 use Rattle.replay.proofs.typed.same_indices.Tie as tie
@@ -11,57 +10,21 @@ Inv-loop numbers from step count xs k₀ at₀ k at = (k ≤ count) × (at ≤ 6
 abbrev μ-loop : tie.MeasureT-loop
 μ-loop numbers from step count xs k₀ at₀ k at = count - k
 
-loop-holds : tie.Need-loop-holds Inv-loop μ-loop
-loop-holds c = search needs
-
-returns : tie.Need-returns Inv-loop μ-loop
-returns c = search needs
-
-word-requires : tie.Need-word-requires Inv-loop μ-loop
-word-requires c κs = search needs
-
-mul-wide : tie.Need-mul-wide Inv-loop μ-loop
-mul-wide c = search needs
-
-shared-slice-read-wide : tie.Need-shared-slice-read-wide Inv-loop μ-loop
-shared-slice-read-wide c = search needs
-
-wide-requires : tie.Need-wide-requires Inv-loop μ-loop
-wide-requires c κs = search needs
-
-returns-2 : tie.Need-returns-2 Inv-loop μ-loop
-returns-2 c = search needs
-
-add-at : tie.Need-add-at Inv-loop μ-loop
-add-at c = search needs
-
-add-k : tie.Need-add-k Inv-loop μ-loop
-add-k c = search needs
-
-loop-less : tie.Need-loop-less Inv-loop μ-loop
-loop-less c = search needs
-
-loop-again : tie.Need-loop-again Inv-loop μ-loop
-loop-again c = search needs
-
-returns-3 : tie.Need-returns-3 Inv-loop μ-loop
-returns-3 c = search needs
-
 pub same-indices-spec : {M : Type 1} → statement M
 same-indices-spec =
     tie.close
     (tie.spec
     Inv-loop
     μ-loop
-    loop-holds
-    returns
-    word-requires
-    mul-wide
-    shared-slice-read-wide
-    wide-requires
-    returns-2
-    add-at
-    add-k
-    loop-less
-    loop-again
-    returns-3)
+    (λ c. search needs)
+    (λ c. search needs)
+    (λ c κs. search needs)
+    (λ c. search needs)
+    (λ c. search needs)
+    (λ c κs. search needs)
+    (λ c. search needs)
+    (λ c. search needs)
+    (λ c. search needs)
+    (λ c. search needs)
+    (λ c. search needs)
+    (λ c. search needs))

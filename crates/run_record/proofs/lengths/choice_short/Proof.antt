@@ -15,12 +15,9 @@ returns-2 : tie.Need-returns-2
 unfolding choiceShort
 returns-2 c = let e = le-ltb _ _ (c .before .if1 .left) in sym (any-here _ _ (sym (tests _ _ _ e) ∙ lt-ltb _ _ (c .if2 .taken)))
 
-add-result : tie.Need-add-result
-add-result c = search needs
-
 returns-3 : tie.Need-returns-3
 unfolding choiceShort
 returns-3 c = let e = le-ltb _ _ (c .before .if1 .left) in tests _ _ _ e ∙ sym (any-skip _ _ (sym (tests _ _ _ e) ∙ le-ltb _ _ (c .if2 .left)) ∙ any-last _)
 
 pub choice-short-spec : {M : Type 1} → statement M
-choice-short-spec = tie.close (tie.spec returns returns-2 add-result returns-3)
+choice-short-spec = tie.close (tie.spec returns returns-2 (λ c. search needs) returns-3)

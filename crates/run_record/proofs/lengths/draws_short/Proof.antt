@@ -1,4 +1,3 @@
-use borrow.Author.Needs.{needs}
 use Rattle.run_record.proofs.lengths.draws_short.Statement.{statement}
 use Rattle.run_record.proofs.lengths.draws_short.Tie as tie
 use Prim.Native.Nat.{ℕ, _≤_, _<_}

@@ -21,9 +21,6 @@ returns : tie.Need-returns
 unfolding factorRefused
 returns c = untested _ _ _ _ (any-here _ _ (lt-ltb _ _ (c .if1 .taken)))
 
-add-if2 : tie.Need-add-if2
-add-if2 c = search needs
-
 returns-2 : tie.Need-returns-2
 unfolding factorRefused
 returns-2 c = untested _ _ _ _ (any-skip _ _ (le-ltb _ _ (c .before .if1 .left)) ∙ any-here _ _ (ap not (ne-eqb _ _ (c .if2 .taken))))
@@ -45,4 +42,4 @@ returns-5 c = simp (any-skip _ _ (le-ltb _ _ (c .before .before .before .if1 .le
 
 pub factor-short-spec : {M : Type 1} → statement M
 factor-short-spec =
-    tie.close (tie.spec returns add-if2 returns-2 returns-3 returns-4 mul-result returns-5)
+    tie.close (tie.spec returns (λ c. search needs) returns-2 returns-3 returns-4 mul-result returns-5)

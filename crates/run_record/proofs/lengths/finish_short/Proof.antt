@@ -5,29 +5,17 @@ use mathlib.Core.Path.{_≡_, sym, _∙_}
 use Rattle.laws.proofs.Any.{any-here, any-skip, any-last}
 use Rattle.run_record.specs.Numbers.{finishShort}
 
-table-short-requires : tie.Need-table-short-requires
-table-short-requires c κs = search needs
-
 returns : tie.Need-returns
 unfolding finishShort
 returns c = sym (any-here _ _ (sym (c .before .table-short .ensures) ∙ c .if1 .taken))
-
-draws-short-requires : tie.Need-draws-short-requires
-draws-short-requires c κs = search needs
 
 returns-2 : tie.Need-returns-2
 unfolding finishShort
 returns-2 c = sym (any-skip _ _ (sym (c .before .before .before .table-short .ensures) ∙ c .before .before .if1 .left) ∙ any-here _ _ (sym (c .before .draws-short .ensures) ∙ c .if2 .taken))
 
-factor-short-requires : tie.Need-factor-short-requires
-factor-short-requires c κs = search needs
-
 returns-3 : tie.Need-returns-3
 unfolding finishShort
 returns-3 c = sym (any-skip _ _ (sym (c .before .before .before .before .before .table-short .ensures) ∙ c .before .before .before .before .if1 .left) ∙ any-skip _ _ (sym (c .before .before .before .draws-short .ensures) ∙ c .before .before .if2 .left) ∙ any-here _ _ (sym (c .before .factor-short .ensures) ∙ c .if3 .taken))
-
-choice-short-requires : tie.Need-choice-short-requires
-choice-short-requires c κs = search needs
 
 returns-4 : tie.Need-returns-4
 unfolding finishShort
@@ -41,12 +29,12 @@ pub finish-short-spec : {M : Type 1} → statement M
 finish-short-spec =
     tie.close
     (tie.spec
-    table-short-requires
+    (λ c κs. search needs)
     returns
-    draws-short-requires
+    (λ c κs. search needs)
     returns-2
-    factor-short-requires
+    (λ c κs. search needs)
     returns-3
-    choice-short-requires
+    (λ c κs. search needs)
     returns-4
     returns-5)

@@ -15,21 +15,12 @@ returns : tie.Need-returns
 unfolding openFactorShort
 returns c = untested _ _ _ (any-here _ _ (lt-ltb _ _ (c .if1 .taken)))
 
-open-rank-refused-requires : tie.Need-open-rank-refused-requires
-open-rank-refused-requires c κs = search needs
-
 returns-2 : tie.Need-returns-2
 unfolding openFactorShort
 returns-2 c = untested _ _ _ (any-skip _ _ (le-ltb _ _ (c .before .before .if1 .left)) ∙ any-here _ _ (sym (c .before .open-rank-refused .ensures) ∙ c .if2 .taken))
 
-add-rank-meant : tie.Need-add-rank-meant
-add-rank-meant c = search needs
-
 rank-meant-requires : tie.Need-rank-meant-requires
 rank-meant-requires c κs = (λ _. omega arith, taken-low _ _ (sym (c .before .open-rank-refused .ensures) ∙ c .if2 .left))
-
-add-result : tie.Need-add-result
-add-result c = search needs
 
 mul-result : tie.Need-mul-result
 mul-result c = 
@@ -45,10 +36,10 @@ open-factor-short-spec =
     tie.close
     (tie.spec
     returns
-    open-rank-refused-requires
+    (λ c κs. search needs)
     returns-2
-    add-rank-meant
+    (λ c. search needs)
     rank-meant-requires
-    add-result
+    (λ c. search needs)
     mul-result
     returns-3)

@@ -1,4 +1,3 @@
-use borrow.Author.Needs.{needs}
 use Rattle.run_record.proofs.lengths.open_rank_refused.Statement.{statement}
 use Rattle.run_record.proofs.lengths.open_rank_refused.Tie as tie
 use borrow.Author.Tests.{eq-eqb, ne-eqb, lt-ltb, le-ltb}

@@ -5,22 +5,13 @@ use mathlib.Core.Path.{sym, _∙_}
 use Rattle.run_record.specs.Numbers.{openShort}
 use Rattle.laws.proofs.Any.{any-here, any-skip, any-last}
 
-table-short-requires : tie.Need-table-short-requires
-table-short-requires c κs = search needs
-
 returns : tie.Need-returns
 unfolding openShort
 returns c = sym (any-here _ _ (sym (c .before .table-short .ensures) ∙ c .if1 .taken))
 
-start-short-requires : tie.Need-start-short-requires
-start-short-requires c κs = search needs
-
 returns-2 : tie.Need-returns-2
 unfolding openShort
 returns-2 c = sym (any-skip _ _ (sym (c .before .before .before .table-short .ensures) ∙ c .before .before .if1 .left) ∙ any-here _ _ (sym (c .before .start-short .ensures) ∙ c .if2 .taken))
-
-open-factor-short-requires : tie.Need-open-factor-short-requires
-open-factor-short-requires c κs = search needs
 
 returns-3 : tie.Need-returns-3
 unfolding openShort
@@ -30,9 +21,9 @@ pub open-short-spec : {M : Type 1} → statement M
 open-short-spec =
     tie.close
     (tie.spec
-    table-short-requires
+    (λ c κs. search needs)
     returns
-    start-short-requires
+    (λ c κs. search needs)
     returns-2
-    open-factor-short-requires
+    (λ c κs. search needs)
     returns-3)

@@ -1,4 +1,3 @@
-use borrow.Author.Needs.{needs}
 use Rattle.run_record.proofs.lengths.start_length.Statement.{statement}
 use Rattle.run_record.proofs.lengths.start_length.Tie as tie
 use native.Mathlib.Omega.{arith}

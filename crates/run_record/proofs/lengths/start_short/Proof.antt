@@ -13,9 +13,6 @@ returns : tie.Need-returns
 unfolding startShort
 returns c = untested _ _ _ (any-here _ _ (lt-ltb _ _ (c .if1 .taken)))
 
-open-rank-refused-requires : tie.Need-open-rank-refused-requires
-open-rank-refused-requires c κs = search needs
-
 returns-2 : tie.Need-returns-2
 unfolding startShort
 returns-2 c = untested _ _ _ (any-skip _ _ (le-ltb _ _ (c .before .before .if1 .left)) ∙ any-here _ _ (sym (c .before .open-rank-refused .ensures) ∙ c .if2 .taken))
@@ -24,14 +21,8 @@ returns-3 : tie.Need-returns-3
 unfolding startShort
 returns-3 c = untested _ _ _ (any-skip _ _ (le-ltb _ _ (c .before .before .before .if1 .left)) ∙ any-skip _ _ (sym (c .before .before .open-rank-refused .ensures) ∙ c .before .if2 .left) ∙ any-here _ _ (lt-ltb _ _ (c .if3 .taken)))
 
-add-rank-meant : tie.Need-add-rank-meant
-add-rank-meant c = search needs
-
 rank-meant-requires : tie.Need-rank-meant-requires
 rank-meant-requires c κs = (λ _. omega arith, taken-low _ _ (sym (c .before .before .open-rank-refused .ensures) ∙ c .before .if2 .left))
-
-add-start-length : tie.Need-add-start-length
-add-start-length c = search needs
 
 start-length-requires : tie.Need-start-length-requires
 start-length-requires c κs = (omega arith, c .rank-meant .ensures .1)
@@ -45,11 +36,11 @@ start-short-spec =
     tie.close
     (tie.spec
     returns
-    open-rank-refused-requires
+    (λ c κs. search needs)
     returns-2
     returns-3
-    add-rank-meant
+    (λ c. search needs)
     rank-meant-requires
-    add-start-length
+    (λ c. search needs)
     start-length-requires
     returns-4)

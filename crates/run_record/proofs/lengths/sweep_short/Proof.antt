@@ -5,15 +5,9 @@ use mathlib.Core.Path.{_≡_, sym, _∙_}
 use Rattle.laws.proofs.Any.{any-here, any-skip, any-last}
 use Rattle.run_record.specs.Numbers.{sweepShort}
 
-table-short-requires : tie.Need-table-short-requires
-table-short-requires c κs = search needs
-
 returns : tie.Need-returns
 unfolding sweepShort
 returns c = sym (any-here _ _ (sym (c .before .table-short .ensures) ∙ c .if1 .taken))
-
-factor-short-requires : tie.Need-factor-short-requires
-factor-short-requires c κs = search needs
 
 returns-2 : tie.Need-returns-2
 unfolding sweepShort
@@ -21,4 +15,4 @@ returns-2 c = c .factor-short .ensures ∙ sym (any-skip _ _ (sym (c .before .be
 
 pub sweep-short-spec : {M : Type 1} → statement M
 sweep-short-spec =
-    tie.close (tie.spec table-short-requires returns factor-short-requires returns-2)
+    tie.close (tie.spec (λ c κs. search needs) returns (λ c κs. search needs) returns-2)

@@ -1,4 +1,3 @@
-use borrow.Author.Needs.{needs}
 use Rattle.run_record.proofs.numbers.bad_beta.Statement.{statement}
 use Rattle.run_record.proofs.numbers.bad_beta.Tie as tie
 

@@ -7,9 +7,6 @@ use Rattle.run_record.specs.Numbers.{openShort, openNumber}
 use Rattle.laws.proofs.Refusal.{first-here, first-skip, first-found, first-next, first-end}
 use Rattle.laws.proofs.Any.{any-head}
 
-open-short-requires : tie.Need-open-short-requires
-open-short-requires c κs = search needs
-
 returns : tie.Need-returns
 unfolding openNumber
 returns c = sym (first-here 30 _ _ (sym (c .before .open-short .ensures) ∙ c .if1 .taken))
@@ -24,15 +21,9 @@ returns-2 c =
     let e = c .before .table-number .ensures in
     e ∙ sym (first-skip 31 _ _ (sym (c .before .before .before .open-short .ensures) ∙ c .before .before .if1 .left) ∙ first-found _ _ (λ z. c .if2 .taken (e ∙ z)))
 
-open-rank-refused-requires : tie.Need-open-rank-refused-requires
-open-rank-refused-requires c κs = search needs
-
 returns-3 : tie.Need-returns-3
 unfolding openNumber
 returns-3 c = sym (first-skip 31 _ _ (sym (c .before .before .before .before .before .open-short .ensures) ∙ c .before .before .before .before .if1 .left) ∙ first-next _ _ (sym (c .before .before .before .table-number .ensures) ∙ c .before .before .if2 .left) ∙ first-here 16 _ _ (sym (c .before .open-rank-refused .ensures) ∙ c .if3 .taken))
-
-rule-refused-requires : tie.Need-rule-refused-requires
-rule-refused-requires c κs = search needs
 
 returns-4 : tie.Need-returns-4
 unfolding openNumber
@@ -50,13 +41,13 @@ pub open-number-spec : {M : Type 1} → statement M
 open-number-spec =
     tie.close
     (tie.spec
-    open-short-requires
+    (λ c κs. search needs)
     returns
     table-number-requires
     returns-2
-    open-rank-refused-requires
+    (λ c κs. search needs)
     returns-3
-    rule-refused-requires
+    (λ c κs. search needs)
     returns-4
     returns-5
     returns-6)

@@ -22,9 +22,6 @@ returns : tie.Need-returns
 unfolding recordRefused
 returns c = sym (any-here _ _ (size-off (c .before .args .run .size) (c .before .args .n) (λ e. omega (arith, c .if1 .taken, e))))
 
-sub-if2 : tie.Need-sub-if2
-sub-if2 c = search needs
-
 returns-2 : tie.Need-returns-2
 unfolding recordRefused
 returns-2 c = sym (any-here _ _ (size-off (c .before .before .args .run .size) (c .before .before .args .n) (λ e. c .if2 .taken (omega (arith, e)))))
@@ -41,9 +38,6 @@ returns-5 : tie.Need-returns-5
 unfolding recordRefused
 returns-5 c = sym (any-skip _ _ (size-on _ _ (c .before .before .before .before .before .before .before .if1 .left) (c .before .before .before .before .before .before .if2 .left)) ∙ any-skip _ _ (ne-eqb _ _ (c .before .before .before .before .if3 .left)) ∙ any-skip _ _ (le-ltb _ _ (c .before .before .if4 .left)) ∙ any-here _ _ (lt-ltb _ _ (c .if5 .taken)))
 
-open-and-requires : tie.Need-open-and-requires
-open-and-requires c κs = search needs
-
 returns-6 : tie.Need-returns-6
 unfolding recordRefused
 returns-6 c = sym (any-skip _ _ (size-on _ _ (c .before .before .before .before .before .before .before .before .before .before .if1 .left) (c .before .before .before .before .before .before .before .before .before .if2 .left)) ∙ any-skip _ _ (ne-eqb _ _ (c .before .before .before .before .before .before .before .if3 .left)) ∙ any-skip _ _ (le-ltb _ _ (c .before .before .before .before .before .if4 .left)) ∙ any-skip _ _ (le-ltb _ _ (c .before .before .before .if5 .left)) ∙ any-here _ _ (sym (c .before .open-and .ensures) ∙ c .if6 .taken))
@@ -51,9 +45,6 @@ returns-6 c = sym (any-skip _ _ (size-on _ _ (c .before .before .before .before 
 returns-7 : tie.Need-returns-7
 unfolding recordRefused
 returns-7 c = sym (any-skip _ _ (size-on _ _ (c .before .before .before .before .before .before .before .before .before .before .before .before .if1 .left) (c .before .before .before .before .before .before .before .before .before .before .before .if2 .left)) ∙ any-skip _ _ (ne-eqb _ _ (c .before .before .before .before .before .before .before .before .before .if3 .left)) ∙ any-skip _ _ (le-ltb _ _ (c .before .before .before .before .before .before .before .if4 .left)) ∙ any-skip _ _ (le-ltb _ _ (c .before .before .before .before .before .if5 .left)) ∙ any-skip _ _ (sym (c .before .before .before .open-and .ensures) ∙ c .before .before .if6 .left) ∙ any-here _ _ (lt-ltb _ _ (c .if7 .taken)))
-
-open-and-requires-2 : tie.Need-open-and-requires-2
-open-and-requires-2 c κs = search needs
 
 returns-8 : tie.Need-returns-8
 unfolding recordRefused
@@ -64,13 +55,13 @@ record-refused-spec =
     tie.close
     (tie.spec
     returns
-    sub-if2
+    (λ c. search needs)
     returns-2
     returns-3
     returns-4
     returns-5
-    open-and-requires
+    (λ c κs. search needs)
     returns-6
     returns-7
-    open-and-requires-2
+    (λ c κs. search needs)
     returns-8)

@@ -8,9 +8,6 @@ returns : tie.Need-returns
 unfolding ruleRefused
 returns c = simp (lt-ltb _ _ (c .if1 .taken))
 
-bad-beta-requires : tie.Need-bad-beta-requires
-bad-beta-requires c κs = search needs
-
 returns-2 : tie.Need-returns-2
 unfolding ruleRefused
 returns-2 c = simp (le-ltb _ _ (c .before .before .if1 .left), eq-eqb _ _ (c .before .if2 .taken)) (c .bad-beta .ensures)
@@ -20,4 +17,4 @@ unfolding ruleRefused
 returns-3 c = simp (le-ltb _ _ (c .before .if1 .left), ne-eqb _ _ (c .if2 .left))
 
 pub rule-refused-spec : {M : Type 1} → statement M
-rule-refused-spec = tie.close (tie.spec returns bad-beta-requires returns-2 returns-3)
+rule-refused-spec = tie.close (tie.spec returns (λ c κs. search needs) returns-2 returns-3)

@@ -8,12 +8,9 @@ returns : tie.Need-returns
 unfolding widthRefused
 returns c = simp (lt-ltb _ _ (c .if1 .taken))
 
-draws-refused-requires : tie.Need-draws-refused-requires
-draws-refused-requires c κs = search needs
-
 returns-2 : tie.Need-returns-2
 unfolding widthRefused
 returns-2 c = simp (le-ltb _ _ (c .before .if1 .left)) (c .draws-refused .ensures)
 
 pub width-refused-spec : {M : Type 1} → statement M
-width-refused-spec = tie.close (tie.spec returns draws-refused-requires returns-2)
+width-refused-spec = tie.close (tie.spec returns (λ c κs. search needs) returns-2)

@@ -1,4 +1,3 @@
-use borrow.Author.Needs.{needs}
 use Rattle.run_sweep.proofs.check.check_due.Statement.{statement}
 use Rattle.run_sweep.proofs.check.check_due.Tie as tie
 use mathlib.Core.Path.{sym, _∙_}

@@ -1,4 +1,3 @@
-use borrow.Author.Needs.{needs}
 use Rattle.run_sweep.proofs.check.magnitude.Statement.{statement}
 use Rattle.run_sweep.proofs.check.magnitude.Tie as tie
 

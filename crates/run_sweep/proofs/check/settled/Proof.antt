@@ -1,4 +1,3 @@
-use borrow.Author.Needs.{needs}
 use Rattle.run_sweep.proofs.check.settled.Statement.{statement}
 use Rattle.run_sweep.proofs.check.settled.Tie as tie
 use borrow.Author.Tests.{le-leb, lt-leb}

@@ -1,4 +1,3 @@
-use borrow.Author.Needs.{needs}
 use Rattle.run_sweep.proofs.check.status_after.Statement.{statement}
 use Rattle.run_sweep.proofs.check.status_after.Tie as tie
 use borrow.Author.Tests.{eq-eqb, ne-eqb}

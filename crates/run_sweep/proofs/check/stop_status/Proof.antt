@@ -17,9 +17,6 @@ returns : tie.Need-returns
 unfolding stopStatus
 returns c = sym (first-here 0 _ _ (c .if1 .taken))
 
-magnitude-requires : tie.Need-magnitude-requires
-magnitude-requires c κs = search needs
-
 returns-2 : tie.Need-returns-2
 unfolding stopStatus
 returns-2 c = sym (first-skip 1 _ _ (c .before .before .before .if1 .left) ∙ first-here 0 _ _ (and-of _ _ true true (c .before .before .if2 .taken) (ap (λ (x : Float). lt x (c .before .before .before .before .args .tolerance)) (sym (c .before .magnitude .ensures)) ∙ c .if3 .taken)))
@@ -38,4 +35,4 @@ returns-5 c = sym (first-skip 1 _ _ (c .before .if1 .left) ∙ first-skip 1 _ _ 
 
 pub stop-status-spec : {M : Type 1} → statement M
 stop-status-spec =
-    tie.close (tie.spec returns magnitude-requires returns-2 returns-3 returns-4 returns-5)
+    tie.close (tie.spec returns (λ c κs. search needs) returns-2 returns-3 returns-4 returns-5)

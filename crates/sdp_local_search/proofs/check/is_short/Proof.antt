@@ -1,4 +1,3 @@
-use borrow.Author.Needs.{needs}
 use Rattle.sdp_local_search.proofs.check.is_short.Statement.{statement}
 use Rattle.sdp_local_search.proofs.check.is_short.Tie as tie
 use Rattle.laws.specs.Refusal.{short}

@@ -9,9 +9,6 @@ use Rattle.laws.proofs.Refusal.{first-here, first-skip, first-found, first-next
 use Rattle.sdp_local_search.specs.BeamSearch.{searchRefusal}
 use Rattle.sdp_local_search.proofs.Numbers.{lent-table}
 
-slices-short-requires : tie.Need-slices-short-requires
-slices-short-requires c κs = search needs
-
 returns : tie.Need-returns
 unfolding searchRefusal
 returns c = sym (first-here 30 _ _ (sym (c .before .slices-short .ensures) ∙ c .if1 .taken))
@@ -34,4 +31,4 @@ returns-4 c = sym (first-skip 31 _ _ (sym (c .before .before .before .before .sl
 pub search-refusal-spec : {M : Type 1} → statement M
 search-refusal-spec =
     tie.close
-    (tie.spec slices-short-requires returns table-number-requires returns-2 returns-3 returns-4)
+    (tie.spec (λ c κs. search needs) returns table-number-requires returns-2 returns-3 returns-4)

@@ -6,49 +6,25 @@ use mathlib.Core.Path.{sym, _∙_}
 use Rattle.laws.proofs.Any.{any-here, any-skip, any-last}
 use Rattle.sdp_local_search.specs.BeamSearch.{searchShort}
 
-above-requires : tie.Need-above-requires
-above-requires c κs = search needs
-
-above-requires-2 : tie.Need-above-requires-2
-above-requires-2 c κs = search needs
-
-is-short-requires : tie.Need-is-short-requires
-is-short-requires c κs = search needs
-
 returns : tie.Need-returns
 unfolding searchShort
 returns c = sym (any-here _ _ (sym (rw (c .before .before .before .above .ensures) at (c .before .is-short .ensures)) ∙ c .if1 .taken))
-
-is-short-requires-2 : tie.Need-is-short-requires-2
-is-short-requires-2 c κs = search needs
 
 returns-2 : tie.Need-returns-2
 unfolding searchShort
 returns-2 c = sym (any-skip _ _ (sym (rw (c .before .before .before .before .before .above .ensures) at (c .before .before .before .is-short .ensures)) ∙ c .before .before .if1 .left) ∙ any-here _ _ (sym (rw (c .before .before .before .before .before .above .ensures) at (c .before .is-short2 .ensures)) ∙ c .if2 .taken))
 
-is-short-requires-3 : tie.Need-is-short-requires-3
-is-short-requires-3 c κs = search needs
-
 returns-3 : tie.Need-returns-3
 unfolding searchShort
 returns-3 c = sym (any-skip _ _ (sym (rw (c .before .before .before .before .before .before .before .above .ensures) at (c .before .before .before .before .before .is-short .ensures)) ∙ c .before .before .before .before .if1 .left) ∙ any-skip _ _ (sym (rw (c .before .before .before .before .before .before .before .above .ensures) at (c .before .before .before .is-short2 .ensures)) ∙ c .before .before .if2 .left) ∙ any-here _ _ (sym (rw (c .before .before .before .before .before .before .before .above .ensures) at (c .before .is-short3 .ensures)) ∙ c .if3 .taken))
-
-is-short-requires-4 : tie.Need-is-short-requires-4
-is-short-requires-4 c κs = search needs
 
 returns-4 : tie.Need-returns-4
 unfolding searchShort
 returns-4 c = sym (any-skip _ _ (sym (rw (c .before .before .before .before .before .before .before .before .before .above .ensures) at (c .before .before .before .before .before .before .before .is-short .ensures)) ∙ c .before .before .before .before .before .before .if1 .left) ∙ any-skip _ _ (sym (rw (c .before .before .before .before .before .before .before .before .before .above .ensures) at (c .before .before .before .before .before .is-short2 .ensures)) ∙ c .before .before .before .before .if2 .left) ∙ any-skip _ _ (sym (rw (c .before .before .before .before .before .before .before .before .before .above .ensures) at (c .before .before .before .is-short3 .ensures)) ∙ c .before .before .if3 .left) ∙ any-here _ _ (sym (rw (c .before .before .before .before .before .before .before .before .above2 .ensures) at (c .before .is-short4 .ensures)) ∙ c .if4 .taken))
 
-is-short-requires-5 : tie.Need-is-short-requires-5
-is-short-requires-5 c κs = search needs
-
 returns-5 : tie.Need-returns-5
 unfolding searchShort
 returns-5 c = sym (any-skip _ _ (sym (rw (c .before .before .before .before .before .before .before .before .before .before .before .above .ensures) at (c .before .before .before .before .before .before .before .before .before .is-short .ensures)) ∙ c .before .before .before .before .before .before .before .before .if1 .left) ∙ any-skip _ _ (sym (rw (c .before .before .before .before .before .before .before .before .before .before .before .above .ensures) at (c .before .before .before .before .before .before .before .is-short2 .ensures)) ∙ c .before .before .before .before .before .before .if2 .left) ∙ any-skip _ _ (sym (rw (c .before .before .before .before .before .before .before .before .before .before .before .above .ensures) at (c .before .before .before .before .before .is-short3 .ensures)) ∙ c .before .before .before .before .if3 .left) ∙ any-skip _ _ (sym (rw (c .before .before .before .before .before .before .before .before .before .before .above2 .ensures) at (c .before .before .before .is-short4 .ensures)) ∙ c .before .before .if4 .left) ∙ any-here _ _ (sym (rw (c .before .before .before .before .before .before .before .before .before .before .above2 .ensures) at (c .before .is-short5 .ensures)) ∙ c .if5 .taken))
-
-is-short-requires-6 : tie.Need-is-short-requires-6
-is-short-requires-6 c κs = search needs
 
 returns-6 : tie.Need-returns-6
 unfolding searchShort
@@ -58,17 +34,17 @@ pub slices-short-spec : {M : Type 1} → statement M
 slices-short-spec =
     tie.close
     (tie.spec
-    above-requires
-    above-requires-2
-    is-short-requires
+    (λ c κs. search needs)
+    (λ c κs. search needs)
+    (λ c κs. search needs)
     returns
-    is-short-requires-2
+    (λ c κs. search needs)
     returns-2
-    is-short-requires-3
+    (λ c κs. search needs)
     returns-3
-    is-short-requires-4
+    (λ c κs. search needs)
     returns-4
-    is-short-requires-5
+    (λ c κs. search needs)
     returns-5
-    is-short-requires-6
+    (λ c κs. search needs)
     returns-6)

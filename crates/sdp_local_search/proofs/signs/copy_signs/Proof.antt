@@ -24,21 +24,6 @@ loop-holds : tie.Need-loop-holds Inv-loop μ-loop
 unfolding tabulate
 loop-holds c = (omega arith, refl, refl)
 
-shared-slice-read-sign-byte : tie.Need-shared-slice-read-sign-byte Inv-loop μ-loop
-shared-slice-read-sign-byte c = omega arith
-
-sign-byte-requires : tie.Need-sign-byte-requires Inv-loop μ-loop
-sign-byte-requires c κs = search needs
-
-slice-write-kept : tie.Need-slice-write-kept Inv-loop μ-loop
-slice-write-kept c = omega arith
-
-add-i : tie.Need-add-i Inv-loop μ-loop
-add-i c = omega arith
-
-loop-less : tie.Need-loop-less Inv-loop μ-loop
-loop-less c = omega arith
-
 loop-again : tie.Need-loop-again Inv-loop μ-loop
 loop-again c =
     let a = c .before .before .before .before .before .before .args in
@@ -67,11 +52,11 @@ copy-signs-spec =
     Inv-loop
     μ-loop
     loop-holds
-    shared-slice-read-sign-byte
-    sign-byte-requires
-    slice-write-kept
-    add-i
-    loop-less
+    (λ c. omega arith)
+    (λ c κs. search needs)
+    (λ c. omega arith)
+    (λ c. omega arith)
+    (λ c. omega arith)
     loop-again
     same-length
     returns)

@@ -9,23 +9,8 @@ use Rattle.sdp_local_search.specs.BeamSearch.{signBytes}
 use Rattle.sign_search.proofs.ExpandLaws.{part-size}
 use Rattle.sdp_local_search.proofs.Calls.{found-into}
 
-sub-search-from : tie.Need-sub-search-from
-sub-search-from c = search needs
-
-part-search-from-start : tie.Need-part-search-from-start
-part-search-from-start c = search needs
-
-part-search-from-end : tie.Need-part-search-from-end
-part-search-from-end c = search needs
-
 search-from-requires : tie.Need-search-from-requires
 search-from-requires c κs = let e = part-size (c .before .before .before .before .before .before .before .args .m) (now (c .before .before .before .before .before .before .before .args .out)) (c .before .before .before .before .before .before .before .pre .4) in (rw e (c .before .before .before .before .before .before .before .pre .0), rw e (c .before .before .before .before .before .before .before .pre .1), c .before .before .before .before .before .before .before .pre .2, rw e (c .before .before .before .before .before .before .before .pre .3))
-
-same-length : tie.Need-same-length
-same-length c = search needs
-
-same-length-2 : tie.Need-same-length-2
-same-length-2 c = search needs
 
 returns : tie.Need-returns
 returns c =
@@ -39,10 +24,10 @@ pub search-accepted-spec : {M : Type 1} → statement M
 search-accepted-spec =
     tie.close
     (tie.spec
-    sub-search-from
-    part-search-from-start
-    part-search-from-end
+    (λ c. search needs)
+    (λ c. search needs)
+    (λ c. search needs)
     search-from-requires
-    same-length
-    same-length-2
+    (λ c. search needs)
+    (λ c. search needs)
     returns)

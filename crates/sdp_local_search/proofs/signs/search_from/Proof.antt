@@ -4,9 +4,6 @@ use Rattle.sdp_local_search.proofs.signs.search_from.Statement.{stateme
 use Rattle.sdp_local_search.proofs.signs.search_from.Tie as tie
 use mathlib.Core.Path.{_≡_, _∙_}
 
-copy-signs-requires : tie.Need-copy-signs-requires
-copy-signs-requires c κs = search needs
-
 search-signs-requires : tie.Need-search-signs-requires
 search-signs-requires c κs = let e = c .before .before .before .before .copy-signs .kept .1 .0 in (rw e (c .before .before .before .before .before .before .before .before .before .before .before .pre .0), rw e (c .before .before .before .before .before .before .before .before .before .before .before .pre .1), c .before .before .before .before .before .before .before .before .before .before .before .pre .2)
 
@@ -22,4 +19,4 @@ returns c = rw (c .before .before .before .before .before .before .before .befor
 pub search-from-spec : {M : Type 1} → statement M
 search-from-spec =
     tie.close
-    (tie.spec copy-signs-requires search-signs-requires same-length same-length-2 returns)
+    (tie.spec (λ c κs. search needs) search-signs-requires same-length same-length-2 returns)

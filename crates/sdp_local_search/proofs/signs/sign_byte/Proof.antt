@@ -10,11 +10,8 @@ minus : (x : ℕ) → (x ≡ 0 → ⊥) → 1 ≡ signByte x
 minus zero d = absurd (d refl)
 minus (suc x) d = refl
 
-returns : tie.Need-returns
-returns c = search needs
-
 returns-2 : tie.Need-returns-2
 returns-2 c = minus _ (c .if1 .left)
 
 pub sign-byte-spec : {M : Type 1} → statement M
-sign-byte-spec = tie.close (tie.spec returns returns-2)
+sign-byte-spec = tie.close (tie.spec (λ c. search needs) returns-2)

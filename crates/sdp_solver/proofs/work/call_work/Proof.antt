@@ -2,7 +2,6 @@
 use borrow.Author.Needs.{needs}
 use Prim.Native.Nat.{ℕ, suc, _+_, _≤_}
 use mathlib.Core.Path.{_≡_, sym, _∙_, ap}
-use native.Mathlib.Numerals.{add-one}
 use native.Mathlib.Omega.{arith}
 use denote.Ref.{now}
 use lib.ListN.{length}
@@ -11,7 +10,6 @@ use Rattle.laws.specs.Lists.{elemZ}
 use Rattle.tables.specs.Limits.{mostSignEntries}
 use Rattle.tables.specs.Table.{Table, tableOf}
 use Rattle.prepared_table.specs.Work.{workRows, workCols, workValues, workStarts}
-use Rattle.sign_table.specs.SignTable.{signTable}
 use Rattle.sign_table.proofs.Sizes.{hall-convertible}
 use Rattle.sign_table.proofs.Theorems.{house-sign-table}
 use Rattle.run_sweep.specs.Work.{workOf, callWork}

@@ -10,32 +10,8 @@ use Rattle.laws.proofs.Integer.{held}
 use Rattle.tables.specs.Table.{tableOf}
 use Rattle.tables.proofs.Shares.{value-small}
 
-mul-i : tie.Need-mul-i
-mul-i c = search needs
-
-shared-slice-read-i : tie.Need-shared-slice-read-i
-shared-slice-read-i c = search needs
-
-mul-j : tie.Need-mul-j
-mul-j c = search needs
-
-shared-slice-read-j : tie.Need-shared-slice-read-j
-shared-slice-read-j c = search needs
-
-mul-entry-change : tie.Need-mul-entry-change
-mul-entry-change c = search needs
-
-shared-slice-copy-out-entry-change : tie.Need-shared-slice-copy-out-entry-change
-shared-slice-copy-out-entry-change c = search needs
-
-wide-requires : tie.Need-wide-requires
-wide-requires c κs = search needs
-
 sign-at-requires : tie.Need-sign-at-requires
 sign-at-requires c κs = omega (arith, c .wide .ensures, c .before .before .before .before .before .before .before .pre .1 .in-range .rows-in (c .before .before .before .before .before .before .before .args .k) (c .before .before .before .before .before .before .before .pre .0))
-
-wide-requires-2 : tie.Need-wide-requires-2
-wide-requires-2 c κs = search needs
 
 sign-at-requires-2 : tie.Need-sign-at-requires-2
 sign-at-requires-2 c κs = omega (arith, c .wide2 .ensures, c .before .before .before .before .before .before .before .before .before .pre .1 .in-range .cols-in (c .before .before .before .before .before .before .before .before .before .args .k) (c .before .before .before .before .before .before .before .before .before .pre .0))
@@ -50,15 +26,15 @@ pub change-term-spec : {M : Type 1} → statement M
 change-term-spec =
     tie.close
     (tie.spec
-    mul-i
-    shared-slice-read-i
-    mul-j
-    shared-slice-read-j
-    mul-entry-change
-    shared-slice-copy-out-entry-change
-    wide-requires
+    (λ c. search needs)
+    (λ c. search needs)
+    (λ c. search needs)
+    (λ c. search needs)
+    (λ c. search needs)
+    (λ c. search needs)
+    (λ c κs. search needs)
     sign-at-requires
-    wide-requires-2
+    (λ c κs. search needs)
     sign-at-requires-2
     entry-change-requires
     returns)

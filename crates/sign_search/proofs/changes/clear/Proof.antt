@@ -7,7 +7,6 @@ use denote.Ref.{now}
 use lib.ListN.{length, length-set}
 use Rattle.sign_search.specs.Contracts.{Cleared}
 use Rattle.sign_search.proofs.ChangeLaws.{cleared-none, cleared-more}
-use borrow.Author.Needs.{needs}
 use Rattle.sign_search.proofs.changes.clear.Statement.{statement}
 use Rattle.sign_search.proofs.changes.clear.Tie as tie
 
@@ -19,18 +18,6 @@ abbrev μ-loop : tie.MeasureT-loop
 
 loop-holds : tie.Need-loop-holds Inv-loop μ-loop
 loop-holds c = (omega arith, refl, cleared-none (now (c .args .changes)))
-
-mul-changes : tie.Need-mul-changes Inv-loop μ-loop
-mul-changes c = omega arith
-
-slice-set-of-changes : tie.Need-slice-set-of-changes Inv-loop μ-loop
-slice-set-of-changes c = omega arith
-
-add-i : tie.Need-add-i Inv-loop μ-loop
-add-i c = omega arith
-
-loop-less : tie.Need-loop-less Inv-loop μ-loop
-loop-less c = omega arith
 
 loop-again : tie.Need-loop-again Inv-loop μ-loop
 loop-again c =
@@ -53,10 +40,10 @@ clear-spec =
     Inv-loop
     μ-loop
     loop-holds
-    mul-changes
-    slice-set-of-changes
-    add-i
-    loop-less
+    (λ c. omega arith)
+    (λ c. omega arith)
+    (λ c. omega arith)
+    (λ c. omega arith)
     loop-again
     same-length
     returns)

@@ -10,7 +10,6 @@ use Rattle.tables.specs.Table.{sign}
 use Rattle.laws.proofs.Integer.{held}
 use Rattle.tables.proofs.Shares.{times-fits}
 use Rattle.sign_search.proofs.ChangeLaws.{flip-diagonal, signed-small, off-diagonal}
-use borrow.Author.Needs.{needs}
 use Rattle.sign_search.proofs.changes.entry_change.Statement.{statement}
 use Rattle.sign_search.proofs.changes.entry_change.Tie as tie
 

@@ -9,7 +9,6 @@ use mir.Val.{SFits}
 use mir.Facts.{toZ-ofZ}
 use Rattle.laws.proofs.Integer.{abs-neg, fits-abs}
 use Rattle.sign_search.proofs.ChangeLaws.{plus, minus}
-use borrow.Author.Needs.{needs}
 use Rattle.sign_search.proofs.changes.signed.Statement.{statement}
 use Rattle.sign_search.proofs.changes.signed.Tie as tie
 

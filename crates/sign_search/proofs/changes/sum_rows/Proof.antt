@@ -2,7 +2,6 @@
 -- Assumes nothing.
 use Prim.Native.Nat.{ℕ, _+_, _-_, _≤_, _<_}
 use native.Mathlib.Omega.{arith}
-use borrow.Author.Needs.{sfits-of}
 use denote.Ref.{now}
 use Rattle.tables.specs.Table.{tableOf}
 use mathlib.Core.Path.{_≡_, refl, sym, ap, ap₂, _∙_, subst}
@@ -40,9 +39,6 @@ loop-holds c =
       refl,
       L.summed-none (tableOf (a .entries) (now (a .rows)) (now (a .cols)) (now (a .values))) (now (a .signs)) _ (now (a .changes)) (s .pre .1) (omega (arith, c .wide .ensures, s .pre .0 .in-range .rows-in 0 (s .pre .2))) (s .pre .3),
     )
-
-mul-wide : tie.Need-mul-wide Inv-loop μ-loop
-mul-wide c = omega arith
 
 shared-slice-read-wide-2 : tie.Need-shared-slice-read-wide-2 Inv-loop μ-loop
 shared-slice-read-wide-2 c = let s = c .before .before .before .before .before .before .before .before in omega (arith, s .pre .4 .rows-there)
@@ -84,12 +80,6 @@ add-held c =
     let t = c .before .before in
     subst (SFits w64) (sym (added c))
     (L.more-fits (tableOf (a .entries) (now (a .rows)) (now (a .cols)) (now (a .values))) (now (a .signs)) (l .k) (getD (now (a .rows)) (l .k) 0) (t .turn-row .result) (t .turn-row .last .0) (s .pre .0) (turned t) (omega arith) refl)
-
-add-k : tie.Need-add-k Inv-loop μ-loop
-add-k c = omega arith
-
-loop-less : tie.Need-loop-less Inv-loop μ-loop
-loop-less c = omega arith
 
 loop-again : tie.Need-loop-again Inv-loop μ-loop
 loop-again c =
@@ -150,14 +140,14 @@ sum-rows-spec =
     shared-slice-read-wide
     wide-requires
     loop-holds
-    mul-wide
+    (λ c. omega arith)
     shared-slice-read-wide-2
     wide-requires-2
     turn-row-requires
     change-term-requires
     add-held
-    add-k
-    loop-less
+    (λ c. omega arith)
+    (λ c. omega arith)
     loop-again
     mul-changes
     slice-copy-out-changes

@@ -1,6 +1,5 @@
 -- `turn_row` meets its contract, for the same row and for another.
 -- Assumes nothing.
-use native.Mathlib.Omega.{arith}
 use borrow.Author.Needs.{needs, sfits-of}
 use borrow.Author.Tests.{eq-eqb, ne-eqb}
 use denote.Ref.{now}
@@ -11,7 +10,6 @@ use mir.Syntax.{w64}
 use mir.Val.{SFits, toZ, ofZ}
 use mir.Facts.{toZ-ofZ}
 use Rattle.laws.proofs.Integer.{held as stays}
-use Rattle.sign_search.specs.Contracts.{RowTurned}
 use Rattle.sign_search.proofs.changes.turn_row.Statement.{statement}
 use Rattle.sign_search.proofs.changes.turn_row.Tie as tie
 
@@ -21,12 +19,6 @@ returns c = record {
   after-is = rw (eq-eqb _ _ (c .if1 .taken));
 }
 
-mul-changes : tie.Need-mul-changes
-mul-changes c = search needs
-
-slice-copy-out-changes : tie.Need-slice-copy-out-changes
-slice-copy-out-changes c = search needs
-
 added : (c : tie.After-changes) → let a = c .before .before .args in toZ w64 (ofZ w64 (getD (now (a .changes)) (a .row) (pos 0))) +ℤ toZ w64 (ofZ w64 (a .held)) ≡ getD (now (a .changes)) (a .row) (pos 0) +ℤ a .held
 added c =
     let a = c .before .before .args in
@@ -34,12 +26,6 @@ added c =
 
 add-changes : tie.Need-add-changes
 add-changes c = subst (SFits w64) (sym (added c)) (c .before .before .pre .1)
-
-slice-set-from-changes : tie.Need-slice-set-from-changes
-slice-set-from-changes c = search needs
-
-same-length : tie.Need-same-length
-same-length c = search needs
 
 returns-2 : tie.Need-returns-2
 returns-2 c =
@@ -54,9 +40,9 @@ turn-row-spec =
     tie.close
     (tie.spec
     returns
-    mul-changes
-    slice-copy-out-changes
+    (λ c. search needs)
+    (λ c. search needs)
     add-changes
-    slice-set-from-changes
-    same-length
+    (λ c. search needs)
+    (λ c. search needs)
     returns-2)

@@ -4,9 +4,7 @@ use Rattle.sign_search.proofs.levels.append_row.Statement.{statement}
 use Rattle.sign_search.proofs.levels.append_row.Tie as tie
 use mathlib.Core.Path.{_≡_, refl, sym, ap, _∙_, subst}
 use mathlib.Core.List.{List, []}
-use Prim.Native.Nat.{ℕ}
 use denote.Ref.{now}
-use lib.IntN.{ℤ}
 use lib.ListN.{length}
 use mir.Facts.{toZ-ofZ}
 use Rattle.tables.specs.Table.{tableOf}
@@ -24,15 +22,6 @@ first-level-requires c κs =
     rw (toZ-ofZ (c .before .before .before .before .before .before .before .before .before .before .fits .objective))
     (row-appends (tableOf (a .entries) (now (a .rows)) (now (a .cols)) (now (a .values))) (parentOf (a .objective) (now (a .start))) (k .last .1 .1 .1 .1 .1 .0) (k .ensures)
     (length (now (a .objectives))) (length (now (a .signs))) (rw (k .kept .1 .1 .1 .1 .1 .0) (c .before .before .before .before .before .before .before .before .before .before .pre .0)))
-
-same-length : tie.Need-same-length
-same-length c = search needs
-
-same-length-2 : tie.Need-same-length-2
-same-length-2 c = search needs
-
-same-length-3 : tie.Need-same-length-3
-same-length-3 c = search needs
 
 returns : tie.Need-returns
 returns c =
@@ -53,7 +42,7 @@ append-row-spec =
     (tie.spec
     changes-of-requires
     first-level-requires
-    same-length
-    same-length-2
-    same-length-3
+    (λ c. search needs)
+    (λ c. search needs)
+    (λ c. search needs)
     returns)

@@ -1,4 +1,3 @@
-use borrow.Author.Needs.{needs}
 use Rattle.sign_search.proofs.levels.expand_level.Statement.{statement}
 use Rattle.sign_search.proofs.levels.expand_level.Tie as tie
 use Prim.Native.Nat.{ℕ, suc, _+_, _*_, _-_, _≤_}
@@ -55,12 +54,6 @@ mul-objective c = omega (arith, c .before .before .before .before .before .befor
 shared-slice-copy-out-objective : tie.Need-shared-slice-copy-out-objective Inv-loop μ-loop
 shared-slice-copy-out-objective c = omega (arith, c .before .before .before .before .before .before .before .pre .0 .from-objectives-room)
 
-sub-expand-row : tie.Need-sub-expand-row Inv-loop μ-loop
-sub-expand-row c = omega arith
-
-part-expand-row-start : tie.Need-part-expand-row-start Inv-loop μ-loop
-part-expand-row-start c = omega arith
-
 part-expand-row-end : tie.Need-part-expand-row-end Inv-loop μ-loop
 part-expand-row-end c = row-room (c .before .before .before .before .before .before .before .before .args .m) (c .before .before .before .before .before .before .before .before .args .from-count) (c .before .before .loop .k) (length (now (c .before .before .before .before .before .before .before .before .args .from-signs))) (omega arith) (c .before .before .before .before .before .before .before .before .pre .0 .from-signs-room)
 
@@ -78,12 +71,6 @@ expand-row-requires c κs =
       kept-rising (a .width) (a .m) (l .kept) (l .objectives) (l .signs) [] _ (l .kept)
           (omega (arith, l .inv .2, l .inv .5 .room, c .before .before .before .before .before .before .before .before .before .before .before .before .before .pre .0 .objectives-room)) tt (l .inv .5),
     )
-
-add-k : tie.Need-add-k Inv-loop μ-loop
-add-k c = omega arith
-
-loop-less : tie.Need-loop-less Inv-loop μ-loop
-loop-less c = omega arith
 
 loop-again : tie.Need-loop-again Inv-loop μ-loop
 loop-again c =
@@ -138,12 +125,12 @@ expand-level-spec =
     add-end
     mul-objective
     shared-slice-copy-out-objective
-    sub-expand-row
-    part-expand-row-start
+    (λ c. omega arith)
+    (λ c. omega arith)
     part-expand-row-end
     expand-row-requires
-    add-k
-    loop-less
+    (λ c. omega arith)
+    (λ c. omega arith)
     loop-again
     same-length
     same-length-2

@@ -4,9 +4,7 @@ use Rattle.sign_search.proofs.levels.expand_row.Statement.{statement}
 use Rattle.sign_search.proofs.levels.expand_row.Tie as tie
 use mathlib.Core.Path.{_≡_, refl, sym, ap, _∙_, subst}
 use mathlib.Core.List.{List, []}
-use Prim.Native.Nat.{ℕ}
 use denote.Ref.{now}
-use lib.IntN.{ℤ}
 use lib.ListN.{length}
 use mir.Facts.{toZ-ofZ}
 use Rattle.tables.specs.Table.{tableOf}

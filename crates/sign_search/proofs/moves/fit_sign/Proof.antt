@@ -13,23 +13,11 @@ sign-at-requires c κs = omega (arith, c .before .before .before .before .before
 sign-at-requires-2 : tie.Need-sign-at-requires-2
 sign-at-requires-2 c κs = c .before .before .before .before .before .before .pre .1
 
-unlike-requires : tie.Need-unlike-requires
-unlike-requires c κs = search needs
-
 flip-current-requires : tie.Need-flip-current-requires
 flip-current-requires c κs = (rw (c .before .before .before .before .before .before .before .before .before .before .before .pre .2 .long) (c .before .before .before .before .before .before .before .before .before .before .before .pre .0), omega (arith, c .before .before .before .before .before .before .before .before .before .before .before .pre .1, c .before .before .before .before .before .before .before .before .before .before .before .pre .2 .long), c .before .before .before .before .before .before .before .before .before .before .before .pre .3, c .before .before .before .before .before .before .before .before .before .before .before .pre .4)
 
-same-length : tie.Need-same-length
-same-length c = search needs
-
-same-length-2 : tie.Need-same-length-2
-same-length-2 c = search needs
-
 returns : tie.Need-returns
 returns c = let a = c .before .before .before .before .before .before .before .before .before .before .before .before .before .before .before .args in (rw (c .before .before .before .flip-current .ensures .0) (agree-flipped (a .i) (now (a .current)) (now (a .target)) (omega (arith, c .before .before .before .before .before .before .before .before .before .before .before .before .before .before .before .pre .1, c .before .before .before .before .before .before .before .before .before .before .before .before .before .before .before .pre .2 .long)) (c .before .before .before .before .before .before .before .before .before .before .before .before .before .before .before .pre .2) (not-true _ (rw (c .before .before .before .before .before .before .before .before .before .sign-at .ensures, c .before .before .before .before .before .before .before .before .sign-at2 .ensures) at (sym (c .before .before .before .before .before .before .before .unlike .ensures) ∙ c .before .before .before .before .before .before .if1 .taken)))), c .before .before .before .flip-current .ensures .1)
-
-same-length-3 : tie.Need-same-length-3
-same-length-3 c = search needs
 
 returns-2 : tie.Need-returns-2
 returns-2 c = let a = c .before .before .before .before .before .before .before .before .before .args in (agree-more (a .i) (now (a .current)) (now (a .target)) (c .before .before .before .before .before .before .before .before .before .pre .2) (not-false _ (rw (c .before .before .before .sign-at .ensures, c .before .before .sign-at2 .ensures) at (sym (c .before .unlike .ensures) ∙ c .if1 .left))), c .before .before .before .before .before .before .before .before .before .pre .3)
@@ -40,10 +28,10 @@ fit-sign-spec =
     (tie.spec
     sign-at-requires
     sign-at-requires-2
-    unlike-requires
+    (λ c κs. search needs)
     flip-current-requires
-    same-length
-    same-length-2
+    (λ c. search needs)
+    (λ c. search needs)
     returns
-    same-length-3
+    (λ c. search needs)
     returns-2)

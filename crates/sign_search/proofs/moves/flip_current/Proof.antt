@@ -22,9 +22,6 @@ slice-copy-out-own c = omega (arith, c .before .before .before .pre .1, c .befor
 row-start-requires : tie.Need-row-start-requires
 row-start-requires c κs = (c .before .before .before .before .pre .3 .rows-there, c .before .before .before .before .pre .0 .climbs)
 
-add-row-start : tie.Need-add-row-start
-add-row-start c = search needs
-
 row-start-requires-2 : tie.Need-row-start-requires-2
 row-start-requires-2 c κs = (c .before .before .before .before .before .pre .3 .rows-there, c .before .before .before .before .before .pre .0 .climbs)
 
@@ -68,7 +65,7 @@ flip-current-spec =
     mul-own
     slice-copy-out-own
     row-start-requires
-    add-row-start
+    (λ c. search needs)
     row-start-requires-2
     turn-entries-requires
     sub-changes

@@ -1,4 +1,3 @@
-use borrow.Author.Needs.{needs}
 use Rattle.sign_search.proofs.moves.move_to.Statement.{statement}
 use Rattle.sign_search.proofs.moves.move_to.Tie as tie
 use Prim.Native.Nat.{ℕ, _≤_, _-_}
@@ -21,12 +20,6 @@ loop-holds c = (omega arith, refl, record { long = c .before .before .before .be
 
 fit-sign-requires : tie.Need-fit-sign-requires Inv-loop μ-loop
 fit-sign-requires c κs = (c .before .before .before .before .before .before .before .before .pre .0, omega arith, c .before .before .before .loop .inv .2, c .before .before .before .loop .inv .3, c .before .before .before .before .before .before .before .before .pre .3)
-
-add-i : tie.Need-add-i Inv-loop μ-loop
-add-i c = omega arith
-
-loop-less : tie.Need-loop-less Inv-loop μ-loop
-loop-less c = omega arith
 
 loop-again : tie.Need-loop-again Inv-loop μ-loop
 loop-again c = (omega arith, c .before .before .before .fit-sign .kept .1 .1 .1 .1 .1 .1 .0 ∙ c .before .before .before .before .before .before .before .loop .inv .1, c .before .before .before .fit-sign .ensures .0, c .before .before .before .fit-sign .ensures .1)
@@ -52,8 +45,8 @@ move-to-spec =
     μ-loop
     loop-holds
     fit-sign-requires
-    add-i
-    loop-less
+    (λ c. omega arith)
+    (λ c. omega arith)
     loop-again
     same-length
     same-length-2

@@ -15,32 +15,14 @@ abbrev μ-loop : tie.MeasureT-loop
 loop-holds : tie.Need-loop-holds Inv-loop μ-loop
 loop-holds c = (omega arith, omega arith, (λ j h. absurd (omega arith)), (λ j h l. absurd (omega arith)))
 
-sub-mid : tie.Need-sub-mid Inv-loop μ-loop
-sub-mid c = omega arith
-
-add-mid : tie.Need-add-mid Inv-loop μ-loop
-add-mid c = omega arith
-
 mul-wide : tie.Need-mul-wide Inv-loop μ-loop
 mul-wide c = omega (arith, c .before .before .before .pre .0)
 
 shared-slice-read-wide : tie.Need-shared-slice-read-wide Inv-loop μ-loop
 shared-slice-read-wide c = omega (arith, c .before .before .before .before .pre .0)
 
-wide-requires : tie.Need-wide-requires Inv-loop μ-loop
-wide-requires c κs = search needs
-
-add-low : tie.Need-add-low Inv-loop μ-loop
-add-low c = omega arith
-
-loop-less : tie.Need-loop-less Inv-loop μ-loop
-loop-less c = omega arith
-
 loop-again : tie.Need-loop-again Inv-loop μ-loop
 loop-again c = let inv = c .before .before .before .before .loop .inv in (omega arith, inv .1, rows-below (c .before .before .before .before .before .before .pre .1) (c .before .before .before .before .before .before .args .i) _ (omega arith) (omega (arith, c .before .wide .ensures)), inv .3)
-
-loop-less-2 : tie.Need-loop-less-2 Inv-loop μ-loop
-loop-less-2 c = omega arith
 
 loop-again-2 : tie.Need-loop-again-2 Inv-loop μ-loop
 loop-again-2 c = let inv = c .before .before .before .before .loop .inv in (omega arith, omega arith, inv .2, rows-above (c .before .before .before .before .before .before .pre .1) (c .before .before .before .before .before .before .args .i) _ (omega (arith, c .before .wide .ensures)))
@@ -55,14 +37,14 @@ row-start-spec =
     Inv-loop
     μ-loop
     loop-holds
-    sub-mid
-    add-mid
+    (λ c. omega arith)
+    (λ c. omega arith)
     mul-wide
     shared-slice-read-wide
-    wide-requires
-    add-low
-    loop-less
+    (λ c κs. search needs)
+    (λ c. omega arith)
+    (λ c. omega arith)
     loop-again
-    loop-less-2
+    (λ c. omega arith)
     loop-again-2
     returns)

@@ -69,9 +69,6 @@ mul-wide c = omega (arith, c .before .before .before .before .before .pre .1 .co
 shared-slice-read-wide : tie.Need-shared-slice-read-wide Inv-loop μ-loop
 shared-slice-read-wide c = omega (arith, c .before .before .before .before .before .before .pre .1 .cols-there, c .before .before .before .before .before .before .pre .0 .ends .inside)
 
-wide-requires : tie.Need-wide-requires Inv-loop μ-loop
-wide-requires c κs = search needs
-
 mul-turned-value : tie.Need-mul-turned-value Inv-loop μ-loop
 mul-turned-value c = omega (arith, c .before .before .before .before .before .before .before .pre .1 .values-there, c .before .before .before .before .before .before .before .pre .0 .ends .inside)
 
@@ -101,12 +98,6 @@ add-changes c = subst (SFits w64) (sym (added c)) (fits c)
 
 slice-set-from-changes : tie.Need-slice-set-from-changes Inv-loop μ-loop
 slice-set-from-changes c = let h : c .before .before .before .before .before .before .before .before .loop .k < c .before .before .before .before .before .before .before .before .before .before .before .before .args .entries = omega (arith, c .before .before .before .before .before .before .before .before .before .before .before .before .pre .0 .ends .inside) in omega (arith, c .before .before .before .before .before .wide .ensures, c .before .before .before .before .before .before .before .before .before .before .before .before .pre .0 .usable .in-range .cols-in (c .before .before .before .before .before .before .before .before .loop .k) h, c .before .before .before .before .before .before .before .before .loop .inv .2, c .before .before .before .before .before .before .before .before .before .before .before .before .pre .0 .changes-are .many)
-
-add-k : tie.Need-add-k Inv-loop μ-loop
-add-k c = omega arith
-
-loop-less : tie.Need-loop-less Inv-loop μ-loop
-loop-less c = omega arith
 
 loop-again : tie.Need-loop-again Inv-loop μ-loop
 loop-again c =
@@ -141,7 +132,7 @@ turn-entries-spec =
     loop-holds
     mul-wide
     shared-slice-read-wide
-    wide-requires
+    (λ c κs. search needs)
     mul-turned-value
     shared-slice-copy-out-turned-value
     sign-at-requires
@@ -151,8 +142,8 @@ turn-entries-spec =
     slice-copy-out-changes
     add-changes
     slice-set-from-changes
-    add-k
-    loop-less
+    (λ c. omega arith)
+    (λ c. omega arith)
     loop-again
     same-length
     returns)

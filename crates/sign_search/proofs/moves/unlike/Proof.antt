@@ -1,4 +1,3 @@
-use borrow.Author.Needs.{needs}
 use Rattle.sign_search.proofs.moves.unlike.Statement.{statement}
 use Rattle.sign_search.proofs.moves.unlike.Tie as tie
 use mathlib.Core.Path.{_≡_, refl, sym, ap, _∙_}

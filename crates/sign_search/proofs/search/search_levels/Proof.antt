@@ -1,4 +1,3 @@
-use borrow.Author.Needs.{needs}
 use Rattle.sign_search.proofs.search.search_levels.Statement.{statement}
 use Rattle.sign_search.proofs.search.search_levels.Tie as tie
 use Prim.Native.Nat.{ℕ, suc, _+_, _*_, _-_, _≤_, _<_}

@@ -10,24 +10,6 @@ use lib.ListN.{length}
 use mir.Facts.{toZ-ofZ}
 use Rattle.sign_search.proofs.ExpandLaws.{part-size}
 
-sub-search-levels : tie.Need-sub-search-levels
-sub-search-levels c = search needs
-
-part-search-levels-start : tie.Need-part-search-levels-start
-part-search-levels-start c = search needs
-
-part-search-levels-end : tie.Need-part-search-levels-end
-part-search-levels-end c = search needs
-
-slice-aggregate-search-levels : tie.Need-slice-aggregate-search-levels
-slice-aggregate-search-levels c = search needs
-
-slice-aggregate-search-levels-2 : tie.Need-slice-aggregate-search-levels-2
-slice-aggregate-search-levels-2 c = search needs
-
-slice-aggregate-search-levels-3 : tie.Need-slice-aggregate-search-levels-3
-slice-aggregate-search-levels-3 c = search needs
-
 search-levels-requires : tie.Need-search-levels-requires
 search-levels-requires c κs =
     let r = c .before .before .before .before .before .before .before .before .before .before .before .before .before .pre .0 in
@@ -51,18 +33,6 @@ search-levels-requires c κs =
       c .before .before .before .before .before .before .before .before .before .before .before .before .before .pre .6,
     )
 
-same-length : tie.Need-same-length
-same-length c = search needs
-
-same-length-2 : tie.Need-same-length-2
-same-length-2 c = search needs
-
-same-length-3 : tie.Need-same-length-3
-same-length-3 c = search needs
-
-same-length-4 : tie.Need-same-length-4
-same-length-4 c = search needs
-
 returns : tie.Need-returns
 returns c = rw (toZ-ofZ (c .before .before .before .before .before .before .before .before .before .before .before .before .before .before .before .before .before .before .before .before .before .before .before .before .before .fits .objective)) at (c .before .before .before .before .before .before .before .before .before .before .before .search-levels .ensures)
 
@@ -70,15 +40,15 @@ pub search-room-spec : {M : Type 1} → statement M
 search-room-spec =
     tie.close
     (tie.spec
-    sub-search-levels
-    part-search-levels-start
-    part-search-levels-end
-    slice-aggregate-search-levels
-    slice-aggregate-search-levels-2
-    slice-aggregate-search-levels-3
+    (λ c. search needs)
+    (λ c. search needs)
+    (λ c. search needs)
+    (λ c. search needs)
+    (λ c. search needs)
+    (λ c. search needs)
     search-levels-requires
-    same-length
-    same-length-2
-    same-length-3
-    same-length-4
+    (λ c. search needs)
+    (λ c. search needs)
+    (λ c. search needs)
+    (λ c. search needs)
     returns)

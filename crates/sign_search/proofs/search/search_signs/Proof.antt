@@ -20,19 +20,10 @@ started c = held _ (c .obj-rounded .ok) ∙ c .obj-rounded .ensures
 obj-rounded-requires : tie.Need-obj-rounded-requires
 obj-rounded-requires c κs = (c .before .before .before .before .before .pre .2, c .before .before .before .before .before .pre .1 .mirrors .in-range, c .before .before .before .before .before .pre .1 .small)
 
-same-length : tie.Need-same-length
-same-length c = search needs
-
 returns : tie.Need-returns
 returns c =
     let a = c .before .before .before .before .before .before .before .args in
     found-none (tableOf (a .entries) (now (a .rows)) (now (a .cols)) (now (a .values))) (a .width) (now (a .kept)) _ (c .if1 .taken) (started (c .before))
-
-slice-aggregate-search-room : tie.Need-slice-aggregate-search-room
-slice-aggregate-search-room c = search needs
-
-slice-aggregate-search-room-2 : tie.Need-slice-aggregate-search-room-2
-slice-aggregate-search-room-2 c = search needs
 
 search-room-requires : tie.Need-search-room-requires
 search-room-requires c κs =
@@ -56,10 +47,10 @@ search-signs-spec =
     tie.close
     (tie.spec
     obj-rounded-requires
-    same-length
+    (λ c. search needs)
     returns
-    slice-aggregate-search-room
-    slice-aggregate-search-room-2
+    (λ c. search needs)
+    (λ c. search needs)
     search-room-requires
     same-length-2
     same-length-3

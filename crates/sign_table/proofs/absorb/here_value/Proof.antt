@@ -9,12 +9,6 @@ use borrow.Author.Needs.{needs}
 use Rattle.sign_table.proofs.absorb.here_value.Statement.{statement}
 use Rattle.sign_table.proofs.absorb.here_value.Tie as tie
 
-stored-value-requires : tie.Need-stored-value-requires
-stored-value-requires c κs = search needs
-
-linear-value-requires : tie.Need-linear-value-requires
-linear-value-requires c κs = search needs
-
 add-result : tie.Need-add-result
 add-result c =
     let a = c .before .before .before .before .args in
@@ -29,4 +23,4 @@ returns c =
 
 pub here-value-spec : {M : Type 1} → statement M
 here-value-spec =
-    tie.close (tie.spec stored-value-requires linear-value-requires add-result returns)
+    tie.close (tie.spec (λ c κs. search needs) (λ c κs. search needs) add-result returns)

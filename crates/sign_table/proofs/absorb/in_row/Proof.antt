@@ -4,15 +4,6 @@ use borrow.Author.Needs.{needs}
 use Rattle.sign_table.proofs.absorb.in_row.Statement.{statement}
 use Rattle.sign_table.proofs.absorb.in_row.Tie as tie
 
-mul-wide : tie.Need-mul-wide
-mul-wide c = search needs
-
-shared-slice-read-wide : tie.Need-shared-slice-read-wide
-shared-slice-read-wide c = search needs
-
-wide-requires : tie.Need-wide-requires
-wide-requires c κs = search needs
-
 returns : tie.Need-returns
 returns c = simp (lt-ltb _ _ (c .before .before .if1 .taken), c .wide .ensures)
 
@@ -20,4 +11,4 @@ returns-2 : tie.Need-returns-2
 returns-2 c = simp (le-ltb _ _ (c .if1 .left))
 
 pub in-row-spec : {M : Type 1} → statement M
-in-row-spec = tie.close (tie.spec mul-wide shared-slice-read-wide wide-requires returns returns-2)
+in-row-spec = tie.close (tie.spec (λ c. search needs) (λ c. search needs) (λ c κs. search needs) returns returns-2)

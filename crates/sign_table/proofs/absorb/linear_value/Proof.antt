@@ -9,12 +9,6 @@ use borrow.Author.Needs.{needs}
 use Rattle.sign_table.proofs.absorb.linear_value.Statement.{statement}
 use Rattle.sign_table.proofs.absorb.linear_value.Tie as tie
 
-mul-result : tie.Need-mul-result
-mul-result c = search needs
-
-shared-slice-copy-out-result : tie.Need-shared-slice-copy-out-result
-shared-slice-copy-out-result c = search needs
-
 mul-result-2 : tie.Need-mul-result-2
 mul-result-2 c =
     let a = c .before .before .args in
@@ -30,4 +24,4 @@ returns-2 c = rw (ne-eqb _ _ (c .if1 .left))
 
 pub linear-value-spec : {M : Type 1} → statement M
 linear-value-spec =
-    tie.close (tie.spec mul-result shared-slice-copy-out-result mul-result-2 returns returns-2)
+    tie.close (tie.spec (λ c. search needs) (λ c. search needs) mul-result-2 returns returns-2)

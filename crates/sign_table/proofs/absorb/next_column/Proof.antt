@@ -9,18 +9,6 @@ use borrow.Author.Needs.{needs}
 use Rattle.sign_table.proofs.absorb.next_column.Statement.{statement}
 use Rattle.sign_table.proofs.absorb.next_column.Tie as tie
 
-stored-column-requires : tie.Need-stored-column-requires
-stored-column-requires c κs = search needs
-
-mul-vanishes : tie.Need-mul-vanishes
-mul-vanishes c = search needs
-
-shared-slice-copy-out-vanishes : tie.Need-shared-slice-copy-out-vanishes
-shared-slice-copy-out-vanishes c = search needs
-
-vanishes-requires : tie.Need-vanishes-requires
-vanishes-requires c κs = search needs
-
 returns : tie.Need-returns
 returns c =
     let a = c .before .before .before .before .before .before .args in
@@ -45,10 +33,10 @@ pub next-column-spec : {M : Type 1} → statement M
 next-column-spec =
     tie.close
     (tie.spec
-    stored-column-requires
-    mul-vanishes
-    shared-slice-copy-out-vanishes
-    vanishes-requires
+    (λ c κs. search needs)
+    (λ c. search needs)
+    (λ c. search needs)
+    (λ c κs. search needs)
     returns
     returns-2
     returns-3

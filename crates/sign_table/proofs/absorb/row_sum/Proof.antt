@@ -27,9 +27,6 @@ abbrev μ-loop : tie.MeasureT-loop
 loop-holds : tie.Need-loop-holds Inv-loop μ-loop
 loop-holds c = (c .before .pre .5, sym (c .before .pre .6))
 
-in-row-requires : tie.Need-in-row-requires Inv-loop μ-loop
-in-row-requires c κs = search needs
-
 mul-sum : tie.Need-mul-sum Inv-loop μ-loop
 mul-sum c =
     let a = c .before .before .before .before .args in
@@ -84,7 +81,7 @@ row-sum-spec =
     Inv-loop
     μ-loop
     loop-holds
-    in-row-requires
+    (λ c κs. search needs)
     mul-sum
     shared-slice-copy-out-sum
     add-sum

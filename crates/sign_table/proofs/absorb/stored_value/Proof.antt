@@ -5,15 +5,6 @@ use borrow.Author.Needs.{needs}
 use Rattle.sign_table.proofs.absorb.stored_value.Statement.{statement}
 use Rattle.sign_table.proofs.absorb.stored_value.Tie as tie
 
-is-here-requires : tie.Need-is-here-requires
-is-here-requires c κs = search needs
-
-mul-result : tie.Need-mul-result
-mul-result c = search needs
-
-shared-slice-copy-out-result : tie.Need-shared-slice-copy-out-result
-shared-slice-copy-out-result c = search needs
-
 returns : tie.Need-returns
 returns c = simp (← c .before .before .is-here .ensures, c .before .if2 .taken) (held _ (c .result .given))
 
@@ -26,4 +17,4 @@ returns-3 c = simp (le-ltb _ _ (c .if1 .left))
 pub stored-value-spec : {M : Type 1} → statement M
 stored-value-spec =
     tie.close
-    (tie.spec is-here-requires mul-result shared-slice-copy-out-result returns returns-2 returns-3)
+    (tie.spec (λ c κs. search needs) (λ c. search needs) (λ c. search needs) returns returns-2 returns-3)

@@ -1,6 +1,5 @@
 -- `sign_table::absorb::vanishes` meets its contract.
 use Rattle.sign_table.proofs.Cursor.{zero-bits}
-use borrow.Author.Needs.{needs}
 use Rattle.sign_table.proofs.absorb.vanishes.Statement.{statement}
 use Rattle.sign_table.proofs.absorb.vanishes.Tie as tie
 

@@ -5,7 +5,6 @@ use Rattle.sign_table.proofs.Bounds.{linear-small}
 use Rattle.tables.specs.Table.{tableOf}
 use Rattle.laws.specs.Lists.{elemZ}
 use lib.ListN.{length}
-use denote.Ref.{now}
 use native.Mathlib.Omega.{arith}
 use mathlib.Core.Path.{_≡_, refl, sym, _∙_}
 use Prim.Native.Nat.{suc, _-_}
@@ -35,27 +34,12 @@ put-negated-requires c κs =
 add-total : tie.Need-add-total Inv-loop μ-loop
 add-total c = last-fits (c .before .before .before .before .before .before .before .before .before .before .before .before .before .before .before .before .before .pre .2) (c .before .before .before .before .before .before .before .before .before .before .before .before .loop .inv .0) (c .before .before .before .before .before .before .before .before .before .before .before .loop-test .taken) (c .before .before .before .before .before .before .before .before .before .before .row-sum .ensures)
 
-add-i : tie.Need-add-i Inv-loop μ-loop
-add-i c = search needs
-
-loop-less : tie.Need-loop-less Inv-loop μ-loop
-loop-less c = search needs
-
 loop-again : tie.Need-loop-again Inv-loop μ-loop
 loop-again c =
     let p = c .before .before .before .before .before .before .before .before .before .before .before .before .before .before .before .before .before .pre in
     let back = sum-back (p .2) (c .before .before .before .before .before .before .before .before .before .before .before .loop-test .taken) (c .before .before .before .before .before .before .before .before .before .before .row-sum .ensures) in
     let edge = (rw back at (c .before .before .before .before .before .put-negated .ensures)) in
     (last-turn (p .2) (c .before .before .before .before .before .before .before .before .before .before .before .before .loop .inv .0) (c .before .before .before .before .before .before .before .before .before .before .before .loop-test .taken) (c .before .before .before .before .before .before .before .before .before .before .row-sum .ensures) (edge .0) (edge .1) refl, omega (arith, c .before .before .before .before .before .before .before .before .before .before .before .before .loop .inv .1), omega (arith, c .before .before .before .before .before .before .before .before .before .before .before .before .loop .inv .2), omega (arith, c .before .before .before .before .before .before .before .before .before .before .before .before .loop .inv .3))
-
-same-length : tie.Need-same-length Inv-loop μ-loop
-same-length c = search needs
-
-same-length-2 : tie.Need-same-length-2 Inv-loop μ-loop
-same-length-2 c = search needs
-
-same-length-3 : tie.Need-same-length-3 Inv-loop μ-loop
-same-length-3 c = search needs
 
 returns : tie.Need-returns Inv-loop μ-loop
 returns c = last-done (c .before .before .before .before .before .before .pre .2) (c .before .loop .inv .0) (c .loop-test .left)
@@ -70,10 +54,10 @@ put-last-row-spec =
     row-sum-requires
     put-negated-requires
     add-total
-    add-i
-    loop-less
+    (λ c. search needs)
+    (λ c. search needs)
     loop-again
-    same-length
-    same-length-2
-    same-length-3
+    (λ c. search needs)
+    (λ c. search needs)
+    (λ c. search needs)
     returns)

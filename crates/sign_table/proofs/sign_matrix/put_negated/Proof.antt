@@ -9,9 +9,6 @@ use borrow.Author.Needs.{needs}
 use Rattle.sign_table.proofs.sign_matrix.put_negated.Statement.{statement}
 use Rattle.sign_table.proofs.sign_matrix.put_negated.Tie as tie
 
-vanishes-requires : tie.Need-vanishes-requires
-vanishes-requires c κs = search needs
-
 returns : tie.Need-returns
 returns c = rw (sym (c .before .vanishes .ensures ∙ ap isZero (toZ-ofZ (c .before .before .before .before .fits .sum))) ∙ c .if1 .taken) (wrote-none, omega arith)
 
@@ -23,18 +20,6 @@ put-requires c κs =
     let p = c .before .before .before .before .before .before .before .pre in
     ((rw (sym (c .before .before .before .before .vanishes .ensures ∙ ap isZero (toZ-ofZ (c .before .before .before .before .before .before .before .fits .sum))) ∙ c .before .before .before .if1 .left) at (p .0)), p .1, p .2)
 
-add-result : tie.Need-add-result
-add-result c = search needs
-
-same-length : tie.Need-same-length
-same-length c = search needs
-
-same-length-2 : tie.Need-same-length-2
-same-length-2 c = search needs
-
-same-length-3 : tie.Need-same-length-3
-same-length-3 c = search needs
-
 returns-2 : tie.Need-returns-2
 returns-2 c = rw ((sym (c .before .before .before .before .before .before .before .before .before .before .vanishes .ensures ∙ ap isZero (toZ-ofZ (c .before .before .before .before .before .before .before .before .before .before .before .before .before .fits .sum))) ∙ c .before .before .before .before .before .before .before .before .before .if1 .left), ← negation-is (c .before .before .before .before .before .before .before .before .before .before .before .before .before .args .sum) (c .before .before .before .before .before .before .before .before .before .before .before .before .before .fits .sum) (c .before .before .before .before .before .before .before .before .before .before .before .before .before .pre .3)) (c .before .before .before .before .before .put .ensures, refl)
 
@@ -42,12 +27,12 @@ pub put-negated-spec : {M : Type 1} → statement M
 put-negated-spec =
     tie.close
     (tie.spec
-    vanishes-requires
+    (λ c κs. search needs)
     returns
     sub-put
     put-requires
-    add-result
-    same-length
-    same-length-2
-    same-length-3
+    (λ c. search needs)
+    (λ c. search needs)
+    (λ c. search needs)
+    (λ c. search needs)
     returns-2)

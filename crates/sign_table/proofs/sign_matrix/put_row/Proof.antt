@@ -5,7 +5,6 @@ use Rattle.tables.specs.Table.{tableOf}
 use Rattle.laws.proofs.Integer.{held}
 use Rattle.laws.specs.Lists.{elemZ}
 use lib.ListN.{length}
-use denote.Ref.{now}
 use native.Mathlib.Omega.{arith}
 use mathlib.Core.Path.{_≡_, refl, sym, _∙_}
 use Prim.Native.Nat.{_-_}
@@ -20,9 +19,6 @@ Inv-loop n count rows cols values c i start to-rows₀ to-cols₀ to-values₀ l
 
 abbrev μ-loop : tie.MeasureT-loop
 μ-loop n count rows cols values c i start to-rows₀ to-cols₀ to-values₀ len k₀ at₀ j₀ to-rows to-cols to-values k at j = n - j
-
-next-column-requires : tie.Need-next-column-requires Inv-loop μ-loop
-next-column-requires c κs = search needs
 
 loop-holds : tie.Need-loop-holds Inv-loop μ-loop
 loop-holds c =
@@ -44,12 +40,6 @@ add-at c =
     let p = c .before .before .before .before .before .before .before .before .before .before .before .before .before .before .before .before .before .pre in
     omega (arith, row-room (p .2) (p .3) (c .before .before .before .before .before .before .before .before .before .before .before .loop .inv .0) (c .before .before .before .before .before .before .before .before .before .before .loop-test .taken), p .5 .rows-room, c .before .before .before .before .before .before .before .before .before .before .before .before .before .before .before .before .before .good .1 .1 .1 .1 .1 .1 .1 .1 .0 .0)
 
-after-here-requires : tie.Need-after-here-requires Inv-loop μ-loop
-after-here-requires c κs = search needs
-
-add-next-column : tie.Need-add-next-column Inv-loop μ-loop
-add-next-column c = search needs
-
 next-column-requires-2 : tie.Need-next-column-requires-2 Inv-loop μ-loop
 next-column-requires-2 c κs =
     let p = c .before .before .before .before .before .before .before .before .before .before .before .before .before .before .before .before .before .before .pre in
@@ -65,15 +55,6 @@ loop-again c =
     let p = c .before .before .before .before .before .before .before .before .before .before .before .before .before .before .before .before .before .before .before .pre in
     let t = row-turn (p .2) (p .3) (c .before .before .before .before .before .before .before .before .before .before .before .before .before .loop .inv .0) (c .before .before .before .before .before .before .before .before .before .before .before .before .loop-test .taken) (held (c .before .before .before .before .before .before .before .before .before .before .before .here-value .result) (c .before .before .before .before .before .before .before .before .before .before .before .here-value .ok) ∙ c .before .before .before .before .before .before .before .before .before .before .before .here-value .ensures) (c .before .after-here .ensures) (c .next-column2 .ensures) (c .before .before .before .before .before .before .before .put .ensures) in (t .0, omega (arith, c .before .before .before .before .before .before .before .before .before .before .before .before .before .loop .inv .1), omega (arith, c .before .before .before .before .before .before .before .before .before .before .before .before .before .loop .inv .2), omega (arith, c .before .before .before .before .before .before .before .before .before .before .before .before .before .loop .inv .3))
 
-same-length : tie.Need-same-length Inv-loop μ-loop
-same-length c = search needs
-
-same-length-2 : tie.Need-same-length-2 Inv-loop μ-loop
-same-length-2 c = search needs
-
-same-length-3 : tie.Need-same-length-3 Inv-loop μ-loop
-same-length-3 c = search needs
-
 returns : tie.Need-returns Inv-loop μ-loop
 returns c =
     let p = c .before .before .before .before .before .before .before .pre in
@@ -85,17 +66,17 @@ put-row-spec =
     (tie.spec
     Inv-loop
     μ-loop
-    next-column-requires
+    (λ c κs. search needs)
     loop-holds
     here-value-requires
     put-requires
     add-at
-    after-here-requires
-    add-next-column
+    (λ c κs. search needs)
+    (λ c. search needs)
     next-column-requires-2
     loop-less
     loop-again
-    same-length
-    same-length-2
-    same-length-3
+    (λ c. search needs)
+    (λ c. search needs)
+    (λ c. search needs)
     returns)

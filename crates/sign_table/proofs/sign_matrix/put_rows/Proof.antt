@@ -26,25 +26,10 @@ put-whole-row-requires c κs =
     let p = c .before .before .before .before .before .before .before .before .before .pre in
     (p .0, p .1, p .2, c .before .before .before .loop-test .taken, (c .before .before .before .before .loop .inv .0) .cursor, room-on (p .3) (omega (arith, rows-room (a .n) (tableOf (a .count) (now (a .rows)) (now (a .cols)) (now (a .values))) (elemZ (now (a .c))) (c .before .before .before .before .loop .inv .0) (c .before .before .before .loop-test .taken))) (c .before .before .before .before .loop .inv .1) (c .before .before .before .before .loop .inv .2) (c .before .before .before .before .loop .inv .3))
 
-add-i : tie.Need-add-i Inv-loop μ-loop
-add-i c = search needs
-
-loop-less : tie.Need-loop-less Inv-loop μ-loop
-loop-less c = search needs
-
 loop-again : tie.Need-loop-again Inv-loop μ-loop
 loop-again c =
     let a = c .before .before .before .before .before .before .before .before .before .before .before .before .before .before .before .args in
     (rows-turn (a .n) (tableOf (a .count) (now (a .rows)) (now (a .cols)) (now (a .values))) (elemZ (now (a .c))) (c .before .before .before .before .before .before .before .before .before .before .loop .inv .0) (c .before .before .before .before .before .before .before .before .before .loop-test .taken) (c .before .before .before .before .before .put-whole-row .ensures .0) (c .before .before .before .before .before .put-whole-row .ensures .1) (c .before .before .before .before .before .put-whole-row .ensures .2), omega (arith, c .before .before .before .before .before .before .before .before .before .before .loop .inv .1), omega (arith, c .before .before .before .before .before .before .before .before .before .before .loop .inv .2), omega (arith, c .before .before .before .before .before .before .before .before .before .before .loop .inv .3))
-
-same-length : tie.Need-same-length Inv-loop μ-loop
-same-length c = search needs
-
-same-length-2 : tie.Need-same-length-2 Inv-loop μ-loop
-same-length-2 c = search needs
-
-same-length-3 : tie.Need-same-length-3 Inv-loop μ-loop
-same-length-3 c = search needs
 
 returns : tie.Need-returns Inv-loop μ-loop
 returns c =
@@ -59,10 +44,10 @@ put-rows-spec =
     μ-loop
     loop-holds
     put-whole-row-requires
-    add-i
-    loop-less
+    (λ c. search needs)
+    (λ c. search needs)
     loop-again
-    same-length
-    same-length-2
-    same-length-3
+    (λ c. search needs)
+    (λ c. search needs)
+    (λ c. search needs)
     returns)

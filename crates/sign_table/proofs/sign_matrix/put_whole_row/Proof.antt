@@ -6,7 +6,6 @@ use Rattle.sign_table.proofs.Cursor.{row-start}
 use Rattle.sign_table.proofs.Bounds.{linear-small}
 use Rattle.tables.specs.Table.{tableOf}
 use Rattle.sign_table.specs.SignTable.{keptOf}
-use Rattle.laws.proofs.Integer.{held}
 use Rattle.laws.specs.Lists.{elemZ}
 use lib.ListN.{length}
 use denote.Ref.{now}
@@ -33,15 +32,6 @@ put-negated-requires c κs =
     let p = c .before .before .before .before .before .before .before .before .before .before .before .before .before .before .before .before .before .before .pre in
     rw (sum-back (p .2) (p .3) (c .before .before .before .before .before .before .before .before .before .before .before .before .before .row-sum .ensures)) (room-on (p .5) (omega (arith, whole-many (p .2) (p .3) (c .before .before .before .before .before .before .before .before .before .before .before .before .before .row-sum .ensures) (c .before .before .before .before .before .before .before .before .before .before .before .before .before .before .before .before .before .before .args .len) (c .before .before .before .before .before .before .before .before .put-row .ensures .1))) (omega arith) (omega arith) (omega arith), omega (arith, p .2 .low), omega (arith, p .2 .low), sum-small (p .2) (p .3) (c .before .before .before .before .before .before .before .before .before .before .before .before .before .row-sum .ensures))
 
-same-length : tie.Need-same-length
-same-length c = search needs
-
-same-length-2 : tie.Need-same-length-2
-same-length-2 c = search needs
-
-same-length-3 : tie.Need-same-length-3
-same-length-3 c = search needs
-
 returns : tie.Need-returns
 returns c =
     let a = c .before .before .before .before .before .before .before .before .before .before .before .before .before .before .before .before .before .before .before .before .before .before .before .before .args in
@@ -57,7 +47,7 @@ put-whole-row-spec =
     row-sum-requires
     put-row-requires
     put-negated-requires
-    same-length
-    same-length-2
-    same-length-3
+    (λ c. search needs)
+    (λ c. search needs)
+    (λ c. search needs)
     returns)

@@ -1,5 +1,4 @@
 -- `table_calls::checked::bad_signs` meets its contract.
-use borrow.Author.Needs.{needs}
 use Rattle.table_calls.proofs.checked.bad_signs.Statement.{statement}
 use Rattle.table_calls.proofs.checked.bad_signs.Tie as tie
 use mathlib.Core.Path.{sym, _∙_}

@@ -1,5 +1,4 @@
 -- `table_calls::checked::checked_hall` meets its contract.
-use borrow.Author.Needs.{needs}
 use Rattle.table_calls.proofs.checked.checked_hall.Statement.{statement}
 use Rattle.table_calls.proofs.checked.checked_hall.Tie as tie
 use mathlib.Core.Path.{sym, _∙_}

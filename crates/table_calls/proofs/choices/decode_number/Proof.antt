@@ -6,15 +6,9 @@ use mathlib.Core.Path.{sym, _∙_}
 use Rattle.laws.proofs.Refusal.{first-here, first-skip, first-end}
 use Rattle.table_calls.specs.Numbers.{decodeNumber}
 
-decode-short-requires : tie.Need-decode-short-requires
-decode-short-requires c κs = search needs
-
 returns : tie.Need-returns
 unfolding decodeNumber
 returns c = sym (first-here 30 _ _ (sym (c .before .decode-short .ensures) ∙ c .if1 .taken))
-
-bad-signs-requires : tie.Need-bad-signs-requires
-bad-signs-requires c κs = search needs
 
 returns-2 : tie.Need-returns-2
 unfolding decodeNumber
@@ -26,4 +20,4 @@ returns-3 c = sym (first-skip 31 _ _ (sym (c .before .before .before .decode-sho
 
 pub decode-number-spec : {M : Type 1} → statement M
 decode-number-spec =
-    tie.close (tie.spec decode-short-requires returns bad-signs-requires returns-2 returns-3)
+    tie.close (tie.spec (λ c κs. search needs) returns (λ c κs. search needs) returns-2 returns-3)

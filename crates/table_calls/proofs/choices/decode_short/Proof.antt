@@ -8,15 +8,9 @@ use Rattle.laws.proofs.Any.{any-here, any-skip, any-last}
 use Rattle.table_calls.specs.Numbers.{decodeShort}
 use Rattle.table_calls.proofs.Accepting.{short-refused, signs-parts}
 
-bad-signs-requires : tie.Need-bad-signs-requires
-bad-signs-requires c κs = search needs
-
 returns : tie.Need-returns
 unfolding decodeShort
 returns c = let bad = sym (c .before .bad-signs .ensures) ∙ c .if1 .taken in sym (any-skip _ _ (short-refused _ _ bad) ∙ any-last _ ∙ short-refused _ _ bad)
-
-too-short-requires : tie.Need-too-short-requires
-too-short-requires c κs = search needs
 
 returns-2 : tie.Need-returns-2
 unfolding decodeShort
@@ -24,9 +18,6 @@ returns-2 c = sym (any-here _ _ (sym (rw (c .before .before .before .bad-signs .
 
 sub-too-short : tie.Need-sub-too-short
 sub-too-short c = omega (arith, signs-parts (c .before .before .before .before .before .before .args .m) (sym (c .before .before .before .bad-signs .ensures) ∙ c .before .before .if1 .left))
-
-too-short-requires-2 : tie.Need-too-short-requires-2
-too-short-requires-2 c κs = search needs
 
 returns-3 : tie.Need-returns-3
 unfolding decodeShort
@@ -36,10 +27,10 @@ pub decode-short-spec : {M : Type 1} → statement M
 decode-short-spec =
     tie.close
     (tie.spec
-    bad-signs-requires
+    (λ c κs. search needs)
     returns
-    too-short-requires
+    (λ c κs. search needs)
     returns-2
     sub-too-short
-    too-short-requires-2
+    (λ c κs. search needs)
     returns-3)

@@ -7,12 +7,6 @@ use mathlib.Core.Path.{sym, _∙_, ap}
 use native.Mathlib.Omega.{arith}
 use Rattle.table_calls.proofs.Accepting.{refused-is, accepted-is, decode-accepted}
 
-decode-number-requires : tie.Need-decode-number-requires
-decode-number-requires c κs = search needs
-
-same-length : tie.Need-same-length
-same-length c = search needs
-
 returns : tie.Need-returns
 returns c = let a = c .before .before .before .before .before .args in (c .before .decode-number .ensures, refused-is _ (λ _. now (a .b)) _ (c .before .decode-number .ensures) (c .if1 .taken))
 
@@ -23,9 +17,6 @@ qubo-binary-from-sign-solution-requires : tie.Need-qubo-binary-from-sign-solutio
 qubo-binary-from-sign-solution-requires c κs = let a = c .before .before .before .before .before .before .args in
     let (some, long, room) = decode-accepted (a .m) (now (a .signs)) (now (a .b)) (sym (c .before .before .decode-number .ensures) ∙ c .before .if1 .left) in (long, room)
 
-same-length-2 : tie.Need-same-length-2
-same-length-2 c = search needs
-
 returns-2 : tie.Need-returns-2
 returns-2 c = let a = c .before .before .before .before .before .before .before .before .before .args in (sym (c .before .before .before .before .if1 .left) ∙ c .before .before .before .before .before .decode-number .ensures, c .before .before .qubo-binary-from-sign-solution .ensures ∙ accepted-is _ (λ _. now (a .b)) _ (c .before .before .before .before .before .decode-number .ensures) (c .before .before .before .before .if1 .left))
 
@@ -33,10 +24,10 @@ pub qubo-binary-from-sign-solution-spec : {M : Type 1} → statement M
 qubo-binary-from-sign-solution-spec =
     tie.close
     (tie.spec
-    decode-number-requires
-    same-length
+    (λ c κs. search needs)
+    (λ c. search needs)
     returns
     sub-qubo-binary-from-sign-solution
     qubo-binary-from-sign-solution-requires
-    same-length-2
+    (λ c. search needs)
     returns-2)

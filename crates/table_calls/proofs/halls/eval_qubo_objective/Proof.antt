@@ -9,9 +9,6 @@ use native.Mathlib.Omega.{arith}
 use Rattle.table_calls.specs.declared.Eighths.the-variants as E
 use Rattle.table_calls.proofs.Accepting.{refused-is, accepted-is, cost-lent, cost-numbered, cost-accepted}
 
-cost-short-requires : tie.Need-cost-short-requires
-cost-short-requires c κs = search needs
-
 checked-hall-requires : tie.Need-checked-hall-requires
 checked-hall-requires c κs = let a = c .before .before .before .before .args in λ e. cost-lent (a .n) (a .count) (now (a .rows)) (now (a .cols)) (now (a .values)) (now (a .c)) (now (a .b)) (sym (c .cost-short .ensures) ∙ e)
 
@@ -29,7 +26,7 @@ pub eval-qubo-objective-spec : {M : Type 1} → statement M
 eval-qubo-objective-spec =
     tie.close
     (tie.spec
-    cost-short-requires
+    (λ c κs. search needs)
     checked-hall-requires
     returns
     eval-qubo-objective-requires

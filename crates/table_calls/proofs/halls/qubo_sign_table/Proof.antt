@@ -4,24 +4,11 @@ use Rattle.table_calls.proofs.halls.qubo_sign_table.Statement.{statemen
 use Rattle.table_calls.proofs.halls.qubo_sign_table.Tie as tie
 use denote.Ref.{now}
 use mathlib.Core.Path.{sym, _∙_, ap}
-use lib.IntN.{ℤ}
 use Rattle.laws.specs.Lists.{elemZ}
 use Rattle.table_calls.proofs.Accepting.{sign-lent, sign-numbered, sign-accepted, refused-converts, accepted-converts, hall-converts, enough-room}
 
-sign-short-requires : tie.Need-sign-short-requires
-sign-short-requires c κs = search needs
-
 checked-hall-requires : tie.Need-checked-hall-requires
 checked-hall-requires c κs = let a = c .before .before .before .before .before .before .before .before .args in λ e. sign-lent (a .n) (a .count) (now (a .rows)) (now (a .cols)) (now (a .values)) (now (a .c)) (now (a .to-rows)) (now (a .to-cols)) (now (a .to-values)) (sym (c .sign-short .ensures) ∙ e)
-
-same-length : tie.Need-same-length
-same-length c = search needs
-
-same-length-2 : tie.Need-same-length-2
-same-length-2 c = search needs
-
-same-length-3 : tie.Need-same-length-3
-same-length-3 c = search needs
 
 returns : tie.Need-returns
 returns c = let a = c .before .before .before .before .before .before .before .before .before .before .args in refused-converts _ (sign-numbered (a .n) (a .count) (now (a .rows)) (now (a .cols)) (now (a .values)) (now (a .c)) (now (a .to-rows)) (now (a .to-cols)) (now (a .to-values)) (c .before .before .sign-short .ensures) (c .before .checked-hall .ensures)) (c .if1 .taken)
@@ -30,15 +17,6 @@ sign-matrix-requires : tie.Need-sign-matrix-requires
 sign-matrix-requires c κs = let a = c .before .before .before .before .before .before .before .before .before .before .before .before .before .args in
     let (lent, linear, room, ok) = sign-accepted (a .n) (a .count) (now (a .rows)) (now (a .cols)) (now (a .values)) (now (a .c)) (now (a .to-rows)) (now (a .to-cols)) (now (a .to-values)) (sym (sign-numbered (a .n) (a .count) (now (a .rows)) (now (a .cols)) (now (a .values)) (now (a .c)) (now (a .to-rows)) (now (a .to-cols)) (now (a .to-values)) (c .before .before .before .before .before .sign-short .ensures) (c .before .before .before .before .checked-hall .ensures)) ∙ c .before .before .before .if1 .left) in
     (lent, linear, hall-converts ok, room)
-
-same-length-4 : tie.Need-same-length-4
-same-length-4 c = search needs
-
-same-length-5 : tie.Need-same-length-5
-same-length-5 c = search needs
-
-same-length-6 : tie.Need-same-length-6
-same-length-6 c = search needs
 
 returns-2 : tie.Need-returns-2
 returns-2 c = let a = c .before .before .before .before .before .before .before .before .before .before .before .before .before .before .before .before .before .before .before .args in
@@ -50,14 +28,14 @@ pub qubo-sign-table-spec : {M : Type 1} → statement M
 qubo-sign-table-spec =
     tie.close
     (tie.spec
-    sign-short-requires
+    (λ c κs. search needs)
     checked-hall-requires
-    same-length
-    same-length-2
-    same-length-3
+    (λ c. search needs)
+    (λ c. search needs)
+    (λ c. search needs)
     returns
     sign-matrix-requires
-    same-length-4
-    same-length-5
-    same-length-6
+    (λ c. search needs)
+    (λ c. search needs)
+    (λ c. search needs)
     returns-2)

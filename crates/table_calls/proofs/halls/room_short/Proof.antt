@@ -10,9 +10,6 @@ use Rattle.tables.proofs.Checks.{size-parts}
 use Rattle.table_calls.specs.Numbers.{roomShort}
 use Rattle.table_calls.proofs.Accepting.{short-refused, short-open}
 
-bad-size-requires : tie.Need-bad-size-requires
-bad-size-requires c κs = search needs
-
 returns : tie.Need-returns
 unfolding roomShort
 returns c = let bad = sym (c .before .bad-size .ensures) ∙ c .if1 .taken in sym (any-skip _ _ (short-refused _ _ bad) ∙ any-skip _ _ (short-refused _ _ bad) ∙ any-last _ ∙ short-refused _ _ bad)
@@ -42,7 +39,7 @@ pub room-short-spec : {M : Type 1} → statement M
 room-short-spec =
     tie.close
     (tie.spec
-    bad-size-requires
+    (λ c κs. search needs)
     returns
     mul-needed
     add-needed

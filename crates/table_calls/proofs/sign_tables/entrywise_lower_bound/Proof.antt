@@ -9,9 +9,6 @@ use Rattle.tables.proofs.Checks.{table-lent}
 use Rattle.table_calls.specs.declared.Bound.the-variants as B
 use Rattle.table_calls.proofs.Accepting.{refused-is, accepted-is, floor-numbered, floor-accepted}
 
-short-table-requires : tie.Need-short-table-requires
-short-table-requires c κs = search needs
-
 checked-table-requires : tie.Need-checked-table-requires
 checked-table-requires c κs = λ e h. table-lent (sym (c .short-table .ensures) ∙ e) h
 
@@ -29,7 +26,7 @@ pub entrywise-lower-bound-spec : {M : Type 1} → statement M
 entrywise-lower-bound-spec =
     tie.close
     (tie.spec
-    short-table-requires
+    (λ c κs. search needs)
     checked-table-requires
     returns
     entrywise-lower-bound-requires

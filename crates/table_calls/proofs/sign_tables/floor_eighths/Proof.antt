@@ -9,9 +9,6 @@ use Rattle.tables.proofs.Checks.{table-lent}
 use Rattle.table_calls.specs.declared.Eighths.the-variants as E
 use Rattle.table_calls.proofs.Accepting.{refused-is, accepted-is, floor-numbered, floor-accepted}
 
-short-table-requires : tie.Need-short-table-requires
-short-table-requires c κs = search needs
-
 checked-table-requires : tie.Need-checked-table-requires
 checked-table-requires c κs = λ e h. table-lent (sym (c .short-table .ensures) ∙ e) h
 
@@ -28,4 +25,4 @@ returns-2 c = let a = c .before .before .before .before .before .before .args in
 pub floor-eighths-spec : {M : Type 1} → statement M
 floor-eighths-spec =
     tie.close
-    (tie.spec short-table-requires checked-table-requires returns floor-eighths-requires returns-2)
+    (tie.spec (λ c κs. search needs) checked-table-requires returns floor-eighths-requires returns-2)

@@ -8,9 +8,6 @@ use mathlib.Core.Path.{sym, _∙_, ap}
 use Rattle.table_calls.specs.declared.Eighths.the-variants as E
 use Rattle.table_calls.proofs.Accepting.{refused-is, accepted-is, objective-lent, objective-numbered, objective-accepted}
 
-objective-short-requires : tie.Need-objective-short-requires
-objective-short-requires c κs = search needs
-
 checked-table-requires : tie.Need-checked-table-requires
 checked-table-requires c κs = let a = c .before .before .before .before .args in λ e h. objective-lent (a .m) (a .count) (now (a .rows)) (now (a .cols)) (now (a .values)) (now (a .signs)) (sym (c .objective-short .ensures) ∙ e) h
 
@@ -27,7 +24,7 @@ pub obj-rounded-spec : {M : Type 1} → statement M
 obj-rounded-spec =
     tie.close
     (tie.spec
-    objective-short-requires
+    (λ c κs. search needs)
     checked-table-requires
     returns
     obj-rounded-requires

@@ -1,5 +1,4 @@
 -- `tables::bound::absolute` meets its contract.
-use borrow.Author.Needs.{needs}
 use Rattle.tables.proofs.bound.absolute.Statement.{statement}
 use Rattle.tables.proofs.bound.absolute.Tie as tie
 use mathlib.Core.Path.{_∙_, ap}

@@ -27,26 +27,11 @@ loop-holds : tie.Need-loop-holds Inv-loop μ-loop
 unfolding magnitudeSum ofBits
 loop-holds c = (omega arith, refl)
 
-mul-absolute : tie.Need-mul-absolute Inv-loop μ-loop
-mul-absolute c = search needs
-
-shared-slice-copy-out-absolute : tie.Need-shared-slice-copy-out-absolute Inv-loop μ-loop
-shared-slice-copy-out-absolute c = search needs
-
 absolute-requires : tie.Need-absolute-requires Inv-loop μ-loop
 absolute-requires c κs =
     let a = c .before .before .before .args in
     let values = now (a .values) in
     rw (held (elemZ values (c .before .before .loop .k)) (c .absolute-arg .given)) (value-small (tableOf (a .count) [] [] values) (c .before .before .before .pre .1) (c .before .before .loop .k) (c .before .loop-test .taken))
-
-eighth-requires : tie.Need-eighth-requires Inv-loop μ-loop
-eighth-requires c κs = search needs
-
-add-k : tie.Need-add-k Inv-loop μ-loop
-add-k c = search needs
-
-loop-less : tie.Need-loop-less Inv-loop μ-loop
-loop-less c = search needs
 
 loop-again : tie.Need-loop-again Inv-loop μ-loop
 loop-again c = let values = now (c .before .before .before .before .before .args .values) in
@@ -62,11 +47,11 @@ magnitude-sum-spec =
     Inv-loop
     μ-loop
     loop-holds
-    mul-absolute
-    shared-slice-copy-out-absolute
+    (λ c. search needs)
+    (λ c. search needs)
     absolute-requires
-    eighth-requires
-    add-k
-    loop-less
+    (λ c κs. search needs)
+    (λ c. search needs)
+    (λ c. search needs)
     loop-again
     returns)

@@ -21,18 +21,9 @@ loop-holds : tie.Need-loop-holds Inv-loop μ-loop
 unfolding anyBelow
 loop-holds c = (omega arith, refl)
 
-bad-entry-requires : tie.Need-bad-entry-requires Inv-loop μ-loop
-bad-entry-requires c κs = search needs
-
 returns : tie.Need-returns Inv-loop μ-loop
 unfolding badOrder
 returns c = sym (below-at _ _ _ (c .before .before .loop-test .taken) (sym (c .before .bad-entry .ensures) ∙ c .if1 .taken))
-
-add-k : tie.Need-add-k Inv-loop μ-loop
-add-k c = search needs
-
-loop-less : tie.Need-loop-less Inv-loop μ-loop
-loop-less c = search needs
 
 loop-again : tie.Need-loop-again Inv-loop μ-loop
 loop-again c = (omega arith, below-next _ _ (c .before .before .before .loop .inv .1) (sym (c .before .bad-entry .ensures) ∙ c .if1 .left))
@@ -48,9 +39,9 @@ bad-order-spec =
     Inv-loop
     μ-loop
     loop-holds
-    bad-entry-requires
+    (λ c κs. search needs)
     returns
-    add-k
-    loop-less
+    (λ c. search needs)
+    (λ c. search needs)
     loop-again
     returns-2)

@@ -8,24 +8,6 @@ use Rattle.laws.specs.Sum.{total}
 use Rattle.laws.specs.Lists.{elemZ}
 use Rattle.tables.proofs.Checks.{capped-tests}
 
-add-magnitudes-capped : tie.Need-add-magnitudes-capped
-add-magnitudes-capped c = search needs
-
-magnitudes-capped-requires : tie.Need-magnitudes-capped-requires
-magnitudes-capped-requires c κs = search needs
-
-add-magnitudes-capped-2 : tie.Need-add-magnitudes-capped-2
-add-magnitudes-capped-2 c = search needs
-
-magnitudes-capped-requires-2 : tie.Need-magnitudes-capped-requires-2
-magnitudes-capped-requires-2 c κs = search needs
-
-mul-result : tie.Need-mul-result
-mul-result c = search needs
-
-add-result : tie.Need-add-result
-add-result c = search needs
-
 returns : tie.Need-returns
 returns c =
     let a = c .before .before .args in
@@ -35,10 +17,10 @@ pub hall-too-large-spec : {M : Type 1} → statement M
 hall-too-large-spec =
     tie.close
     (tie.spec
-    add-magnitudes-capped
-    magnitudes-capped-requires
-    add-magnitudes-capped-2
-    magnitudes-capped-requires-2
-    mul-result
-    add-result
+    (λ c. search needs)
+    (λ c κs. search needs)
+    (λ c. search needs)
+    (λ c κs. search needs)
+    (λ c. search needs)
+    (λ c. search needs)
     returns)

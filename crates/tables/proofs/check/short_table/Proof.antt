@@ -6,22 +6,13 @@ use mathlib.Core.Path.{sym, _∙_}
 use Rattle.laws.proofs.Any.{any-here, any-skip, any-last}
 use Rattle.tables.specs.Check.{shortTable}
 
-too-short-requires : tie.Need-too-short-requires
-too-short-requires c κs = search needs
-
 returns : tie.Need-returns
 unfolding shortTable
 returns c = sym (any-here _ _ (sym (c .before .too-short .ensures) ∙ c .if1 .taken))
 
-too-short-requires-2 : tie.Need-too-short-requires-2
-too-short-requires-2 c κs = search needs
-
 returns-2 : tie.Need-returns-2
 unfolding shortTable
 returns-2 c = sym (any-skip _ _ (sym (c .before .before .before .too-short .ensures) ∙ c .before .before .if1 .left) ∙ any-here _ _ (sym (c .before .too-short2 .ensures) ∙ c .if2 .taken))
-
-too-short-requires-3 : tie.Need-too-short-requires-3
-too-short-requires-3 c κs = search needs
 
 returns-3 : tie.Need-returns-3
 unfolding shortTable
@@ -31,9 +22,9 @@ pub short-table-spec : {M : Type 1} → statement M
 short-table-spec =
     tie.close
     (tie.spec
-    too-short-requires
+    (λ c κs. search needs)
     returns
-    too-short-requires-2
+    (λ c κs. search needs)
     returns-2
-    too-short-requires-3
+    (λ c κs. search needs)
     returns-3)

@@ -8,16 +8,10 @@ use Rattle.laws.specs.Sum.{total}
 use Rattle.laws.specs.Lists.{elemZ}
 use Rattle.tables.proofs.Checks.{capped-test}
 
-add-magnitudes-capped : tie.Need-add-magnitudes-capped
-add-magnitudes-capped c = search needs
-
-magnitudes-capped-requires : tie.Need-magnitudes-capped-requires
-magnitudes-capped-requires c κs = search needs
-
 returns : tie.Need-returns
 returns c =
     let a = c .before .args in
     capped-test (a .limit) (total (a .count) (λ l. natAbs (elemZ (now (a .values)) l))) (c .magnitudes-capped .ensures)
 
 pub too-large-spec : {M : Type 1} → statement M
-too-large-spec = tie.close (tie.spec add-magnitudes-capped magnitudes-capped-requires returns)
+too-large-spec = tie.close (tie.spec (λ c. search needs) (λ c κs. search needs) returns)

@@ -1,5 +1,4 @@
 -- `tables::check::too_short` meets its contract.
-use borrow.Author.Needs.{needs}
 use Rattle.tables.proofs.check.too_short.Statement.{statement}
 use Rattle.tables.proofs.check.too_short.Tie as tie
 use Rattle.laws.specs.Refusal.{short}

@@ -31,12 +31,6 @@ returns : tie.Need-returns Inv-loop μ-loop
 unfolding unmirrored
 returns c = sym (below-at _ _ _ (c .before .before .loop-test .taken) (simp (← c .before .has-mirror .ensures, c .if1 .taken)))
 
-add-k : tie.Need-add-k Inv-loop μ-loop
-add-k c = search needs
-
-loop-less : tie.Need-loop-less Inv-loop μ-loop
-loop-less c = search needs
-
 loop-again : tie.Need-loop-again Inv-loop μ-loop
 loop-again c = (omega arith, below-next _ _ (c .before .before .before .loop .inv .1) (simp (← c .before .has-mirror .ensures, c .if1 .left)))
 
@@ -53,7 +47,7 @@ unmirrored-by-search-spec =
     loop-holds
     has-mirror-requires
     returns
-    add-k
-    loop-less
+    (λ c. search needs)
+    (λ c. search needs)
     loop-again
     returns-2)

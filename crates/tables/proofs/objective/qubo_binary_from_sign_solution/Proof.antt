@@ -19,23 +19,8 @@ abbrev μ-loop : tie.MeasureT-loop
 loop-holds : tie.Need-loop-holds Inv-loop μ-loop
 loop-holds c = (omega arith, fill-none _ _, refl)
 
-decoded-byte-requires : tie.Need-decoded-byte-requires Inv-loop μ-loop
-decoded-byte-requires c κs = search needs
-
-slice-write-b : tie.Need-slice-write-b Inv-loop μ-loop
-slice-write-b c = search needs
-
-add-i : tie.Need-add-i Inv-loop μ-loop
-add-i c = search needs
-
-loop-less : tie.Need-loop-less Inv-loop μ-loop
-loop-less c = search needs
-
 loop-again : tie.Need-loop-again Inv-loop μ-loop
 loop-again c = (omega arith, fill-more _ _ _ (c .before .before .loop .inv .1) (c .decoded-byte .ensures), simp length-set (c .before .before .loop .inv .2))
-
-same-length : tie.Need-same-length Inv-loop μ-loop
-same-length c = search needs
 
 returns : tie.Need-returns Inv-loop μ-loop
 returns c = fill-all _ _ _ _ (c .before .loop .inv .1) (c .before .loop .inv .0) (c .loop-test .left)
@@ -47,10 +32,10 @@ qubo-binary-from-sign-solution-spec =
     Inv-loop
     μ-loop
     loop-holds
-    decoded-byte-requires
-    slice-write-b
-    add-i
-    loop-less
+    (λ c κs. search needs)
+    (λ c. search needs)
+    (λ c. search needs)
+    (λ c. search needs)
     loop-again
-    same-length
+    (λ c. search needs)
     returns)
