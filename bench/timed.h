@@ -1,10 +1,10 @@
-// What the measurements share: words as the oracle prints them, the clock, as the oracle reads it, and the middle and the fastest of 25 batches.
+// What the measurements share: words as the oracle prints them, the clock, as the oracle reads it, and the middle and the fastest of 100 batches.
 #include <stdint.h>
 #include <stdio.h>
 #include <stdlib.h>
 #include <time.h>
 
-enum { BATCHES = 25 };
+enum { BATCHES = 100 };
 
 static inline uint64_t word(void) {
     unsigned long long x;

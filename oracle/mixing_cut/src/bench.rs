@@ -14,7 +14,7 @@ use sprs::CsMat;
 use std::hint::black_box;
 use std::time::Instant;
 
-const BATCHES: usize = 25;
+const BATCHES: usize = 100;
 
 const USAGE: &str = "usage: oracle bench [of WAGONS PAIRS] sweep RULE RANK CALLS \
                      | beam SEED CALLS [WIDTH] | answer CALLS (job on standard input)";
@@ -34,7 +34,7 @@ pub fn bench(what: &[&str], read: impl Fn() -> Result<Vec<u8>, String>) -> Resul
     }
 }
 
-/// Nanoseconds per call: in the middle one of 25 batches, and in the fastest.
+/// Nanoseconds per call: in the middle one of 100 batches, and in the fastest.
 fn timed(name: &str, calls: u32, mut call: impl FnMut()) -> Result<String, String> {
     if calls == 0 {
         return Err("at least one call".to_string());
