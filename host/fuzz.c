@@ -10,7 +10,7 @@ enum { PAGE = 4096, ROOM = 20 * PAGE, SHORT_ANSWER = 6, SHORT_WORKSPACE = 7 };
 static uint8_t *job_room, *workspace_room, *answer_room;
 static unsigned long calls[32]; // by number
 
-// What an input reached, so that libFuzzer keeps inputs that reach something new: the archive counts nothing itself.
+// What an input reached, beside the coverage of the archive, so that libFuzzer keeps inputs whose answers differ in kind.
 __attribute__((section("__libfuzzer_extra_counters"), used)) static uint8_t reached[4096];
 
 static void must(int holds, const char *what) {
