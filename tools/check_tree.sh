@@ -1,6 +1,6 @@
 #!/usr/bin/env bash
 # What the gate holds of the tree itself: crates.txt lists every crate, no Rattle text stands outside a crate, no proof has a
-# hole, every public function has an `ensures`.
+# hole, every public function has an `ensures`, every file is in the layout of `rt fmt`.
 set -u
 cd "$(dirname "$0")/.." || exit 1
 bad=0
@@ -22,4 +22,5 @@ silent=$(awk '
     /^[ \t]*(fn |impl |mod |struct |enum |const |#\[)/ { flush() }
     END { flush() }' $(git ls-files 'crates/*/src/*.rt' | grep -vE '^crates/(replay|wagonplan)/'))
 [ -z "$silent" ] || say "public functions that promise nothing: $silent"
+other=$(rt fmt --check 2>&1) || say "not in the layout: $other"
 exit $bad
