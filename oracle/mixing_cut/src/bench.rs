@@ -1,25 +1,33 @@
-//! Timings of the unchanged Rust in this process, on the hall of `problem`.
+//! Timings of the unchanged Rust in this process, on the hall of `problem` and the problem of
+//! `reduced`.
 
 use crate::answer::{answer, solve, step_rule};
 use crate::job;
 use crate::problem::{argument, factor, hall, meant, rule_number, sign_bytes, Size};
+use crate::reduced::Reduced;
 use crate::sdp_local_search::beam_search;
 use crate::sdp_project::project;
 use crate::sdp_solver::inside_solver::separate_diagonal;
+use crate::sdp_solver::ReducedProblem;
 use crate::search::by_levels;
 use crate::step_rules::apply_step;
 use crate::table::{sign_matrix, signs};
-use ndarray::Array2;
+use ndarray::{Array1, Array2};
 use sprs::CsMat;
 use std::hint::black_box;
+use std::mem::take;
 use std::time::Instant;
 
 const BATCHES: usize = 100;
 
 const USAGE: &str = "usage: oracle bench [of WAGONS PAIRS] sweep RULE RANK CALLS \
-                     | beam SEED CALLS [WIDTH] | answer CALLS (job on standard input)";
+                     | beam SEED CALLS [WIDTH] | answer CALLS (job on standard input); \
+                     or bench reduced submatrix|lift CALLS";
 
 pub fn bench(what: &[&str], read: impl Fn() -> Result<Vec<u8>, String>) -> Result<String, String> {
+    if let ["reduced", part, calls] = what {
+        return reduced(part, argument(calls)?);
+    }
     let (size, what) = meant(what)?;
     match what {
         ["sweep", rule, rank, calls] => {
@@ -96,6 +104,34 @@ fn beam(size: Size, seed: u64, calls: u32, width: usize) -> Result<String, Strin
     timed(&name, calls, || {
         black_box(beam_search(black_box(&q), width, vec![start.clone()]));
     })
+}
+
+/// One of the reduced pair. The map and the fixed indices, which the Rust takes over, are handed
+/// from call to call.
+fn reduced(part: &str, calls: u32) -> Result<String, String> {
+    let made = Reduced::made();
+    let q = made.table.matrix(8.0);
+    let fixed = made.fixed.into_iter().zip(made.fixed_values).collect();
+    let mut problem = ReducedProblem::from_principal_submatrix(&q, made.map, fixed);
+    let (size, entries, kept) = (q.rows(), q.nnz(), problem.reduced_q.nnz());
+    match part {
+        "submatrix" => {
+            let name = format!("submatrix, size {size}, {kept} of {entries} entries");
+            timed(&name, calls, || {
+                let map = take(&mut problem.variable_map);
+                let fixed = take(&mut problem.fixed_assignments);
+                let made = ReducedProblem::from_principal_submatrix(black_box(&q), map, fixed);
+                problem = black_box(made);
+            })
+        }
+        "lift" => {
+            let solution = Array1::from(made.solution);
+            timed(&format!("lift, size {size}, {} mapped", solution.len()), calls, || {
+                black_box(black_box(&problem).lift_solution(black_box(&solution)));
+            })
+        }
+        _ => Err(USAGE.to_string()),
+    }
 }
 
 /// The solver's part of an answer, and the whole with the harness's second search and checks.

@@ -14,6 +14,7 @@ mod leaf_numbers;
 mod lent;
 mod plain;
 mod problem;
+mod reduced;
 mod refusals;
 mod run;
 mod search;

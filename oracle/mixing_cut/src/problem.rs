@@ -1,5 +1,6 @@
 //! The made-up hall of the timings, so that another program can be given the same one.
 
+use crate::reduced::Reduced;
 use crate::table::{sign_matrix, Entry, Table};
 use crate::words::{bits, hex, Out};
 use ndarray::Array2;
@@ -21,7 +22,7 @@ impl SplitMix {
     }
 
     /// −100 to 100 without 0.
-    fn cost(&mut self) -> i64 {
+    pub fn cost(&mut self) -> i64 {
         let k = (self.next() % 200) as i64;
         k - if k < 100 { 100 } else { 99 }
     }
@@ -33,6 +34,23 @@ impl SplitMix {
 
     pub fn numbers(&mut self, count: usize) -> Vec<f64> {
         (0..count).map(|_| self.number()).collect()
+    }
+
+    /// So many pairs (i, j), i < j, of those below the size, in rising order: each is kept where the
+    /// next number modulo the pairs left is below the pairs still wanted, and then gets a cost.
+    pub fn pairs(&mut self, size: usize, mut wanted: u64) -> Vec<(usize, usize, i64)> {
+        let mut pairs = Vec::new();
+        let mut left = (size * size.saturating_sub(1) / 2) as u64;
+        for row in 0..size {
+            for col in row + 1..size {
+                if self.next() % left < wanted {
+                    wanted -= 1;
+                    pairs.push((row, col, self.cost()));
+                }
+                left -= 1;
+            }
+        }
+        pairs
     }
 }
 
@@ -74,28 +92,18 @@ pub fn meant<'a>(what: &'a [&'a str]) -> Result<(Size, &'a [&'a str]), String> {
 const HALL_SEED: u64 = 1;
 
 /// The large one has 127 wagons, 4,096 entries off the diagonal, all c and all row sums other than
-/// 0, so that the sign table has 4,478 entries. Pairs (i, j), i < j, in rising order: each is kept
-/// where the next number modulo the pairs left is below the pairs still wanted, and then gets a
-/// cost. Then c, one cost each; where row i's sum with 2·c_i is 0, c_i is doubled.
+/// 0, so that the sign table has 4,478 entries. After the pairs c, one cost each; where row i's sum
+/// with 2·c_i is 0, c_i is doubled.
 pub fn hall(size: Size) -> (Table, Vec<i64>) {
     let wagons = size.wagons;
     let mut random = SplitMix::new(HALL_SEED);
     let mut entries = Vec::new();
     let mut sums = vec![0; wagons];
-    let mut left = (wagons * wagons.saturating_sub(1) / 2) as u64;
-    let mut wanted = size.pairs;
-    for row in 0..wagons {
-        for col in row + 1..wagons {
-            if random.next() % left < wanted {
-                wanted -= 1;
-                let value = random.cost();
-                entries.push(Entry { row, col, value });
-                entries.push(Entry { row: col, col: row, value });
-                sums[row] += value;
-                sums[col] += value;
-            }
-            left -= 1;
-        }
+    for (row, col, value) in random.pairs(wagons, size.pairs) {
+        entries.push(Entry { row, col, value });
+        entries.push(Entry { row: col, col: row, value });
+        sums[row] += value;
+        sums[col] += value;
     }
     entries.sort_by_key(|e| (e.row, e.col));
     let mut c: Vec<i64> = (0..wagons).map(|_| random.cost()).collect();
@@ -164,11 +172,16 @@ pub fn argument<T: std::str::FromStr>(text: &str) -> Result<T, String> {
 }
 
 const USAGE: &str = "usage: oracle problem [of WAGONS PAIRS] hall | table | factor RANK SEED \
-                     | signs SEED | job RULE RANK MOST WIDTH DRAWS SEED";
+                     | signs SEED | job RULE RANK MOST WIDTH DRAWS SEED; or problem reduced";
 
-/// The hall's parts in the words of the leaf protocol, or a job in hexadecimal.
+/// The hall's parts or the reduced problem in the words of the leaf protocol, or a job in
+/// hexadecimal.
 pub fn print(what: &[&str]) -> Result<String, String> {
     let mut out = Out::default();
+    if what == ["reduced"] {
+        Reduced::made().put(&mut out);
+        return Ok(out.text() + "\n");
+    }
     let (size, what) = meant(what)?;
     match what {
         ["hall"] => {
