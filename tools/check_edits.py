@@ -19,7 +19,7 @@ FACTS = {
     "two sides of an equation or two types differ": r"the two types|expected type|does not have the type|the types differ|is not the type",
     "no arithmetic proof": r"`omega`|`simp`|`ring`",
     "no proof found": r"`search`: no proof|`cc`|no proof of",
-    "a rewriting that leaves something to prove": r"give a proof of that as the last argument|`rw`",
+    "a rewriting that leaves something to prove": r"give a proof of that as the last argument|write the equation.s arguments|`rw`",
     "a need that is not proved": r"^it is not proved that",
 }
 # What a place of the proof is about.
