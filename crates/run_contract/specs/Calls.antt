@@ -78,7 +78,7 @@ openSize o = o .table .n + 1
 abbrev pub openRank : Settings → ℕ
 openRank o = rankMeant (openSize o) (o .rank)
 
--- the start's factor: kind 2 is signs, and draws follow them where there are sweeps and the rank is above 1
+-- the start's factor, by its kind and by whether draws follow
 unfoldable pub startFactor : Settings → List Float
 startFactor o = startBy (isSigns (o .start)) (drawsFollow (o .most) (openRank o)) (openRank o) (openSize o) (o .numbers)
 

@@ -55,7 +55,7 @@ recordRefused run n =
 abbrev pub tableNumber : CostTable → ℕ
 tableNumber t = hallNumber mostWagons mostEntries mostMagnitude (t .n) (quadratic t) (linear t)
 
--- 18 of a rule: only rule 4 has a momentum
+-- 18 of a record's rule: only rule 4 has a momentum
 abbrev pub badMomentum : StepRule → Bool
 badMomentum (Grad step) = false
 badMomentum (GradAdv step) = false

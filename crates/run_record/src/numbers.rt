@@ -12,10 +12,10 @@ use super::lengths::sweep_short;
 use super::lengths::FinishSlices;
 use super::open_and;
 use super::Run;
-use run_limits::is_momentum;
 use run_limits::MOST_DRAWS;
 use run_limits::MOST_RANK;
 use run_limits::MOST_WIDTH;
+use run_limits::is_momentum;
 use step_rules::StepRule;
 use tables::limits;
 
@@ -57,7 +57,7 @@ fn table_number(n: usize, count: usize, rows: &[u16], cols: &[u16], values: &[i6
     tables::check::hall_number(limits::MOST_WAGONS, limits::MOST_ENTRIES, limits::MOST_MAGNITUDE, n, count, rows, cols, values, c)
 }
 
-// Whether a rule has a number that is no momentum: only rule 4 has one.
+// Whether 18 refuses a record's rule: only rule 4 has a momentum.
 fn bad_momentum(rule: StepRule) -> bool
     ensures { λ r. ⌜ r ≡ badMomentum rule ⌝ }
 {
