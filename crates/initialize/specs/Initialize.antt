@@ -1,5 +1,5 @@
 -- The factor that a run starts from (000 and 004, `prepare_initial_factor`). Definitions only.
-use Prim.Native.Nat.{ℕ, _+_, _*_}
+use Prim.Native.Nat.{ℕ, _*_}
 use mathlib.Core.Bool.{Bool, true, false}
 use mathlib.Core.List.{List, _++_}
 use lib.Ieee
@@ -36,12 +36,6 @@ abbrev pub startBy : Bool → Bool → ℕ → ℕ → List Float → List Float
 startBy false drawn rank m numbers = startRows rank m numbers
 startBy true false rank m numbers = startSigns rank m numbers
 startBy true true rank m numbers = startDrawn rank m numbers (drop m numbers)
-
--- how many numbers the start takes
-abbrev pub startCount : Bool → Bool → ℕ → ℕ → ℕ
-startCount false drawn rank m = m * rank
-startCount true false rank m = m
-startCount true true rank m = m + m * rank
 
 -- the factor's slice at the start: what lies past its m rows stays
 unfoldable pub startWithin : Bool → Bool → ℕ → ℕ → List Float → List Float → List Float

@@ -27,8 +27,9 @@ use Rattle.job_reader.proofs.Encode.{length-bytesOf, read-bytes}
 use Rattle.run_limits.specs.Limits.{mostRank, mostWidth, mostDraws}
 use Rattle.job_record.specs.Limits.{mostBytes, lastRule, lastStart}
 use Rattle.run_limits.specs.Rank.{rankMeant}
+use Rattle.run_limits.specs.Momentum.{isMomentum}
 use Rattle.job_record.specs.Fields.{restLength, version, wagons, entryCount, entryAt, row, column, value, entries, signedFrom, settingsAfter, rankAt, ruleAt, ruleNumberAt, startAt, widthAt, rankOf, drawsAfter}
-use Rattle.job_record.specs.Number.{past, bounded, frameNumber, versionNumber, entryNumber, isMomentum, momentumNumber, headNumbers, entriesNumbers, costsNumbers, settingsNumbers, drawsNumbers, runNumbers, jobNumber}
+use Rattle.job_record.specs.Number.{past, bounded, frameNumber, versionNumber, entryNumber, momentumNumber, headNumbers, entriesNumbers, costsNumbers, settingsNumbers, drawsNumbers, runNumbers, jobNumber}
 use Rattle.job_record.specs.Values.{settingsOf, drawsOf, jobCost}
 use Rattle.job_record.proofs.Same.{order-same, mirror-same, total-same}
 use Rattle.job_record.proofs.Whole.{parts}

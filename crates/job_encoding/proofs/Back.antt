@@ -18,7 +18,8 @@ use Rattle.job_reader.specs.Bytes.{bigEndian, signedAt, doubleAt}
 use Rattle.job_reader.specs.Encode.{bytesOf}
 use Rattle.job_reader.proofs.Encode.{length-bytesOf, read-front, read-bytes, read-signed, read-double}
 use Rattle.run_limits.specs.Rank.{rankMeant}
-use Rattle.job_record.specs.Fields.{wagons, entryCount, row, column, value, startCount}
+use Rattle.run_limits.specs.Start.{startLength}
+use Rattle.job_record.specs.Fields.{wagons, entryCount, row, column, value}
 use Rattle.job_record.specs.Values.{settingsOf, drawsOf, jobOf, jobCost, jobStart, jobDraw}
 use Rattle.job_record.specs.declared.job.Job.{Job}
 use Rattle.job_encoding.specs.Encode.{Entry, Values, each, entryBytes, signedBytes, doubleBytes, settingsBytes, bodyBytes, headBytes, jobBytes}
@@ -67,7 +68,7 @@ pub record Held (v : Values) : Type 0 where
   pub drawn : v .drawCount < 2 ^ 16
   pub draws : (i : ℕ) → i < length (v .draws) → T (fits binary64 (getD (v .draws) i nan))
   -- a start has as many doubles as its kind asks
-  pub started : length (v .startNumbers) ≡ startCount (v .start) (length (v .c) + 1) (rankMeant (length (v .c) + 1) (v .rank)) (v .most)
+  pub started : length (v .startNumbers) ≡ startLength (v .start) (length (v .c) + 1) (rankMeant (length (v .c) + 1) (v .rank)) (v .most)
 
 module _ (v : Values) where
   abbrev s : List ℕ

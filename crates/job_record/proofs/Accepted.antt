@@ -7,12 +7,13 @@ use lib.ListN.{length}
 use Rattle.laws.specs.Refusal.{first}
 use Rattle.laws.proofs.Refusal.{clear, first-head}
 use Rattle.tables.specs.Limits.{mostWagons, mostEntries}
-use Rattle.job_record.specs.Limits.{mostBytes, mostStart, mostDrawn}
+use Rattle.job_record.specs.Limits.{mostBytes, mostDrawn}
 use Rattle.job_record.specs.Fields.{wagons, entryCount, entryAt, rankAt, mostAt, startAt, settingsAfter}
 use Rattle.job_record.specs.Number.{costsNumbers, jobNumber}
 use Rattle.job_record.specs.Values.{settingsOf, drawsOf, jobRank, jobStartCount, jobDrawn}
+use Rattle.run_limits.specs.Limits.{mostStart}
 use Rattle.run_limits.proofs.Ranks.{meant-low}
-use Rattle.job_record.proofs.Ranks.{start-low}
+use Rattle.run_limits.proofs.Starts.{start-low}
 use Rattle.job_record.proofs.Sections.{Settings, Draws, head, run}
 use Rattle.job_record.proofs.Whole.{passed}
 

@@ -1,6 +1,6 @@
 pub mod Bounded
 pub mod Sections
-pub mod Ranks
+pub mod Products
 pub mod Same
 pub mod Entries
 pub mod Whole

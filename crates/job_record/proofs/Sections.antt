@@ -13,9 +13,10 @@ use Rattle.laws.proofs.Following.{first-append}
 use Rattle.tables.specs.Limits.{mostWagons, mostEntries}
 use Rattle.job_reader.specs.Bytes.{bigEndian}
 use Rattle.run_limits.specs.Limits.{mostRank, mostWidth, mostDraws}
+use Rattle.run_limits.specs.Momentum.{isMomentum}
 use Rattle.job_record.specs.Limits.{mostBytes, lastRule, lastStart}
 use Rattle.job_record.specs.Fields.{restLength, wagons, entryCount, rankAt, ruleAt, ruleNumberAt, widthAt, startAt, rankOf, drawsAfter}
-use Rattle.job_record.specs.Number.{past, bounded, frameNumber, headNumbers, isMomentum, momentumNumber, settingsNumbers, drawsNumbers, runNumbers}
+use Rattle.job_record.specs.Number.{past, bounded, frameNumber, headNumbers, momentumNumber, settingsNumbers, drawsNumbers, runNumbers}
 use Rattle.job_record.proofs.Bounded.{bounded-passed}
 
 -- the frame, the version, n and the entry count

@@ -1,12 +1,11 @@
 -- The fields of a job record in reading order (01, "Job and answer records"): where each stands, and what it holds.
-use Prim.Native.Nat.{ℕ, zero, suc, _+_, _*_}
-use mathlib.Core.Bool.{cond, _&&_}
+use Prim.Native.Nat.{ℕ, _+_, _*_}
 use mathlib.Core.List.{List}
-use lib.Dec.{ltb}
 use lib.IntN.{ℤ}
 use lib.Ieee.{Float}
 use Rattle.tables.specs.Table.{Table}
 use Rattle.run_limits.specs.Rank.{rankMeant}
+use Rattle.run_limits.specs.Start.{startLength}
 use Rattle.job_reader.specs.Bytes.{bigEndian, signedAt, doubleAt}
 
 -- length of the rest (4), version (1), n (1), entry count (2)
@@ -78,16 +77,12 @@ widthAt s at = bigEndian s (at + 34) 1
 abbrev pub startAt : List ℕ → ℕ → ℕ
 startAt s at = bigEndian s (at + 35) 1
 
--- the doubles of a start (kinds 0, 1: m·rank; 2: m, then m·rank draws if most > 0 and rank > 1)
-unfoldable pub startCount : ℕ → ℕ → ℕ → ℕ → ℕ
-startCount kind m rank most = cond (ltb kind 2) (m * rank) (m + cond (ltb 0 most && ltb 1 rank) (m * rank) 0)
-
--- the same of n wagons and the settings from `at` on, and where the draw count (2) stands: behind the start's doubles
+-- the rank that is meant for n wagons by the settings from `at` on, their start's doubles, and where the draw count (2) stands: behind these
 abbrev pub rankOf : List ℕ → ℕ → ℕ → ℕ
 rankOf s n at = rankMeant (n + 1) (rankAt s at)
 
 abbrev pub startCountOf : List ℕ → ℕ → ℕ → ℕ
-startCountOf s n at = startCount (startAt s at) (n + 1) (rankOf s n at) (mostAt s at)
+startCountOf s n at = startLength (startAt s at) (n + 1) (rankOf s n at) (mostAt s at)
 
 abbrev pub drawsAfter : List ℕ → ℕ → ℕ → ℕ
 drawsAfter s n at = at + 36 + startCountOf s n at * 8

@@ -1,4 +1,4 @@
--- 01's limits of a job record alone; those of (H, c) are tables' own, rank, width and draws are in run_limits.
+-- 01's limits of a job record alone; those of (H, c) are tables' own, rank, width, draws and a start's doubles are in run_limits.
 use Prim.Native.Nat.{ℕ}
 
 abbrev pub mostBytes : ℕ
@@ -10,9 +10,6 @@ lastRule = 4
 abbrev pub lastStart : ℕ
 lastStart = 2
 
--- as many doubles as any job has in a start, and in its draws
-abbrev pub mostStart : ℕ
-mostStart = 4224
-
+-- as many doubles as any job has in its draws
 abbrev pub mostDrawn : ℕ
 mostDrawn = 8192

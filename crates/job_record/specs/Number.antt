@@ -5,13 +5,12 @@ use mathlib.Core.Bool.{Bool, _&&_, not}
 use mathlib.Core.List.{List, [], _∷_, _++_}
 use lib.ListN.{length}
 use lib.Dec.{ltb, eqb}
-use lib.Ieee.{Float, le, lt}
 use Rattle.laws.specs.Refusal.{_if_, first, firstOf}
-use Rattle.ieee.specs.Floats.{zero64, one64}
 use Rattle.tables.specs.Limits.{mostWagons, mostEntries, mostMagnitude}
 use Rattle.tables.specs.Check.{badEntry, unmirrored, hallMagnitude}
 use Rattle.job_reader.specs.Bytes.{bigEndian}
 use Rattle.run_limits.specs.Limits.{mostRank, mostWidth, mostDraws}
+use Rattle.run_limits.specs.Momentum.{isMomentum}
 use Rattle.job_record.specs.Limits.{mostBytes, lastRule, lastStart}
 use Rattle.job_record.specs.Fields.{restLength, version, wagons, entryCount, entryAt, row, column, entries, signedFrom, settingsAfter, rankAt, ruleAt, ruleNumberAt, startAt, rankOf, drawsAfter}
 
@@ -38,10 +37,6 @@ versionNumber s = first (11 if past s 5 ∷ 12 if not (eqb (version s) 1) ∷ []
 -- entry k, once it is read whole
 unfoldable pub entryNumber : List ℕ → ℕ → ℕ → ℕ
 entryNumber s n k = first (11 if past s (entryAt k + 10) ∷ 14 if badEntry n (row s) (column s) k ∷ [])
-
--- momentum is finite, 0 ≤ beta < 1
-abbrev pub isMomentum : Float → Bool
-isMomentum beta = le zero64 beta && lt beta one64
 
 -- the rule's number: 18 for a momentum out of range
 unfoldable pub momentumNumber : List ℕ → ℕ → ℕ

@@ -2,19 +2,19 @@
 use crate::arrays::read_doubles;
 use crate::arrays::read_entries;
 use crate::arrays::read_signed;
-use crate::settings::start_count;
 use job_reader::fields::f64_at;
 use job_reader::fields::u8_at;
 use job_reader::fields::u16_at;
 use job_reader::fields::u32_at;
 use run_limits::rank_meant;
+use run_limits::start_length;
 ghost use mathlib.Core.Path.{_≡_};
 ghost use Prim.Native.Nat.{ℕ, _+_, _*_, _≤_, _<_};
 ghost use lib.ListN.{length};
 ghost use Rattle.laws.specs.Lists.{fill};
 ghost use Rattle.tables.specs.Limits.{mostWagons, mostEntries};
-ghost use Rattle.run_limits.specs.Limits.{mostRank};
-ghost use Rattle.job_record.specs.Limits.{mostBytes, mostStart, mostDrawn};
+ghost use Rattle.run_limits.specs.Limits.{mostRank, mostStart};
+ghost use Rattle.job_record.specs.Limits.{mostBytes, mostDrawn};
 ghost use Rattle.job_record.specs.Fields.{row, column, value};
 ghost use Rattle.job_record.specs.Number.{jobNumber};
 ghost use Rattle.job_record.specs.Values.{settingsOf, drawsOf, jobOf, jobRank, jobStartCount, jobStart, jobDrawn, jobDraw, Stored};
@@ -59,7 +59,7 @@ pub fn job_start_count(job: &[u8]) -> usize
 {
     let at = settings_at(job);
     let rank = job_rank(job);
-    start_count(
+    start_length(
         u8_at(job, at + 35),
         u8_at(job, 5) as usize + 1,
         rank,

@@ -1,4 +1,4 @@
-// The limits of a job record's fields, and as many doubles as any job has.
+// The limits of a job record's fields.
 pub const MOST_WAGONS: u64 = 127;
 
 pub const MOST_ENTRIES: u64 = 4096;
@@ -15,7 +15,5 @@ pub const LAST_START: u64 = 2;
 
 pub const MOST_DRAWS: u64 = 1000;
 
-// As many doubles as any job has in a start, and in its draws.
-pub const MOST_START: usize = 4224;
-
+// As many doubles as any job has in its draws.
 pub const MOST_DRAWN: usize = 8192;

@@ -10,16 +10,16 @@ use job_reader::fields::u8_at;
 use job_reader::fields::u16_at;
 use job_reader::fields::u32_at;
 use job_reader::read_field;
+use run_limits::is_momentum;
 use run_limits::rank_meant;
+use run_limits::start_length;
 ghost use mathlib.Core.Path.{_≡_};
-ghost use Prim.Native.Nat.{ℕ, _+_, _*_, _≤_, _<_};
-ghost use lib.ListN.{length};
+ghost use Prim.Native.Nat.{_≤_};
 ghost use Rattle.laws.specs.Refusal.{first};
-ghost use Rattle.tables.specs.Limits.{mostWagons, mostSigns};
+ghost use Rattle.tables.specs.Limits.{mostWagons};
 ghost use Rattle.run_limits.specs.Limits.{mostRank};
-ghost use Rattle.job_record.specs.Limits.{mostBytes, mostStart};
-ghost use Rattle.job_record.specs.Fields.{startCount};
-ghost use Rattle.job_record.specs.Number.{bounded, isMomentum, momentumNumber, settingsNumbers, drawsNumbers, runNumbers};
+ghost use Rattle.job_record.specs.Limits.{mostBytes};
+ghost use Rattle.job_record.specs.Number.{bounded, momentumNumber, settingsNumbers, drawsNumbers, runNumbers};
 
 // A field of so many bytes: 11 past the end, `number` above its limit.
 pub fn bounded(job: &[u8], at: usize, width: usize, most: u64, number: u8) -> u8
@@ -36,13 +36,6 @@ pub fn bounded(job: &[u8], at: usize, width: usize, most: u64, number: u8) -> u8
             0
         }
     }
-}
-
-// Whether a momentum is finite, from 0 to below 1.
-pub fn is_momentum(beta: f64) -> bool
-    ensures { λ r. ⌜ r ≡ isMomentum beta ⌝ }
-{
-    0.0 <= beta && beta < 1.0
 }
 
 // The rule's number: 18 for a momentum out of range.
@@ -97,22 +90,6 @@ fn settings_number(job: &[u8], at: usize) -> u8
     0
 }
 
-// The doubles of a start.
-pub fn start_count(kind: u8, m: usize, rank: usize, most: u32) -> usize
-    requires { ⌜ (m ≤ mostSigns) × (rank ≤ mostRank) ⌝ }
-    ensures { λ r. ⌜ (r ≡ startCount kind m rank most) × (r ≤ mostStart) ⌝ }
-{
-    if kind < 2 {
-        return m * rank;
-    }
-    if 0 < most {
-        if 1 < rank {
-            return m + m * rank;
-        }
-    }
-    m
-}
-
 // The start's doubles up to `at`, the draw count there, the draws of rank doubles each, and nothing more.
 fn draws_number(job: &[u8], at: usize, rank: usize) -> u8
     requires { ⌜ (at ≤ 1048576) × (rank ≤ mostRank) ⌝ }
@@ -149,6 +126,6 @@ pub fn run_number(job: &[u8], n: usize, at: usize) -> u8
         return settings;
     }
     let rank = rank_meant(n + 1, u8_at(job, at) as usize);
-    let count = start_count(u8_at(job, at + 35), n + 1, rank, u32_at(job, at + 10));
+    let count = start_length(u8_at(job, at + 35), n + 1, rank, u32_at(job, at + 10));
     draws_number(job, at + 36 + count * 8, rank)
 }

@@ -4,11 +4,11 @@
 --     stops       the record after the sweeps, or just opened where the most is 0, is stopped
 --     finishes    its finish
 use Prim.Native.Nat.{ℕ, zero, suc, _+_, _*_, _≤_, _<_}
-use mathlib.Core.Path.{_≡_, refl, sym, ap, _∙_}
-use mathlib.Core.Bool.{true, false, _&&_, cond}
+use mathlib.Core.Path.{_≡_, refl, ap, _∙_}
+use mathlib.Core.Bool.{true, false, cond}
 use mathlib.Core.List.{List}
 use native.Mathlib.Omega.{arith}
-use lib.Dec.{ltb, eqb}
+use lib.Dec.{ltb}
 use lib.ListN.{length}
 use lib.IntN.{ℤ, pos, natAbs}
 use lib.Ieee.{Float}
@@ -20,21 +20,22 @@ use Rattle.tables.specs.Limits.{mostWagons, mostEntries, mostMagnitude}
 use Rattle.tables.specs.Check.{hallNumber}
 use Rattle.run_record.specs.declared.Run.{Run}
 use Rattle.run_limits.specs.Limits.{mostRank, searchWorkspace}
-use Rattle.run_record.specs.Numbers.{isStopped, tableShort, tableNumber, badMomentum, sweepNumber, FinishLengths, widthRefused, finishNumber, openRankRefused, startLength}
+use Rattle.run_limits.specs.Momentum.{isMomentum}
+use Rattle.run_limits.specs.Start.{isSigns, drawsFollow, startLength}
+use Rattle.run_record.specs.Numbers.{isStopped, tableShort, tableNumber, badMomentum, sweepNumber, FinishLengths, widthRefused, finishNumber, openRankRefused}
 use Rattle.run_limits.proofs.Ranks.{meant-low, meant-some}
 use Rattle.run_sweep.specs.Work.{Work, callWork}
 use Rattle.run_sweep.specs.Sweep.{sweepsUpTo}
 use Rattle.run_sweep.specs.Running.{Running}
 use Rattle.step_rules.specs.Rule.{ruleOf}
 use Rattle.run_contract.specs.Calls.{firstStage, openSize, openRank, openRun, startFactor, openNumberOf, used}
-use Rattle.job_record.specs.Fields.{wagons, entryCount, row, column, value, mostAt, startAt}
-use Rattle.job_record.specs.Number.{jobNumber, isMomentum}
-use Rattle.job_record.specs.Values.{settingsOf, jobOf, jobCost, jobRank, jobStartCount, jobStart, jobDrawn}
+use Rattle.job_record.specs.Fields.{wagons, entryCount, row, column, value}
+use Rattle.job_record.specs.Number.{jobNumber}
+use Rattle.job_record.specs.Values.{jobOf, jobCost, jobRank, jobStartCount, jobStart, jobDrawn}
 use Rattle.job_record.proofs.Same.{order-same, mirror-same, total-same}
 use Rattle.job_record.proofs.Accepted.{fields}
 use Rattle.job_record.proofs.Halls.{hall}
 use Rattle.record_call.specs.Record.{jobCosts, jobSettings, opened, stopped}
-use Rattle.record_call.proofs.Bridge.{start-same}
 use Rattle.run_contract.proofs.Lengths.{length-start}
 use Rattle.run_contract.proofs.Accepting.{open-accepted}
 use Rattle.record_call.proofs.Stopping.{Sound, Ended, ends, sweeps-long}
@@ -118,7 +119,7 @@ module _ (s : List ℕ) (e : jobNumber s ≡ 0) where
 
   pub start-is : startLength (jobOf s .start) (jobCosts s .n + 1) (openRank (jobSettings s)) (jobOf s .most) ≡ jobStartCount s
   unfolding jobSettings jobCosts jobOf
-  start-is = sym (start-same (startAt s (settingsOf s)) (wagons s + 1) (jobRank s) (mostAt s (settingsOf s)) (fields s e .settings .start))
+  start-is = refl
 
   start-there : startLength (jobOf s .start) (jobCosts s .n + 1) (openRank (jobSettings s)) (jobOf s .most) ≤ length (tabulate (jobStart s) (jobStartCount s))
   start-there = let l = length-tabulate (jobStart s) (jobStartCount s) in omega (arith, start-is, l)
@@ -143,7 +144,7 @@ module _ (s : List ℕ) (e : jobNumber s ≡ 0) where
   start-whole =
       let o = jobSettings s in
       let ready = open-accepted o (openSize o * openRank o) (opens (openSize o * openRank o) (omega arith)) in
-      length-start (eqb (o .start) 2) (ltb 0 (o .most) && ltb 1 (openRank o)) (openRank o) (openSize o) (o .numbers) (ready .numbers-room)
+      length-start (isSigns (o .start)) (drawsFollow (o .most) (openRank o)) (openRank o) (openSize o) (o .numbers) (ready .numbers-room)
 
   -- ---- the record
 

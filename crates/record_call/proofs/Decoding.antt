@@ -28,13 +28,14 @@ use Rattle.run_contract.specs.declared.FinishResult.{FinishResult}
 use Rattle.run_contract.specs.Calls as Calls
 use Rattle.run_record.specs.Numbers.{sweepNumber, finishNumber}
 use Rattle.run_contract.specs.Calls.{Settings, openNumberOf, openSize, openRank, openRun, startFactor, used, finishResult, finishChoice, Opens, Finishes}
-use Rattle.job_record.specs.Limits.{mostStart, mostDrawn}
+use Rattle.run_limits.specs.Limits.{mostStart}
+use Rattle.job_record.specs.Limits.{mostDrawn}
 use Rattle.job_record.specs.Fields.{wagons, entryCount, row, column, value}
 use Rattle.job_record.specs.Number.{jobNumber}
 use Rattle.job_record.specs.Values.{jobOf, jobCost, jobRank, jobStartCount, jobStart, jobDrawn, jobDraw, Stored}
 use Rattle.job_record.specs.declared.job.Job.{Job}
 use Rattle.job_record.proofs.Same.{filled}
-use Rattle.job_record.proofs.Ranks.{area}
+use Rattle.job_record.proofs.Products.{area}
 use Rattle.job_record.proofs.Accepted.{fields, start-fits, drawn-fits}
 use Rattle.record_call.specs.Record.{jobCosts, jobSettings, jobDraws, opened, stopped, jobResult, jobChoice, leastWorkspace}
 use Rattle.record_call.specs.Decoded.{Decoded}

@@ -24,6 +24,7 @@ use Rattle.tables.specs.Stored as Stored
 use Rattle.tables.specs.Rank as Rank
 use Rattle.tables.specs.Rank.{defaultRank}
 use Rattle.run_limits.specs.Rank as Meant
+use Rattle.run_limits.specs.Start as Start
 use Rattle.sign_table.specs.SignTable as SignTable
 use Rattle.factor.specs.Norms as Norms
 use Rattle.factor.specs.Vectors as Vectors
@@ -44,7 +45,6 @@ use Rattle.finalize.specs.Finalize as Finalize
 use Rattle.run_contract.specs.Calls as Calls
 use Rattle.job_reader.specs.Bytes as Bytes
 use Rattle.job_reader.specs.Encode as Encode
-use Rattle.job_record.specs.Fields as Fields
 use Rattle.job_record.specs.Number as Number
 use Rattle.job_record.specs.Values as Values
 use Rattle.job_record.proofs.Examples.{example}
@@ -103,7 +103,7 @@ unfolding example empty third
     Record.jobCosts Record.jobSettings Record.jobDraws Record.opened Record.stopped Record.jobResult Record.jobChoice Record.answerOf
     Bytes.bigEndian Encode.bytesOf Answer.frameBytes Answer.countBytes Answer.floatBytes Answer.eighthBytes Answer.answerBytes
     Number.jobNumber Number.headNumbers Number.entriesNumbers Number.costsNumbers Number.runNumbers Number.settingsNumbers Number.drawsNumbers Number.frameNumber Number.versionNumber
-    Number.bounded Number.entryNumber Number.momentumNumber Meant.rankMeant Fields.startCount Values.settingsOf Values.drawsOf Values.jobOf
+    Number.bounded Number.entryNumber Number.momentumNumber Meant.rankMeant Start.startLength Values.settingsOf Values.drawsOf Values.jobOf
     Refusal.orElse Refusal.first Refusal.firstOf Refusal.anyOf Check.before Check.badEntry Check.unmirrored Sum.total Rank.rootFrom Rank.leastRoot Rank.defaultRank
     Calls.startFactor Calls.firstStage Calls.openRun Calls.finishResult Sweep.sweepsUpTo
     Initialize.withSigns Initialize.startSigns Objective.objOf Oracle.workObjective Vectors.multiplied Vectors.projected

@@ -1,4 +1,3 @@
-pub mod Bridge
 pub mod Stopping
 pub mod Unrefused
 pub mod Accepted

@@ -15,9 +15,10 @@ use Rattle.run_record.specs.declared.Run.{Run}
 use Rattle.run_record.specs.CostTable.{CostTable}
 use Rattle.run_limits.specs.Limits.{mostRank, mostWidth, mostDraws, searchWorkspace}
 use Rattle.run_limits.specs.Rank.{rankMeant}
-use Rattle.run_record.specs.Numbers.{isStopped, tableShort, factorShort, recordRefused, tableNumber, badBeta, badMomentum, sweepShort, sweepNumber, drawsRefused, drawsShort, choiceShort, FinishLengths, finishShort, widthRefused, finishNumber, openRankRefused, startLength, startShort, openFactorShort, openShort, ruleRefused, openNumber}
+use Rattle.run_limits.specs.Momentum.{isMomentum}
+use Rattle.run_limits.specs.Start.{startLength}
+use Rattle.run_record.specs.Numbers.{isStopped, tableShort, factorShort, recordRefused, tableNumber, badMomentum, sweepShort, sweepNumber, drawsRefused, drawsShort, choiceShort, FinishLengths, finishShort, widthRefused, finishNumber, openRankRefused, startShort, openFactorShort, openShort, ruleRefused, openNumber}
 use Rattle.step_rules.specs.Rule.{ruleOf}
-use Rattle.job_record.specs.Number.{isMomentum}
 
 -- a slice that is long enough, whatever its length rests on
 long : (refused : Bool) (needed lent : ℕ) → needed ≤ lent → short refused needed lent ≡ false
@@ -45,7 +46,7 @@ pub rule-passes : (code : ℕ) (number : Float) → code ≤ 4 → (code ≡ 4 �
 unfolding ruleRefused
 rule-passes code number h m =
     or-none (ltb 4 code) _ (le-ltb 4 code h)
-    (and-none (eqb code 4) (badBeta number) (λ four bad. let no : true ≡ false = sym bad ∙ ap not (m (eqb-true code 4 four)) in let z : _≡_ {A = ℕ} 0 1 = cc in omega arith))
+    (and-none (eqb code 4) (not (isMomentum number)) (λ four bad. let no : true ≡ false = sym bad ∙ ap not (m (eqb-true code 4 four)) in let z : _≡_ {A = ℕ} 0 1 = cc in omega arith))
 
 pub momentum-passes : (code : ℕ) (number : Float) → code ≤ 4 → (code ≡ 4 → isMomentum number ≡ true) → badMomentum (ruleOf code number) ≡ false
 momentum-passes zero number h m = refl

@@ -1,7 +1,7 @@
 -- What holds where a call is accepted: the table is a hall in slices that hold it, and every other slice is long enough. Assumes nothing.
 use Prim.Native.Nat.{ℕ, _+_, _*_, _≤_, _<_}
-use mathlib.Core.Path.{_≡_, refl, sym, ap}
-use mathlib.Core.Bool.{Bool, true, false, not, _&&_, _||_, cond}
+use mathlib.Core.Path.{_≡_, sym, ap}
+use mathlib.Core.Bool.{Bool, true, false, not, _&&_, _||_}
 use native.Mathlib.Numerals.{add-one}
 use native.Mathlib.Omega.{arith}
 use borrow.Author.Tests.{ltb-false, le-ltb, eqb-true, eqb-false, not-false}
@@ -13,11 +13,11 @@ use Rattle.tables.specs.Limits.{mostWagons, mostEntries, mostMagnitude}
 use Rattle.tables.specs.Table.{Lent}
 use Rattle.tables.specs.Check.{Hall}
 use Rattle.tables.proofs.Checks.{hall-accepted}
-use Rattle.initialize.specs.Initialize.{startCount}
 use Rattle.run_record.specs.declared.Run.{Run}
 use Rattle.run_record.specs.CostTable.{CostTable, quadratic, linear}
 use Rattle.run_limits.specs.Limits.{mostRank, mostWidth, mostDraws}
-use Rattle.run_record.specs.Numbers.{tableShort, factorRefused, factorShort, recordRefused, sweepShort, sweepNumber, drawsRefused, drawsShort, choiceShort, FinishLengths, finishShort, widthRefused, finishNumber, openRankRefused, startLength, startShort, openFactorShort, openShort, openNumber, ruleRefused}
+use Rattle.run_limits.specs.Start.{isSigns, drawsFollow, startCount, startLength}
+use Rattle.run_record.specs.Numbers.{tableShort, factorRefused, factorShort, recordRefused, sweepShort, sweepNumber, drawsRefused, drawsShort, choiceShort, FinishLengths, finishShort, widthRefused, finishNumber, openRankRefused, startShort, openFactorShort, openShort, openNumber, ruleRefused}
 use Rattle.run_record.proofs.Short.{tested}
 use Rattle.run_record.proofs.Holds.{table-lent, costs-lent}
 use Rattle.run_limits.proofs.Ranks.{meant-low, meant-some}
@@ -89,13 +89,8 @@ pub record Openable (o : Settings) (factor : ℕ) : Type 0 where
   pub rule-few : o .rule ≤ 4
   pub rank-some : 1 ≤ openRank o
   pub rank-few : openRank o ≤ mostRank
-  pub numbers-room : startCount (eqb (o .start) 2) (ltb 0 (o .most) && ltb 1 (openRank o)) (openRank o) (openSize o) ≤ length (o .numbers)
+  pub numbers-room : startCount (isSigns (o .start)) (drawsFollow (o .most) (openRank o)) (openRank o) (openSize o) ≤ length (o .numbers)
   pub factor-room : openSize o * openRank o ≤ factor
-
-count-is : (signs drawn : Bool) (rank m : ℕ) → cond signs (m + cond drawn (m * rank) 0) (m * rank) ≡ startCount signs drawn rank m
-count-is false drawn rank m = refl
-count-is true false rank m = omega arith
-count-is true true rank m = refl
 
 module _ (o : Settings) (factor : ℕ) where
   pub open-accepted : openNumberOf o factor ≡ 0 → Openable o factor
@@ -116,8 +111,7 @@ module _ (o : Settings) (factor : ℕ) where
         rule-few = ltb-false 4 (o .rule) (or-left (ltb 4 (o .rule)) _ rule-good);
         rank-some = meant-some (openSize o) (o .rank);
         rank-few = meant-low (openSize o) (o .rank) (omega (arith, hall .wagons)) (taken-low (o .rank) (o .start) rank-good);
-        numbers-room = rw (← (count-is (eqb (o .start) 2) (ltb 0 (o .most) && ltb 1 (openRank o)) (openRank o) (openSize o)))
-            (tested _ _ _ (any-not _ _ few (any-not _ _ rank-good (any-not _ _ kind-good any-none))) (any-head _ _ (any-rest _ _ s)));
+        numbers-room = tested _ _ _ (any-not _ _ few (any-not _ _ rank-good (any-not _ _ kind-good any-none))) (any-head _ _ (any-rest _ _ s));
         factor-room = tested _ _ _ (any-not _ _ few (any-not _ _ rank-good any-none)) (any-head _ _ (any-rest _ _ (any-rest _ _ s)));
       }
 

@@ -26,7 +26,8 @@ use Rattle.step_rules.specs.declared.StepRule.{StepRule}
 use Rattle.step_rules.specs.declared.StepRule.the-variants.{Grad, GradAdv, Coord, CoordNoStep, CoordMomentum}
 use Rattle.step_rules.specs.Steps.{gradStep, advAlpha, advBy, advStep, neighboursAt, coordBy, coordRow, coordTo}
 use Rattle.step_rules.specs.Rule.{stepped}
-use Rattle.initialize.specs.Initialize.{startRows, signBy, withSigns, startSigns, startDrawn, startBy, startCount}
+use Rattle.run_limits.specs.Start.{startCount}
+use Rattle.initialize.specs.Initialize.{startRows, signBy, withSigns, startSigns, startDrawn, startBy}
 use Rattle.finalize.specs.Finalize.{choiceOf, multipliersOf, searchedChoice}
 use Rattle.finalize.proofs.Fronts.{length-dual}
 

@@ -2,13 +2,12 @@
 use Prim.Native.Nat.{ℕ, zero, suc, _*_}
 use mathlib.Core.Path.{_≡_, refl, sym, ap, _∙_}
 use mathlib.Core.List.{List}
-use mathlib.Core.Bool.{_&&_}
 use native.Mathlib.Omega.{arith}
-use lib.Dec.{ltb, eqb}
 use lib.Ieee.{Float}
 use lib.ListN.{length, take}
 use lib.Seq.{take-at}
 use Rattle.laws.specs.Lists.{over}
+use Rattle.run_limits.specs.Start.{isSigns, drawsFollow}
 use Rattle.run_record.specs.declared.Run.{Run}
 use Rattle.run_contract.specs.declared.Opened.{Opened}
 use Rattle.run_contract.specs.declared.Opened.the-variants as O
@@ -23,7 +22,7 @@ Whole p = length (p .factor) ≡ p .size * p .rank
 
 pub open-whole : (o : Settings) (lent : ℕ) → openNumberOf o lent ≡ 0 → Whole (plainOpen o)
 unfolding plainOpen startFactor
-open-whole o lent e = length-start (eqb (o .start) 2) (ltb 0 (o .most) && ltb 1 (openRank o)) (openRank o) (openSize o) (o .numbers) (open-accepted o lent e .numbers-room)
+open-whole o lent e = length-start (isSigns (o .start)) (drawsFollow (o .most) (openRank o)) (openRank o) (openSize o) (o .numbers) (open-accepted o lent e .numbers-room)
 
 open-front : (o : Settings) (lent : ℕ) (factor : List Float) → openNumberOf o lent ≡ 0 → take (plainOpen o .size * plainOpen o .rank) (over (startFactor o) factor) ≡ plainOpen o .factor
 unfolding plainOpen

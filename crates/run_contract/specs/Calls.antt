@@ -1,9 +1,9 @@
 -- What the three calls of a run promise (01, "Run"): the predicates that their `ensures` cite, and that the theorem on lists takes as its steps.
 use Prim.Native.Nat.{ℕ, _+_, _*_, _≤_}
 use mathlib.Core.Path.{_≡_}
-use mathlib.Core.Bool.{_&&_, cond}
+use mathlib.Core.Bool.{cond}
 use mathlib.Core.List.{List}
-use lib.Dec.{ltb, eqb}
+use lib.Dec.{eqb}
 use lib.Ieee.{Float}
 use lib.ListN.{length, take}
 use Rattle.laws.specs.Lists.{over}
@@ -16,6 +16,7 @@ use Rattle.run_record.specs.declared.Stage.the-variants.{Open, Stopped}
 use Rattle.run_record.specs.declared.Run.{Run}
 use Rattle.run_record.specs.CostTable.{CostTable, quadratic, linear}
 use Rattle.run_limits.specs.Rank.{rankMeant}
+use Rattle.run_limits.specs.Start.{isSigns, drawsFollow}
 use Rattle.run_record.specs.Numbers.{openNumber, sweepNumber, FinishLengths, finishNumber}
 use Rattle.run_sweep.specs.Work.{signsOf, callWork}
 use Rattle.run_sweep.specs.Sweep.{State, sweepsUpTo}
@@ -77,9 +78,9 @@ openSize o = o .table .n + 1
 abbrev pub openRank : Settings → ℕ
 openRank o = rankMeant (openSize o) (o .rank)
 
--- the start's factor: kind 2 is signs, and draws follow them where there are sweeps and the rank is above 1
+-- the start's factor, by its kind and by whether draws follow
 unfoldable pub startFactor : Settings → List Float
-startFactor o = startBy (eqb (o .start) 2) (ltb 0 (o .most) && ltb 1 (openRank o)) (openRank o) (openSize o) (o .numbers)
+startFactor o = startBy (isSigns (o .start)) (drawsFollow (o .most) (openRank o)) (openRank o) (openSize o) (o .numbers)
 
 -- the record of a run just opened
 unfoldable pub openRun : Settings → Run

@@ -1,2 +1,4 @@
 pub mod Limits
 pub mod Rank
+pub mod Momentum
+pub mod Start

@@ -13,3 +13,7 @@ mostDraws = 1000
 -- the workspace of a search, and so of a finish and of the record call: a level, as many choices as there are signs or places, a byte a sign
 abbrev pub searchWorkspace : ℕ
 searchWorkspace = 16384
+
+-- as many numbers as any start takes: a sign and 32 draws for each of 128
+abbrev pub mostStart : ℕ
+mostStart = 4224

@@ -1,10 +1,12 @@
 // 01's limits of a run, a search and a finish, and the bytes of workspace that a call asks; those of a table are `tables::limits`. And
-// the rank that a given one means.
+// what jobs, runs and direct calls mean alike: the rank that a given one means, momentum, the numbers that a start takes.
 ghost use mathlib.Core.Path.{_≡_};
 ghost use Prim.Native.Nat.{_≤_};
 ghost use Rattle.tables.specs.Limits.{mostSigns};
-ghost use Rattle.run_limits.specs.Limits.{mostRank};
+ghost use Rattle.run_limits.specs.Limits.{mostRank, mostStart};
 ghost use Rattle.run_limits.specs.Rank.{rankMeant};
+ghost use Rattle.run_limits.specs.Momentum.{isMomentum};
+ghost use Rattle.run_limits.specs.Start.{drawsFollow, startLength};
 use tables::rank::default_sdp_rank;
 
 pub const MOST_RANK: usize = 32;
@@ -16,6 +18,9 @@ pub const MOST_DRAWS: usize = 1000;
 // The workspace of a search, and so of a finish and of the record call: a level, as many choices as there are signs or places, a byte a sign.
 pub const SEARCH_WORKSPACE: usize = 16384;
 
+// As many numbers as any start takes.
+pub const MOST_START: usize = 4224;
+
 // The rank as given; 0 means the default rank of m signs.
 pub fn rank_meant(m: usize, rank: usize) -> usize
     requires { ⌜ (rank ≡ 0 → m ≤ mostSigns) × (rank ≤ mostRank) ⌝ }
@@ -25,4 +30,32 @@ pub fn rank_meant(m: usize, rank: usize) -> usize
         return default_sdp_rank(m as u16) as usize;
     }
     rank
+}
+
+// Whether a momentum is finite, from 0 to below 1.
+pub fn is_momentum(beta: f64) -> bool
+    ensures { λ r. ⌜ r ≡ isMomentum beta ⌝ }
+{
+    0.0 <= beta && beta < 1.0
+}
+
+// Whether draws follow a start's signs.
+pub fn draws_follow(most: u32, rank: usize) -> bool
+    ensures { λ r. ⌜ r ≡ drawsFollow most rank ⌝ }
+{
+    if 0 < most { 1 < rank } else { false }
+}
+
+// How many numbers a start takes.
+pub fn start_length(kind: u8, m: usize, rank: usize, most: u32) -> usize
+    requires { ⌜ (m ≤ mostSigns) × (rank ≤ mostRank) ⌝ }
+    ensures { λ r. ⌜ (r ≡ startLength kind m rank most) × (r ≤ mostStart) ⌝ }
+{
+    if kind != 2 {
+        return m * rank;
+    }
+    if draws_follow(most, rank) {
+        return m + m * rank;
+    }
+    m
 }

@@ -1,21 +1,22 @@
 -- The refusal numbers of open, sweep and finish: for each call the first of its numbers, in 01's order, whose condition holds. Assumes nothing.
 use Prim.Native.Nat.{ℕ, _+_, _*_}
-use mathlib.Core.Bool.{Bool, true, false, not, _&&_, _||_, cond}
+use mathlib.Core.Bool.{Bool, true, false, not, _&&_, _||_}
 use mathlib.Core.List.{List, [], _∷_}
 use lib.ListN.{length}
 use lib.Dec.{ltb, eqb}
-use lib.Ieee.{Float, le, lt}
+use lib.Ieee.{Float}
 use Rattle.step_rules.specs.declared.StepRule.{StepRule}
 use Rattle.step_rules.specs.declared.StepRule.the-variants.{Grad, GradAdv, Coord, CoordNoStep, CoordMomentum}
 use Rattle.run_record.specs.declared.Stage.{Stage}
 use Rattle.run_record.specs.declared.Stage.the-variants.{Open, Stopped}
 use Rattle.run_record.specs.declared.Run.{Run}
 use Rattle.laws.specs.Refusal.{first, _if_, anyOf, short}
-use Rattle.ieee.specs.Floats.{zero64, one64}
 use Rattle.tables.specs.Limits.{mostWagons, mostEntries, mostMagnitude}
 use Rattle.tables.specs.Check.{hallNumber, shortTable}
 use Rattle.run_limits.specs.Limits.{mostRank, mostWidth, mostDraws, searchWorkspace}
 use Rattle.run_limits.specs.Rank.{rankMeant}
+use Rattle.run_limits.specs.Momentum.{isMomentum}
+use Rattle.run_limits.specs.Start.{startLength}
 use Rattle.run_record.specs.CostTable.{CostTable, quadratic, linear}
 
 abbrev pub isStopped : Stage → Bool
@@ -54,16 +55,13 @@ recordRefused run n =
 abbrev pub tableNumber : CostTable → ℕ
 tableNumber t = hallNumber mostWagons mostEntries mostMagnitude (t .n) (quadratic t) (linear t)
 
--- 18: momentum is finite, 0 ≤ beta < 1; a NaN is in no order
-abbrev pub badBeta : Float → Bool
-badBeta beta = not (le zero64 beta && lt beta one64)
-
+-- 18 of a record's rule: only rule 4 has a momentum
 abbrev pub badMomentum : StepRule → Bool
 badMomentum (Grad step) = false
 badMomentum (GradAdv step) = false
 badMomentum (Coord step) = false
 badMomentum CoordNoStep = false
-badMomentum (CoordMomentum beta) = badBeta beta
+badMomentum (CoordMomentum beta) = not (isMomentum beta)
 
 -- the sweep call, lent so many numbers of factor; it is lent no workspace
 unfoldable pub sweepShort : Run → CostTable → ℕ → Bool
@@ -126,11 +124,6 @@ finishNumber run t width drawCount lent =
 unfoldable pub openRankRefused : ℕ → ℕ → Bool
 openRankRefused rank start = ltb mostRank rank || (eqb rank 0 && eqb start 1)
 
--- kinds 0 and 1: m·rank; kind 2: m signs, then m·rank draws if most > 0 and rank > 1
-unfoldable pub startLength : ℕ → ℕ → ℕ → ℕ → ℕ
-startLength start m rank most =
-    cond (eqb start 2) (m + cond (ltb 0 most && ltb 1 rank) (m * rank) 0) (m * rank)
-
 unfoldable pub startShort : ℕ → ℕ → ℕ → ℕ → ℕ → Bool
 startShort n rank most start numbers =
     short (anyOf (ltb mostWagons n ∷ openRankRefused rank start ∷ ltb 2 start ∷ [])) (startLength start (n + 1) (rankMeant (n + 1) rank) most) numbers
@@ -144,7 +137,7 @@ openShort t rank most start numbers factor =
 
 -- 18 of a rule's code with its number
 unfoldable pub ruleRefused : ℕ → Float → Bool
-ruleRefused rule number = ltb 4 rule || (eqb rule 4 && badBeta number)
+ruleRefused rule number = ltb 4 rule || (eqb rule 4 && not (isMomentum number))
 
 unfoldable pub openNumber : CostTable → ℕ → ℕ → Float → ℕ → ℕ → ℕ → ℕ → ℕ
 openNumber t rank rule number most start numbers factor =

@@ -1,15 +1,14 @@
 // 31: which of a call's slices is too short. A length that rests on a refused number isn't tested.
 ghost use mathlib.Core.Path.{_≡_};
-ghost use Prim.Native.Nat.{ℕ, _≤_, _+_};
-ghost use Rattle.laws.specs.Refusal.{short};
 ghost use Rattle.run_record.specs.CostTable.{costTable};
 ghost use Rattle.run_record.specs.Lengths.{lengthsOf};
-ghost use Rattle.run_record.specs.Numbers.{tableShort, factorShort, sweepShort, drawsShort, choiceShort, finishShort, openRankRefused, startLength, startShort, openFactorShort, openShort};
+ghost use Rattle.run_record.specs.Numbers.{tableShort, factorShort, sweepShort, drawsShort, choiceShort, finishShort, openRankRefused, startShort, openFactorShort, openShort};
 use super::Run;
 use run_limits::SEARCH_WORKSPACE;
 use run_limits::MOST_DRAWS;
 use run_limits::MOST_RANK;
 use run_limits::rank_meant;
+use run_limits::start_length;
 use tables::check::short_table;
 use tables::check::too_short;
 use tables::limits;
@@ -140,22 +139,6 @@ pub fn open_rank_refused(rank: usize, start: u8) -> bool
         return true;
     }
     if rank == 0 { start == 1 } else { false }
-}
-
-// How many numbers a start takes.
-pub fn start_length(start: u8, m: usize, rank: usize, most: u32) -> usize
-    requires { ⌜ (m ≤ 128) × (rank ≤ 32) ⌝ }
-    ensures { λ r. ⌜ r ≡ startLength start m rank most ⌝ }
-{
-    if start == 2 {
-        if 0 < most {
-            if 1 < rank { m + m * rank } else { m }
-        } else {
-            m
-        }
-    } else {
-        m * rank
-    }
 }
 
 // 31 of the start's numbers.

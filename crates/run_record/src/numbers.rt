@@ -3,7 +3,7 @@ ghost use mathlib.Core.Path.{_≡_};
 ghost use mathlib.Core.Bool.{false};
 ghost use Rattle.run_record.specs.CostTable.{costTable};
 ghost use Rattle.run_record.specs.Lengths.{lengthsOf};
-ghost use Rattle.run_record.specs.Numbers.{tableShort, recordRefused, tableNumber, badBeta, badMomentum, sweepNumber, drawsRefused, widthRefused, finishNumber, ruleRefused, openNumber};
+ghost use Rattle.run_record.specs.Numbers.{tableShort, recordRefused, tableNumber, badMomentum, sweepNumber, drawsRefused, widthRefused, finishNumber, ruleRefused, openNumber};
 use super::is_stopped;
 use super::lengths::finish_short;
 use super::lengths::open_rank_refused;
@@ -15,6 +15,7 @@ use super::Run;
 use run_limits::MOST_DRAWS;
 use run_limits::MOST_RANK;
 use run_limits::MOST_WIDTH;
+use run_limits::is_momentum;
 use step_rules::StepRule;
 use tables::limits;
 
@@ -56,14 +57,7 @@ fn table_number(n: usize, count: usize, rows: &[u16], cols: &[u16], values: &[i6
     tables::check::hall_number(limits::MOST_WAGONS, limits::MOST_ENTRIES, limits::MOST_MAGNITUDE, n, count, rows, cols, values, c)
 }
 
-// Whether a momentum is not finite, from 0 to below 1.
-fn bad_beta(beta: f64) -> bool
-    ensures { λ r. ⌜ r ≡ badBeta beta ⌝ }
-{
-    if 0.0 <= beta { !(beta < 1.0) } else { true }
-}
-
-// The same of a rule: only rule 4 has one.
+// Whether 18 refuses a record's rule: only rule 4 has a momentum.
 fn bad_momentum(rule: StepRule) -> bool
     ensures { λ r. ⌜ r ≡ badMomentum rule ⌝ }
 {
@@ -72,7 +66,7 @@ fn bad_momentum(rule: StepRule) -> bool
         StepRule::GradAdv(_) => false,
         StepRule::Coord(_) => false,
         StepRule::CoordNoStep => false,
-        StepRule::CoordMomentum(beta) => bad_beta(beta),
+        StepRule::CoordMomentum(beta) => !is_momentum(beta),
     }
 }
 
@@ -176,7 +170,7 @@ fn rule_refused(rule: u8, number: f64) -> bool
     if 4 < rule {
         return true;
     }
-    if rule == 4 { bad_beta(number) } else { false }
+    if rule == 4 { !is_momentum(number) } else { false }
 }
 
 // The number that an open answers.

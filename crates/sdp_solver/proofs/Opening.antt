@@ -1,15 +1,15 @@
 -- An accepted open's record and factor, put together from what its parts gave. Assumes nothing.
 use Prim.Native.Nat.{ℕ, _*_}
-use mathlib.Core.Bool.{Bool, _&&_}
+use mathlib.Core.Bool.{Bool}
 use mathlib.Core.List.{List}
-use mathlib.Core.Path.{_≡_, refl, sym, ap, _∙_}
-use lib.Dec.{ltb, eqb}
+use mathlib.Core.Path.{_≡_, refl, ap, _∙_}
 use lib.Ieee.{Float}
 use lib.ListN.{length, take}
 use lib.Seq.{take-at}
 use Rattle.laws.specs.Lists.{over}
 use Rattle.step_rules.specs.declared.StepRule.{StepRule}
 use Rattle.step_rules.specs.Rule.{ruleOf}
+use Rattle.run_limits.specs.Start.{isSigns, drawsFollow}
 use Rattle.initialize.specs.Initialize.{startBy, startWithin}
 use Rattle.maxcut_oracle.specs.Table.{workObjective}
 use Rattle.run_record.specs.declared.Stage.{Stage}
@@ -37,22 +37,22 @@ madeRun o rank rule last stage =
       status = 0;
     }
 
-start-is : (o : Settings) → startBy (eqb (o .start) 2) (ltb 0 (o .most) && ltb 1 (openRank o)) (openRank o) (openSize o) (o .numbers) ≡ startFactor o
+start-is : (o : Settings) → startBy (isSigns (o .start)) (drawsFollow (o .most) (openRank o)) (openRank o) (openSize o) (o .numbers) ≡ startFactor o
 unfolding startFactor
 start-is o = refl
 
 module _ (o : Settings) (factor : List Float) (ok : openNumberOf o (length factor) ≡ 0) where
   start-long : length (startFactor o) ≡ openSize o * openRank o
   unfolding startFactor
-  start-long = length-start (eqb (o .start) 2) (ltb 0 (o .most) && ltb 1 (openRank o)) (openRank o) (openSize o) (o .numbers) (open-accepted o (length factor) ok .numbers-room)
+  start-long = length-start (isSigns (o .start)) (drawsFollow (o .most) (openRank o)) (openRank o) (openSize o) (o .numbers) (open-accepted o (length factor) ok .numbers-room)
 
-  start-at : startWithin (eqb (o .start) 2) (ltb 0 (o .most) && ltb 1 (openRank o)) (openRank o) (openSize o) (o .numbers) factor ≡ over (startFactor o) factor
+  start-at : startWithin (isSigns (o .start)) (drawsFollow (o .most) (openRank o)) (openRank o) (openSize o) (o .numbers) factor ≡ over (startFactor o) factor
   unfolding startWithin
   start-at = written-over (startFactor o) factor (start-is o) (ap length (start-is o) ∙ start-long)
 
   module _ {meant : ℕ} (m : meant ≡ openRank o) where
-    pub started : {drawn : Bool} {factor′ : List Float} → drawn ≡ (ltb 0 (o .most) && ltb 1 meant)
-        → factor′ ≡ startWithin (eqb (o .start) 2) drawn meant (openSize o) (o .numbers) factor → factor′ ≡ over (startFactor o) factor
+    pub started : {drawn : Bool} {factor′ : List Float} → drawn ≡ drawsFollow (o .most) meant
+        → factor′ ≡ startWithin (isSigns (o .start)) drawn meant (openSize o) (o .numbers) factor → factor′ ≡ over (startFactor o) factor
     started d e = e ∙ rw (d, m) start-at
 
     pub opened : {rule : StepRule} {last : Float} {stage : Stage} (factor′ : List Float) → factor′ ≡ over (startFactor o) factor

@@ -4,15 +4,14 @@ use finalize::room;
 use initialize::prepare_initial_factor;
 use maxcut_oracle::objective::obj;
 use run_contract::Opened;
+use run_limits::draws_follow;
 use run_limits::rank_meant;
 use run_record::numbers::open_number;
 use run_record::Run;
 use run_record::Stage;
 use step_rules::rule_of;
 ghost use mathlib.Core.Path.{_≡_};
-ghost use mathlib.Core.Bool.{_&&_};
 ghost use Prim.Native.Nat.{_+_, _*_};
-ghost use lib.Dec.{ltb};
 ghost use lib.ListN.{length};
 ghost use Rattle.maxcut_oracle.specs.Table.{workObjective};
 ghost use Rattle.run_record.specs.CostTable.{costTable};
@@ -26,13 +25,6 @@ fn first_stage(most: u32) -> Stage
     ensures { λ r. ⌜ r ≡ firstStage most ⌝ }
 {
     if most == 0 { Stage::Stopped } else { Stage::Open }
-}
-
-// Whether a start of signs takes draws.
-fn takes_draws(most: u32, rank: usize) -> bool
-    ensures { λ r. ⌜ r ≡ (ltb 0 most && ltb 1 rank) ⌝ }
-{
-    if 0 < most { 1 < rank } else { false }
 }
 
 // The objective of the start, its diagonal left out.
@@ -93,7 +85,7 @@ pub fn open_accepted(
     let size = n + 1;
     let meant = rank_meant(size, rank);
     let used = size * meant;
-    prepare_initial_factor(start == 2, takes_draws(most, meant), numbers, meant, size, factor);
+    prepare_initial_factor(start == 2, draws_follow(most, meant), numbers, meant, size, factor);
     let last_objective = first_objective(n, count, rows, cols, values, c, meant, &factor[..used]);
     let step = rule_of(rule, number);
     let stage = first_stage(most);

@@ -18,11 +18,11 @@ u8-at-requires-2 c κs = omega (arith, fields (c .before .before .before .before
 u32-at-requires : tie.Need-u32-at-requires
 u32-at-requires c κs = omega (arith, fields (c .before .before .before .before .before .args .job .now) (c .before .before .before .before .before .pre) .settings .there, c .before .before .before .settings-at .ensures)
 
-start-count-requires : tie.Need-start-count-requires
-start-count-requires c κs = (omega (arith, fields (c .before .before .before .before .before .before .args .job .now) (c .before .before .before .before .before .before .pre) .few, c .before .u8-at2 .ensures), c .before .before .before .job-rank .ensures .1)
+start-length-requires : tie.Need-start-length-requires
+start-length-requires c κs = (omega (arith, fields (c .before .before .before .before .before .before .args .job .now) (c .before .before .before .before .before .before .pre) .few, c .before .u8-at2 .ensures), c .before .before .before .job-rank .ensures .1)
 
 returns : tie.Need-returns
-returns c = (c .start-count .ensures .0 ∙ simp (c .before .before .before .u8-at .ensures, c .before .before .u8-at2 .ensures, c .before .u32-at .ensures, c .before .before .before .before .job-rank .ensures .0, c .before .before .before .before .before .settings-at .ensures .0), c .start-count .ensures .1)
+returns c = (c .start-length .ensures .0 ∙ simp (c .before .before .before .u8-at .ensures, c .before .before .u8-at2 .ensures, c .before .u32-at .ensures, c .before .before .before .before .job-rank .ensures .0, c .before .before .before .before .before .settings-at .ensures .0), c .start-length .ensures .1)
 
 pub job-start-count-spec : {M : Type 1} → statement M
 job-start-count-spec =
@@ -37,5 +37,5 @@ job-start-count-spec =
     (λ c. search needs)
     (λ c. search needs)
     u32-at-requires
-    start-count-requires
+    start-length-requires
     returns)

@@ -6,7 +6,7 @@ use mathlib.Core.Path.{_≡_, sym, _∙_}
 use Prim.Native.Nat.{_*_, _≤_}
 use native.Mathlib.Omega.{arith}
 use Rattle.job_record.specs.Values.{jobDrawn}
-use Rattle.job_record.proofs.Ranks.{area}
+use Rattle.job_record.proofs.Products.{area}
 use Rattle.job_record.proofs.Accepted.{fields}
 
 draws-at-requires : tie.Need-draws-at-requires

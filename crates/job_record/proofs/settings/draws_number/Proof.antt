@@ -10,7 +10,7 @@ use Rattle.laws.proofs.Following.{answers, moves-on, answers-if, moves-on-if, a
 use Rattle.job_record.specs.Number.{drawsNumbers}
 use Rattle.job_record.proofs.Bounded.{bounded-passed}
 use Rattle.laws.proofs.Following.{passes-last}
-use Rattle.job_record.proofs.Ranks.{area}
+use Rattle.job_record.proofs.Products.{area}
 
 returns : tie.Need-returns
 unfolding drawsNumbers

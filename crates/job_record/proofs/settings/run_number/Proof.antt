@@ -26,22 +26,22 @@ u8-at-requires-2 c κs = let a = c .before .before .before .before .before .args
 u32-at-requires : tie.Need-u32-at-requires
 u32-at-requires c κs = let a = c .before .before .before .before .before .before .args in omega (arith, settings (a .job .now) (a .at) (sym (c .before .before .before .before .settings-number .ensures) ∙ c .before .before .before .if1 .left) .there)
 
-start-count-requires : tie.Need-start-count-requires
-start-count-requires c κs = omega (arith, c .before .before .rank-meant .ensures)
+start-length-requires : tie.Need-start-length-requires
+start-length-requires c κs = omega (arith, c .before .before .rank-meant .ensures)
 
 mul-draws-number : tie.Need-mul-draws-number
-mul-draws-number c = omega (arith, c .start-count .ensures)
+mul-draws-number c = omega (arith, c .start-length .ensures)
 
 add-draws-number-2 : tie.Need-add-draws-number-2
-add-draws-number-2 c = omega (arith, c .start-count .ensures)
+add-draws-number-2 c = omega (arith, c .start-length .ensures)
 
 draws-number-requires : tie.Need-draws-number-requires
-draws-number-requires c κs = omega (arith, c .start-count .ensures, c .before .before .before .rank-meant .ensures)
+draws-number-requires c κs = omega (arith, c .start-length .ensures, c .before .before .before .rank-meant .ensures)
 
 returns-2 : tie.Need-returns-2
 unfolding runNumbers
 returns-2 c = let a = c .before .before .before .before .before .before .before .before .before .args in
-    pass _ _ (c .before .before .before .before .before .before .before .settings-number .ensures) (c .before .before .before .before .before .before .if1 .left) (c .draws-number .ensures ∙ simp (c .before .start-count .ensures .0, c .before .before .before .before .rank-meant .ensures .0, c .before .before .u32-at .ensures, c .before .before .before .u8-at2 .ensures, c .before .before .before .before .before .u8-at .ensures))
+    pass _ _ (c .before .before .before .before .before .before .before .settings-number .ensures) (c .before .before .before .before .before .before .if1 .left) (c .draws-number .ensures ∙ simp (c .before .start-length .ensures .0, c .before .before .before .before .rank-meant .ensures .0, c .before .before .u32-at .ensures, c .before .before .before .u8-at2 .ensures, c .before .before .before .before .before .u8-at .ensures))
     ∙ sym (first-append (settingsNumbers (a .job .now) (a .at)) (drawsNumbers (a .job .now) (drawsAfter (a .job .now) (a .n) (a .at)) (rankOf (a .job .now) (a .n) (a .at))))
 
 pub run-number-spec : {M : Type 1} → statement M
@@ -59,7 +59,7 @@ run-number-spec =
     (λ c. search needs)
     (λ c. search needs)
     u32-at-requires
-    start-count-requires
+    start-length-requires
     (λ c. search needs)
     mul-draws-number
     add-draws-number-2

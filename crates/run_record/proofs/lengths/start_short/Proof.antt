@@ -29,7 +29,7 @@ start-length-requires c κs = (omega arith, c .rank-meant .ensures .1)
 
 returns-4 : tie.Need-returns-4
 unfolding startShort
-returns-4 c = rw (c .start-length .ensures, c .before .rank-meant .ensures .0) (tests _ _ _ (any-skip _ _ (le-ltb _ _ (c .before .before .before .before .before .if1 .left)) ∙ any-skip _ _ (sym (c .before .before .before .before .open-rank-refused .ensures) ∙ c .before .before .before .if2 .left) ∙ any-skip _ _ (le-ltb _ _ (c .before .before .if3 .left)) ∙ any-none))
+returns-4 c = rw (c .start-length .ensures .0, c .before .rank-meant .ensures .0) (tests _ _ _ (any-skip _ _ (le-ltb _ _ (c .before .before .before .before .before .if1 .left)) ∙ any-skip _ _ (sym (c .before .before .before .before .open-rank-refused .ensures) ∙ c .before .before .before .if2 .left) ∙ any-skip _ _ (le-ltb _ _ (c .before .before .if3 .left)) ∙ any-none))
 
 pub start-short-spec : {M : Type 1} → statement M
 start-short-spec =

@@ -1,6 +1,8 @@
 use borrow.Author.Needs.{needs}
 use Rattle.run_record.proofs.numbers.rule_refused.Statement.{statement}
 use Rattle.run_record.proofs.numbers.rule_refused.Tie as tie
+use mathlib.Core.Bool.{not}
+use mathlib.Core.Path.{ap}
 use borrow.Author.Tests.{eq-eqb, ne-eqb, lt-ltb, le-ltb}
 use Rattle.run_record.specs.Numbers.{ruleRefused}
 
@@ -10,7 +12,7 @@ returns c = simp (lt-ltb _ _ (c .if1 .taken))
 
 returns-2 : tie.Need-returns-2
 unfolding ruleRefused
-returns-2 c = simp (le-ltb _ _ (c .before .before .if1 .left), eq-eqb _ _ (c .before .if2 .taken)) (c .bad-beta .ensures)
+returns-2 c = simp (le-ltb _ _ (c .before .before .if1 .left), eq-eqb _ _ (c .before .if2 .taken)) (ap not (c .is-momentum .ensures))
 
 returns-3 : tie.Need-returns-3
 unfolding ruleRefused

@@ -39,7 +39,7 @@ long c = rw (c .rank-meant .ensures .0) (openable (c .before .before .before .be
 prepare-initial-factor-requires : tie.Need-prepare-initial-factor-requires
 prepare-initial-factor-requires c κs =
     let u = openable (c .before .before .before .before .before .before .before) in
-    (rw (c .before .takes-draws .ensures, c .before .before .rank-meant .ensures .0) (u .numbers-room), long (c .before .before), rw (c .before .before .rank-meant .ensures .0) (u .rank-some))
+    (rw (c .before .draws-follow .ensures, c .before .before .rank-meant .ensures .0) (u .numbers-room), long (c .before .before), rw (c .before .before .rank-meant .ensures .0) (u .rank-some))
 
 -- and stay there
 still-long : (c : tie.After-slice-known2) → (c .before .before .before .before .before .before .before .before .before .before .args .n + 1) * c .before .before .before .before .before .rank-meant .result ≤ length (c .before .before .prepare-initial-factor .last .1 .1 .1 .1 .1 .0)
@@ -56,7 +56,7 @@ returns c =
     let factor = now (c .before .before .before .before .before .before .before .before .before .before .before .before .before .before .args .factor) in
     let ok = c .before .before .before .before .before .before .before .before .before .before .before .before .before .before .pre in
     let meant = c .before .before .before .before .before .before .before .before .before .rank-meant .ensures .0 in
-    let new = started o factor ok meant (c .before .before .before .before .before .before .before .before .takes-draws .ensures) (c .before .before .before .before .before .before .prepare-initial-factor .ensures) in
+    let new = started o factor ok meant (c .before .before .before .before .before .before .before .before .draws-follow .ensures) (c .before .before .before .before .before .before .prepare-initial-factor .ensures) in
     record {
       numbered = sym ok;
       refused = λ n. absurd (n refl);
