@@ -33,8 +33,8 @@ use Rattle.run_record.specs.CostTable.{quadratic, linear}
 use Rattle.run_contract.specs.Calls.{finishResult}
 use Rattle.run_contract.proofs.Lengths.{length-choice}
 use Rattle.job_record.specs.Number.{jobNumber}
-use Rattle.job_record.specs.Fields.{entryCount, row, column, value}
-use Rattle.job_record.specs.Values.{jobOf, jobTable}
+use Rattle.job_record.specs.Fields.{wagons, entryCount, row, column, value}
+use Rattle.job_record.specs.Values.{jobOf, jobTable, jobCost}
 use Rattle.answer_record.specs.Answer as Read
 use Rattle.answer_record.specs.Answer.{answerBytes}
 use Rattle.record_call.specs.Record.{jobCosts, jobDraws, stopped, jobResult, jobChoice, fieldsOf, answerOf, tooShort, callNumber, answerAfter}
@@ -97,7 +97,7 @@ module _ {n : ℕ} {h : Table} {c : ℕ → ℤ} (hall : Hall mostWagons mostEnt
         few : (rounds : ℕ) (a b : ℤ) → pos (4 * rounds) ≤ℤ (a -ℤ b) → natAbs a ≤ 2 ^ 43 → natAbs b ≤ 2 ^ 43 → rounds < 2 ^ 64
         few rounds a b d x y = omega (integers, add-parts a (negℤ b), neg-⁺ b, neg-⁻ b, abs-parts a, abs-parts b)
 
--- ---- H of the promise is the record's
+-- ---- H and c of the promise are the record's
 
 module _ (s : List ℕ) where
   pub same-values : (i j : ℕ) → valueAt (quadratic (jobCosts s)) i j ≡ valueAt (jobTable s) i j
@@ -105,6 +105,10 @@ module _ (s : List ℕ) where
   same-values i j =
       sum-ext (entryCount s) _ _
       (λ k l. rw (getD-tabulate (row s) (entryCount s) k 0 l, getD-tabulate (column s) (entryCount s) k 0 l, getD-tabulate (value s) (entryCount s) k (pos 0) l))
+
+  pub same-linear : (i : ℕ) → i < wagons s → linear (jobCosts s) i ≡ jobCost s i
+  unfolding jobCosts
+  same-linear i l = getD-tabulate (jobCost s) (wagons s) i (pos 0) l
 
 -- ---- the answer of a job
 
