@@ -33,7 +33,7 @@ fn add_entry(
 }
 
 // The 16 sums, copied.
-fn copy(out: &mut [f64], sums: &[f64; 16])
+pub fn copy(out: &mut [f64], sums: &[f64; 16])
     requires { ⌜ length (now out) ≡ 16 ⌝ }
     ensures { λ _. ⌜ now (out .exit) ≡ mapFirst (λ j old. at (now (sums .entry)) j) 16 (now (out .entry)) ⌝ }
 {

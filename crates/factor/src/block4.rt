@@ -33,7 +33,7 @@ fn add_entry(
 }
 
 // The 4 sums, copied.
-fn copy(out: &mut [f64], sums: &[f64; 4])
+pub fn copy(out: &mut [f64], sums: &[f64; 4])
     requires { ⌜ length (now out) ≡ 4 ⌝ }
     ensures { λ _. ⌜ now (out .exit) ≡ mapFirst (λ j old. at (now (sums .entry)) j) 4 (now (out .entry)) ⌝ }
 {

@@ -6,8 +6,8 @@ ghost use lib.ListN.{length, getD};
 ghost use Rattle.factor.specs.Shapes.{ColumnsWithin};
 ghost use Rattle.factor.specs.Columns.{putBlock};
 ghost use Rattle.row_gradient.specs.Columns.{blockTo};
-use super::block16::copy;
 use super::block16::subtract_entry;
+use factor::block16::copy;
 
 // The sums of 16 columns from `offset` on.
 fn gradient_block(
