@@ -45,12 +45,5 @@ pub fn put_block(
     ensures { λ _. ⌜ now (g .exit) ≡ putBlock 16 offset (blockTo (now (cols .entry)) (now (values .entry)) (now (factor .entry)) vertex 16 offset 16 (length (now (cols .entry)))) (now (g .entry)) ⌝ }
 {
     let end = offset + 16;
-    gradient_block(
-        cols,
-        values,
-        factor,
-        vertex,
-        offset,
-        &mut g[offset..end],
-    );
+    gradient_block(cols, values, factor, vertex, offset, &mut g[offset..end]);
 }
