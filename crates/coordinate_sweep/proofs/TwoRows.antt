@@ -247,4 +247,4 @@ sweep-two cols values starts rank beta factor i xs ys e h =
 pub shaped-still : (cols : List ℕ) (values : List Float) (starts : List ℕ) (before now : List Float) (m rank : ℕ)
     → Shaped cols values starts before m rank → length now ≡ length before → Shaped cols values starts now m rank
 shaped-still cols values starts before now m rank s e =
-    record { paired = s .paired; started = s .started; rising = s .rising; ended = s .ended; columns = s .columns; whole = e ∙ s .whole; }
+    record { paired = s .paired; started = s .started; rising = s .rising; ended = s .ended; columns = s .columns; whole = e ∙ s .whole }

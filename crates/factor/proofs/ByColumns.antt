@@ -7,26 +7,17 @@ use mathlib.Core.List.{List}
 use Prim.Native.Nat.{ℕ, zero, suc, _+_, _*_, _<_}
 use native.Mathlib.Nat.{add-assoc}
 use native.Mathlib.Numerals.{add-one}
-use lib.Ieee.{Float, nan}
+use lib.Ieee.{Float}
 use lib.ListN.{length, getD, take, drop, replicate}
-use lib.Seq.{getD-take, getD-drop}
 use Rattle.laws.specs.Turns.{upTo}
-use Rattle.laws.specs.Rows.{mapFirst, rowOf}
+use Rattle.laws.specs.Rows.{rowOf}
 use Rattle.laws.specs.Lists.{tabulate}
-use Rattle.laws.proofs.Made.{length-tabulate, tabulate-ext, tabulate-replicate, mapFirst-tabulate}
-use Rattle.ieee.specs.Floats.{_+ᶠ_, _*ᶠ_, at, zero64}
+use Rattle.laws.proofs.Made.{length-tabulate, tabulate-ext, tabulate-replicate}
+use Rattle.ieee.specs.Floats.{_+ᶠ_, at, zero64}
 use Rattle.factor.specs.Vectors.{addScaled}
 use Rattle.factor.specs.Multiply.{productTurn, productRow}
 use Rattle.factor.specs.Columns.{columnTo, columnOf, blockTo, blockEntry}
-
--- an entry's share to sums that are made by index
-entry-tabulate : (weight : Float) (factor : List Float) (start width : ℕ) (f : ℕ → Float)
-    → blockEntry width weight (take width (drop start factor)) (tabulate f width)
-    ≡ tabulate (λ j. f j +ᶠ weight *ᶠ at factor (start + j)) width
-entry-tabulate weight factor start width f =
-    mapFirst-tabulate (λ j x. x +ᶠ weight *ᶠ at (take width (drop start factor)) j) f width nan
-    ∙ tabulate-ext (λ j. f j +ᶠ weight *ᶠ at (take width (drop start factor)) j) (λ j. f j +ᶠ weight *ᶠ at factor (start + j)) width
-    (λ j h. rw (getD-take width (drop start factor) j nan h, getD-drop start factor j nan))
+use Rattle.factor.proofs.Written.{entry-made}
 
 -- the product's entry is the block's, over all columns
 entry-block : (weight : Float) (source : List Float) (width : ℕ) (f : ℕ → Float)
@@ -45,7 +36,7 @@ module _ (cols : List ℕ) (values factor : List Float) (rank : ℕ) where
   unfolding columnTo
   block-next offset width n sums e =
       rw (e, add-one n)
-      (entry-tabulate (at values n) factor (getD cols n 0 * rank + offset) width
+      (entry-made _+ᶠ_ (at values n) factor (getD cols n 0 * rank + offset) width
       (λ j. columnTo cols values factor rank (offset + j) n)
       ∙ tabulate-ext _ _ width (λ j h. rw (add-assoc (getD cols n 0 * rank) offset j)))
 
@@ -57,7 +48,7 @@ module _ (cols : List ℕ) (values factor : List Float) (rank : ℕ) where
       rw (productTo-columns n)
       (entry-block (at values n) (rowOf rank factor (getD cols n 0)) rank
       (λ j. columnTo cols values factor rank j n)
-      ∙ entry-tabulate (at values n) factor (getD cols n 0 * rank) rank
+      ∙ entry-made _+ᶠ_ (at values n) factor (getD cols n 0 * rank) rank
       (λ j. columnTo cols values factor rank j n))
 
   pub product-columns : productRow cols values factor rank ≡ tabulate (columnOf cols values factor rank) rank

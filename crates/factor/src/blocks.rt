@@ -26,13 +26,7 @@ fn put_blocks16(cols: &[u16], values: &[f64], factor: &[f64], g: &mut [f64]) -> 
 }
 
 // As many whole blocks of 4 columns as there are from `first` on; the first column that is left.
-fn put_blocks4(
-    cols: &[u16],
-    values: &[f64],
-    factor: &[f64],
-    first: usize,
-    g: &mut [f64],
-) -> usize
+fn put_blocks4(cols: &[u16], values: &[f64], factor: &[f64], first: usize, g: &mut [f64]) -> usize
     requires { ⌜ (first ≤ length (now g)) × (length (now cols) ≡ length (now values)) ⌝ }
     requires { ⌜ ColumnsWithin (now cols) (length (now g)) (now factor) ⌝ }
     requires { ⌜ take first (now g) ≡ tabulate (columnOf (now cols) (now values) (now factor) (length (now g))) first ⌝ }
@@ -49,13 +43,7 @@ fn put_blocks4(
 
 // The last columns, fewer than 4: one by itself; two or three by a last block of 4 columns, which goes over some once more:
 // their sums are the same.
-fn put_rest(
-    cols: &[u16],
-    values: &[f64],
-    factor: &[f64],
-    first: usize,
-    g: &mut [f64],
-)
+fn put_rest(cols: &[u16], values: &[f64], factor: &[f64], first: usize, g: &mut [f64])
     requires { ⌜ (4 ≤ length (now g)) × (first ≤ length (now g)) × (length (now g) < first + 4) × (length (now cols) ≡ length (now values)) ⌝ }
     requires { ⌜ ColumnsWithin (now cols) (length (now g)) (now factor) ⌝ }
     requires { ⌜ take first (now g) ≡ tabulate (columnOf (now cols) (now values) (now factor) (length (now g))) first ⌝ }

@@ -3,21 +3,21 @@
 --     works           all figures of a sign table
 --     finalizes       they are those of (H, c)
 --     cut             the sign table of (H, c) stands at the front of the slices that it was written to
-use Prim.Native.Nat.{ℕ, zero, suc, _+_, _*_, _≤_, _<_}
+use Prim.Native.Nat.{ℕ, zero, suc, _+_, _*_, _≤_}
 use native.Mathlib.Numerals.{add-one}
 use native.Mathlib.Omega.{arith}
-use mathlib.Core.List.{List, _++_}
+use mathlib.Core.List.{List}
 use mathlib.Core.Path.{_≡_, refl, sym, ap, subst, subst₂, _∙_}
 use lib.IntN.{ℤ}
 use lib.Ieee.{Float}
-use lib.ListN.{length, take, drop, length-map}
+use lib.ListN.{length, take, length-map}
 use lib.Seq.{sets, sets-eq, take-at, length-take-le}
 use mir.Syntax.{w64}
 use mir.Val.{toZ, ofZ}
 use mir.Facts.{toZ-ofZ}
 use Rattle.laws.specs.Lists.{over, fill, tabulate}
 use Rattle.laws.proofs.MapFirst.{fill-none, fill-more}
-use Rattle.laws.proofs.Made.{tabulate-next, length-tabulate}
+use Rattle.laws.proofs.Made.{tabulate-next}
 use Rattle.tables.specs.Limits.{mostWagons, mostEntries, mostMagnitude, mostSigns, mostSignEntries, mostSignMagnitude}
 use Rattle.tables.specs.Table.{Table, tableOf, Lent, floorOf}
 use Rattle.tables.specs.Check.{Hall, Accepted}

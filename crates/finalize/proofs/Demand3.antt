@@ -4,17 +4,17 @@
 --     search-ends     the search's levels end with an empty one, and the search is over exactly these
 --     unsearched      with width 0 the rounded choice stands, rounds 0
 -- Assumes nothing.
-use Prim.Native.Nat.{ℕ, zero, suc, _+_, _-_, _*_, _≤_, _<_}
+use Prim.Native.Nat.{ℕ, zero, suc, _-_, _*_, _≤_, _<_}
 use native.Mathlib.Decide.{ℕ-discrete}
 use native.Mathlib.Omega.{arith}
 use borrow.Author.Tests.{eq-eqb, ne-eqb}
 use mathlib.Core.Bool.{Bool, true, false, cond}
 use mathlib.Core.List.{List}
-use mathlib.Core.Path.{_≡_, refl, sym, ap, _∙_, subst, subst₂}
+use mathlib.Core.Path.{_≡_, refl, sym, ap, _∙_, subst₂}
 use lib.Dec.{eqb}
 use lib.IntN.{ℤ, pos, negℤ, _+ℤ_, _-ℤ_}
 use lib.Ieee.{Float}
-use lib.ListN.{length, getD, take, List·getD-append}
+use lib.ListN.{length, take, List·getD-append}
 use lib.Seq.{take-at}
 use lib.Signed.{_≤ℤ_}
 use Rattle.laws.specs.Lists.{elem, over, tabulate}

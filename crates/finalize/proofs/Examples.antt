@@ -3,7 +3,7 @@ use Prim.Native.Nat.{ℕ}
 use mathlib.Core.List.{List, [], _∷_, map}
 use mathlib.Core.Path.{_≡_, refl}
 use lib.IntN.{ℤ, pos, negsuc}
-use lib.Ieee.{Float, binary64, ofBits, toBits, ofInt, add, sub, mul, div, neg, lt}
+use lib.Ieee.{Float, ofBits, toBits, ofInt, add, sub, mul, div, neg, lt}
 use Rattle.laws.specs.Sum as Sum
 use Rattle.laws.specs.Lists as Lists
 use Rattle.laws.specs.Lists.{elemZ}

@@ -4,7 +4,7 @@ use rounding::compute_rounded_sol;
 use sign_search::search::search_signs;
 use tables::objective::qubo_binary_from_sign_solution;
 ghost use mathlib.Core.Path.{_≡_};
-ghost use Prim.Native.Nat.{suc, _*_, _≤_};
+ghost use Prim.Native.Nat.{suc, _≤_};
 ghost use lib.ListN.{length};
 ghost use Rattle.tables.specs.Table.{tableOf, Lent};
 ghost use Rattle.tables.specs.Check.{Accepted};

@@ -47,7 +47,13 @@ pub extern "C" fn host_project(factor: &mut [f64], rank: usize, m: usize)
 }
 
 #[no_mangle]
-pub extern "C" fn host_obj(rows: &[u16], cols: &[u16], values: &[f64], factor: &[f64], rank: usize) -> f64
+pub extern "C" fn host_obj(
+    rows: &[u16],
+    cols: &[u16],
+    values: &[f64],
+    factor: &[f64],
+    rank: usize,
+) -> f64
     requires { ⌜ (length (now rows) ≡ length (now cols)) × (length (now rows) ≡ length (now values)) ⌝ }
     requires { ⌜ ColumnsWithin (now rows) rank (now factor) ⌝ }
     requires { ⌜ ColumnsWithin (now cols) rank (now factor) ⌝ }
@@ -57,7 +63,13 @@ pub extern "C" fn host_obj(rows: &[u16], cols: &[u16], values: &[f64], factor: &
 }
 
 #[no_mangle]
-pub extern "C" fn host_dual(product: &[f64], factor: &[f64], rank: usize, m: usize, dual: &mut [f64])
+pub extern "C" fn host_dual(
+    product: &[f64],
+    factor: &[f64],
+    rank: usize,
+    m: usize,
+    dual: &mut [f64],
+)
     requires { ⌜ (m * rank ≤ length (now product)) × (m * rank ≤ length (now factor)) ⌝ }
     requires { ⌜ length (now dual) ≡ m ⌝ }
     ensures { λ _. ⌜ now (dual .exit) ≡ multipliers (now (product .entry)) (now (factor .entry)) rank m ⌝ }
@@ -74,7 +86,13 @@ pub extern "C" fn host_obj_from_qv(product: &[f64], factor: &[f64], rank: usize,
 }
 
 #[no_mangle]
-pub extern "C" fn host_residual(product: &[f64], factor: &[f64], dual: &[f64], rank: usize, m: usize) -> f64
+pub extern "C" fn host_residual(
+    product: &[f64],
+    factor: &[f64],
+    dual: &[f64],
+    rank: usize,
+    m: usize,
+) -> f64
     requires { ⌜ (m * rank ≤ length (now product)) × (m * rank ≤ length (now factor)) × (m ≤ length (now dual)) ⌝ }
     ensures { λ r. ⌜ r ≡ residualOf (now (product .entry)) (now (factor .entry)) (now (dual .entry)) rank m ⌝ }
 {
@@ -105,7 +123,13 @@ pub extern "C" fn host_start_signs(signs: &[f64], rank: usize, m: usize, factor:
 }
 
 #[no_mangle]
-pub extern "C" fn host_start_drawn(signs: &[f64], draws: &[f64], rank: usize, m: usize, factor: &mut [f64])
+pub extern "C" fn host_start_drawn(
+    signs: &[f64],
+    draws: &[f64],
+    rank: usize,
+    m: usize,
+    factor: &mut [f64],
+)
     requires { ⌜ (m ≤ length (now signs)) × (length (now factor) ≡ m * rank) × (1 ≤ rank) ⌝ }
     requires { ⌜ m * rank ≤ length (now draws) ⌝ }
     ensures { λ _. ⌜ now (factor .exit) ≡ startDrawn rank m (now (signs .entry)) (now (draws .entry)) ⌝ }

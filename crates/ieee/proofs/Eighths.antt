@@ -4,11 +4,11 @@ use mathlib.Core.Path.{_≡_, refl, sym, ap, _∙_, subst}
 use mathlib.Core.Logic.{_⊎_, inl, inr, ⊎-elim}
 use mathlib.Core.Bool.{Bool, true, false, not, cond, _&&_, Bool·beq}
 use Prim.Native.Nat.{ℕ, zero, suc, zero-le, _+_, _-_, _*_, _^_, _≤_, _<_}
-use native.Mathlib.Nat.{not-le-of-lt, le-trans, le-of-eq, eq-or-lt-of-le, mul-comm, mul-assoc, mul-one, mul-right-comm, mul-pos, add-mul, mul-sub, mul-lt-mul-of-pos-right, lt-of-mul-lt-mul-right, le-of-mul-le-mul-right, mul-le-mul-right, lt-of-lt-of-le}
+use native.Mathlib.Nat.{not-le-of-lt, le-trans, le-of-eq, eq-or-lt-of-le, mul-comm, mul-assoc, mul-right-comm, mul-pos, add-mul, mul-sub, mul-lt-mul-of-pos-right, lt-of-mul-lt-mul-right, lt-of-lt-of-le}
 use native.Mathlib.Omega.{arith}
 use borrow.Author.Tests.{lt-ltb, le-ltb}
-use lib.Dec.{T, ltb, eqb, lit<, lit≤}
-use lib.Pow.{pow-add, pow-pos, pow-lt, pow-mono}
+use lib.Dec.{ltb, lit<}
+use lib.Pow.{pow-add, pow-pos, pow-mono}
 use lib.IntN.{ℤ, pos, negsuc, natAbs, subℕ, _+ℤ_, _-ℤ_, +ℤ-idr}
 use lib.Ieee.{Float, nan, inf, fin, binary64, unlike, up, down, ofBits, ofInt, round, units, odd, sum, add, neg, div}
 use lib.Ieee.Fits.{down-pos, round-is}

@@ -1,10 +1,10 @@
 -- The root where it is no number above 0 (01, "Roots, rows, rules"): NaN, the infinities, the zeros, what is below 0. Assumes nothing.
 use mathlib.Core.Path.{_≡_, refl}
-use Prim.Native.Nat.{ℕ, zero, suc}
+use Prim.Native.Nat.{ℕ, suc}
 use mathlib.Core.Bool.{true, false}
 use lib.Dec.{eqb·suc-zero}
 use lib.IntN.{ℤ, pos}
-use lib.Ieee.{Float, nan, inf, fin}
+use lib.Ieee.{nan, inf, fin}
 use Rattle.ieee.specs.Sqrt.{sqrtOf}
 
 pub sqrt-nan : sqrtOf nan ≡ nan

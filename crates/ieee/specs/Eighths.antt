@@ -1,5 +1,4 @@
 -- What the double of so many eighths is worth, said by whole numbers. Definitions only.
-use Prim.Native.Nat.{ℕ}
 use mathlib.Core.Bool.{Bool, true, false}
 use lib.IntN.{ℤ, pos, negsuc, natAbs}
 use lib.Ieee.{Float}

@@ -2,7 +2,7 @@
 // subnormals, the root's digits.
 ghost use mathlib.Core.Path.{_≡_};
 ghost use mathlib.Core.Bool.{true, not};
-ghost use Prim.Native.Nat.{_<_, _≤_, _^_};
+ghost use Prim.Native.Nat.{_<_, _^_};
 ghost use lib.Dec.{T};
 ghost use lib.Ieee.{binary64, ofBits, nanBits};
 ghost use Rattle.ieee.specs.Sqrt.{sqrtOf, NearRoot};

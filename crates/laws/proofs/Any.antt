@@ -41,13 +41,6 @@ unfolding anyOf
 any-last true = refl
 any-last false = refl
 
-pub or-here : (a b : Bool) → a ≡ true → (a || b) ≡ true
-or-here a b e = rw e
-
-pub or-there : (a b : Bool) → b ≡ true → (a || b) ≡ true
-or-there true b e = refl
-or-there false b e = e
-
 pub or-none : (a b : Bool) → a ≡ false → b ≡ false → (a || b) ≡ false
 or-none a b e f = rw e f
 

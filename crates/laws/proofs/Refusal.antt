@@ -1,6 +1,6 @@
 -- A row of refusals, followed test by test, and what holds where nothing is refused.
 use Prim.Native.Nat.{ℕ, zero, suc, _+_, _<_, _≤_}
-use mathlib.Core.Path.{_≡_, refl, sym, ap, _∙_}
+use mathlib.Core.Path.{_≡_, refl, sym, _∙_}
 use mathlib.Core.Bool.{Bool, true, false}
 use mathlib.Core.List.{List, [], _∷_}
 use mathlib.Core.Logic.{_⊎_, inl, inr}
@@ -33,9 +33,6 @@ neither a b e f = rw (e, f)
 pub clear : (t : Bool) (k : ℕ) → suc k if t ≡ 0 → t ≡ false
 clear true k e = let no : _≡_ {A = ℕ} (suc k) 0 = e in absurd (omega arith)
 clear false k e = refl
-
-pub unrefused : (t : Bool) (k : ℕ) → t ≡ false → k if t ≡ 0
-unrefused t k e = rw e
 
 -- an ordered list, number by number
 pub first-end : first [] ≡ 0

@@ -1,5 +1,5 @@
 -- The loop over the levels: what is left of the search at each turn. Assumes nothing.
-use Prim.Native.Nat.{ℕ, zero, suc, _+_, _*_, _^_, _≤_, _<_}
+use Prim.Native.Nat.{ℕ, zero, suc, _+_, _^_, _≤_, _<_}
 use native.Mathlib.Omega.{arith}
 use mathlib.Core.Bool.{Bool, cond}
 use mathlib.Core.List.{List, [], _∷_, _++_, cons≢nil}
@@ -11,7 +11,7 @@ use Rattle.local_search.specs.LocalSearch.Levels.{none, more}
 use Rattle.local_search.specs.Level.{Choice, below}
 use Rattle.local_search.specs.SignSearch.{childrenC, Safe, searchedFrom, Searches}
 use Rattle.local_search.proofs.All.{all-left, all-right, all-map}
-use Rattle.local_search.proofs.SearchLaws.{Under, good-levels, start-children, levels-end, searched-improves}
+use Rattle.local_search.proofs.SearchLaws.{good-levels, start-children, levels-end, searched-improves}
 use Rattle.local_search.proofs.SignLaws.{Good, orders-choices, falls-choices, child-fits}
 
 all-levels : {X : Type 0} (P : X → Type 0) (ls : List (List X)) → All P (concat ls) → All (All P) ls
@@ -27,12 +27,6 @@ best-append b (x ∷ l) r = best-append (cond (below x b) x b) l r
 pub start-safe : (change : List ℕ → ℕ → ℤ) (exists : Choice → ℕ → Bool) (fuel : ℕ) (start : Choice) → Searches change exists fuel start → Safe change exists start
 start-safe change exists fuel start p i q e =
     child-fits (length (start .signs)) (p .objective) change (p .floor) (p .height) (p .lawful) (p .bounded) start (refl, p .start-is) i q
-
--- with width 0 the start stands
-pub search-none : (change : List ℕ → ℕ → ℤ) (exists : Choice → ℕ → Bool) (width fuel : ℕ) (start : Choice) → width ≡ 0 → (start ≡ searchedFrom change exists width fuel start .answer) × (0 ≡ searchedFrom change exists width fuel start .rounds)
-unfolding searched
-search-none change exists width fuel start e =
-    subst (λ (w : ℕ). (start ≡ searchedFrom change exists w fuel start .answer) × (0 ≡ searchedFrom change exists w fuel start .rounds)) (sym e) (refl, refl)
 
 module _ (change : List ℕ → ℕ → ℤ) (exists : Choice → ℕ → Bool) (width fuel : ℕ) (start : Choice) where
   abbrev children : Choice → List Choice

@@ -3,9 +3,9 @@
 use Prim.Native.Nat.{ℕ, zero, suc}
 use mathlib.Core.Bool.{Bool, true, false, cond}
 use mathlib.Core.List.{List, [], _∷_, _++_}
-use mathlib.Core.Path.{_≡_, refl, sym, ap, _∙_, subst}
+use mathlib.Core.Path.{_≡_, refl, ap, subst}
 use lib.ListN.{length, take}
-use Rattle.local_search.specs.LocalSearch.{insert, insertAll, stableSort, best, concat, childrenOf, nextLevel, levels, Found, foundIn, searched}
+use Rattle.local_search.specs.LocalSearch.{insert, insertAll, stableSort, best, concat, childrenOf, nextLevel, levels, foundIn, searched}
 
 module _ {X Y : Type 0} where
   -- the two lists are as long, and R holds of each two elements at one place

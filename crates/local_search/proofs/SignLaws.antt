@@ -11,12 +11,12 @@ use lib.Signed.{ltZ}
 use mir.Syntax.{w64}
 use mir.Val.{SFits}
 use lib.ListN.{length}
-use Rattle.local_search.specs.LocalSearch.{All, Found, concat, levels, Levels, foundIn, searched}
+use Rattle.local_search.specs.LocalSearch.{All, Found, levels, Levels, foundIn, searched}
 use Rattle.local_search.specs.Level.{Choice, below, flipSign, childOf}
 use Rattle.local_search.specs.SignSearch.{improving, lower, improves, keeping, signSearch, improvesC, flipC, childrenC, Lawful}
-use Rattle.local_search.proofs.All.{all-append, all-map}
+use Rattle.local_search.proofs.All.{all-append}
 use Rattle.local_search.proofs.Same.{All2, same-append, same-cond, same-searched}
-use Rattle.local_search.proofs.SearchLaws.{Improves, searched-improves, searched-levels, levels-end, good-levels, start-children}
+use Rattle.local_search.proofs.SearchLaws.{searched-improves, searched-levels, levels-end}
 use Rattle.local_search.proofs.Heights.{ltZ-heights, ltZ-change, falls-four}
 use Rattle.local_search.proofs.LevelLaws.{flipped-length}
 
@@ -195,19 +195,6 @@ module _ (m : ℕ) (objective : List ℕ → ℤ) (change : List ℕ → ℕ →
   falls-choices exists within c p =
       all-improving exists (flipC change) c (λ d. Good d × (height (d .signs) + 4 ≤ height (c .signs))) m
       (λ i q e. ((flipped-length i (c .signs) ∙ p .0, ap (λ (o : ℤ). o +ℤ change (c .signs) i) (p .1) ∙ sym (lawful .changes (c .signs) i (p .0) q)), fall (c .signs) (p .0) i q (within c i e)))
-
-  -- the objective carried along with a visited choice is its own
-  pub visited-objectives : (exists : Choice → ℕ → Bool) → ((c : Choice) (i : ℕ) → exists c i ≡ true → improvesC change c i ≡ true)
-      → (W fuel : ℕ) (start : Choice) → Good start → height (start .signs) ≤ fuel
-      → All (λ c. c .objective ≡ objective (c .signs)) (concat (levels below (childrenC change exists m) W fuel (childrenC change exists m start)))
-  visited-objectives exists within W fuel start g q =
-      let children : Choice → List Choice = childrenC change exists m in
-      let up : Choice → ℕ = λ c. height (c .signs) in
-      let fal = falls-choices exists within in
-      let ls : List (List Choice) = levels below children W fuel (children start) in
-      all-map Good (λ c. c .objective ≡ objective (c .signs)) (λ c h. h .1) (concat ls)
-      (good-levels below children Good up orders-choices fal W 4 (up start) (children start) ls (start-children below children Good up orders-choices fal start g)
-      (levels-end below children Good up orders-choices fal W fuel start q g))
 
   pub child-fits : ((x : List ℕ) → length x ≡ m → SFits w64 (objective x)) → (c : Choice) → Good c → (i : ℕ) → i < m → SFits w64 (c .objective +ℤ change (c .signs) i)
   child-fits bounded c p i q =

@@ -1,6 +1,6 @@
 -- 01's search on signs. `objective x` and `change x i` stand for those of the sign table, in eighths:
 -- change x i is 4·Q_ii − 4·x_i·(Qx)_i, by which flipping sign i of x changes the objective.
-use Prim.Native.Nat.{ℕ, zero, suc, _*_, _^_, _≤_, _<_}
+use Prim.Native.Nat.{ℕ, zero, suc, _^_, _≤_, _<_}
 use mathlib.Core.Bool.{Bool, true, false, cond}
 use mathlib.Core.List.{List, [], _∷_, _++_}
 use mathlib.Core.Path.{_≡_}

@@ -1,7 +1,6 @@
 -- What the definitions say of small tables. Entries are (0,0), (0,1), (1,0), (1,1).
 -- Assumes nothing.
 use mathlib.Core.Path.{_≡_, refl}
-use mathlib.Core.Bool.{Bool, true, false}
 use mathlib.Core.List.{List, [], _∷_}
 use lib.IntN.{ℤ, pos, negsuc}
 use Rattle.laws.specs.Lists.{anyBelow, tabulate, kept}

@@ -5,14 +5,13 @@
 use mathlib.Core.Path.{_≡_, refl, sym, _∙_}
 use mathlib.Core.Bool.{Bool, true, false, cond}
 use mathlib.Core.List.{List}
-use Prim.Native.Nat.{ℕ, zero, suc, _+_, _*_, _≤_, _<_}
+use Prim.Native.Nat.{ℕ, _+_, _*_, _≤_, _<_}
 use native.Mathlib.Omega.{arith}
 use native.Mathlib.Numerals.{add-one}
 use lib.Ieee.{Float}
 use lib.ListN.{length, getD, take, replicate, length-set, length-replicate}
 use lib.Seq.{take-at}
-use Rattle.laws.specs.Turns.{upTo}
-use Rattle.laws.specs.Lists.{anyBelow, over, tabulate, kept, putIf}
+use Rattle.laws.specs.Lists.{anyBelow, over, putIf}
 use Rattle.laws.proofs.UpTo.{upTo-keeps}
 use Rattle.laws.proofs.Parts.{row-within}
 use Rattle.laws.proofs.Made.{length-tabulate, getD-tabulate, all-kept, kept-lengths, length-kept}

@@ -6,7 +6,7 @@
 --     start-below   the entries before it lie in rows below i
 --     row-entries   the entries from row i's start up to the next row's are row i's, where rows rise
 -- Assumes nothing.
-use mathlib.Core.Path.{_≡_, refl, sym}
+use mathlib.Core.Path.{_≡_, refl}
 use mathlib.Core.Bool.{Bool, true, false}
 use mathlib.Core.List.{List, [], _∷_}
 use Prim.Native.Nat.{ℕ, zero, suc, _+_, _≤_, _<_, zero-le, suc-le-suc}

@@ -1,12 +1,12 @@
 -- The table of a call as the float work takes it (000, `separate_diagonal`): where one diagonal value isn't 0, all diagonal entries are set aside;
 -- where all of them are 0 the table is used as it is, stored zeros included. Values are eighths, and each becomes a double. Definitions only.
-use Prim.Native.Nat.{ℕ, zero, suc, _+_, _<_}
+use Prim.Native.Nat.{ℕ, zero, suc, _+_}
 use mathlib.Core.Bool.{Bool, true, false, not}
 use mathlib.Core.List.{List, [], _∷_}
 use lib.Dec.{eqb, ltb}
 use lib.IntN.{natAbs}
 use lib.Ieee.{Float}
-use lib.ListN.{length, getD, replicate}
+use lib.ListN.{replicate}
 use Rattle.laws.specs.Turns.{upTo}
 use Rattle.laws.specs.Lists.{anyBelow, tabulate, kept, putIf}
 use Rattle.ieee.specs.Floats.{zero64, eighthOf}

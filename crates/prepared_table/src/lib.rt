@@ -8,7 +8,6 @@ ghost use lib.IntN.{natAbs};
 ghost use lib.ListN.{length};
 ghost use Rattle.laws.specs.Lists.{elem, elemZ, over, putIf, nextIf, kept};
 ghost use Rattle.ieee.specs.Floats.{eighthOf};
-ghost use Rattle.factor.specs.Norms.{sumOf};
 ghost use Rattle.tables.specs.Table.{tableOf, Lent, InRange};
 ghost use Rattle.prepared_table.specs.Work.{setBy, setsAside, staysBy, stays, workRows, workCols, workValues, rowStart, startsOf, workStarts, diagonalOf, diagonalSum};
 use factor::rows::clear;

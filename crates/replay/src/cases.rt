@@ -9,9 +9,9 @@ use super::reduced_cases::is_reduced;
 use super::reduced_cases::same_reduced;
 use super::table_cases::is_table;
 use super::table_cases::same_table;
+use super::text::Case;
 use super::text::find;
 use super::text::read_case;
-use super::text::Case;
 
 // A group: its name, its cases so far, and how many of them differ.
 pub struct Tally {
@@ -65,7 +65,11 @@ fn counted(t: Tally, name: u64, same: bool) -> Tally {
     let mut next = t;
     if t.name != name {
         report(t);
-        next = Tally { name, cases: 0, differ: 0 };
+        next = Tally {
+            name,
+            cases: 0,
+            differ: 0,
+        };
     }
     if next.cases < 0xffff_ffff {
         next.cases = next.cases + 1;
@@ -106,7 +110,10 @@ fn run_lines(text: &[u8], end: usize, numbers: &mut [u64], t: Tally) -> Progress
     while next < end {
         let at = p.at;
         let tally = run_line(&text[at..next], numbers, p.tally);
-        p = Progress { tally, at: next + 1 };
+        p = Progress {
+            tally,
+            at: next + 1,
+        };
         next = find(text, next + 1, end, 10);
     }
     p
@@ -148,7 +155,14 @@ fn run_piece(buffer: &mut [u8], end: usize, numbers: &mut [u64], t: Tally) -> Pr
 
 // Runs the list of standard input, read in pieces of the buffer's length, 1,000 at most.
 pub fn run_list(buffer: &mut [u8], numbers: &mut [u64]) {
-    let mut p = Progress { tally: Tally { name: 0, cases: 0, differ: 0 }, at: 0 };
+    let mut p = Progress {
+        tally: Tally {
+            name: 0,
+            cases: 0,
+            differ: 0,
+        },
+        at: 0,
+    };
     let mut piece: usize = 0;
     while piece < 1000 {
         let kept = p.at;

@@ -10,8 +10,8 @@ use super::typed::read_indices;
 use super::typed::read_signed;
 use super::typed::small;
 use super::typed::word;
-use reduced::from_principal_submatrix::from_principal_submatrix;
 use reduced::from_principal_submatrix::Reduced;
+use reduced::from_principal_submatrix::from_principal_submatrix;
 use reduced::lift_solution::lift_solution;
 
 // The names of the groups, as their bytes.

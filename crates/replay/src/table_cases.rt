@@ -105,12 +105,21 @@ fn objective_case(
     requires { ⌜ count ≤ 16384 ⌝ }
 {
     let mut signs = [0u8; 256];
-    read_bytes(numbers, 3 + 3 * count, small(word(numbers, 2 + 3 * count)), &mut signs);
+    read_bytes(
+        numbers,
+        3 + 3 * count,
+        small(word(numbers, 2 + 3 * count)),
+        &mut signs,
+    );
     let at = c.given;
     if 65536 < at {
         return false;
     }
-    same_eighths(numbers, at, table_calls::sign_tables::obj_rounded(m, count, rows, cols, values, &signs))
+    same_eighths(
+        numbers,
+        at,
+        table_calls::sign_tables::obj_rounded(m, count, rows, cols, values, &signs),
+    )
 }
 
 // The costs c follow the entries, after their count, and the choice b follows c.
@@ -138,7 +147,11 @@ fn cost_case(
     if 65536 < at {
         return false;
     }
-    same_eighths(numbers, at, table_calls::halls::eval_qubo_objective(n, count, rows, cols, values, &costs, &b))
+    same_eighths(
+        numbers,
+        at,
+        table_calls::halls::eval_qubo_objective(n, count, rows, cols, values, &costs, &b),
+    )
 }
 
 // The sign table of (H, c): its entries are expected after their count.
@@ -154,7 +167,13 @@ fn table_case(
     requires { ⌜ count ≤ 16384 ⌝ }
 {
     let mut costs = [0i64; 256];
-    read_signed(numbers, 3 + 3 * count, 1, small(word(numbers, 2 + 3 * count)), &mut costs);
+    read_signed(
+        numbers,
+        3 + 3 * count,
+        1,
+        small(word(numbers, 2 + 3 * count)),
+        &mut costs,
+    );
     let mut to_rows = [0u16; 4608];
     let mut to_cols = [0u16; 4608];
     let mut to_values = [0i64; 4608];
@@ -180,7 +199,14 @@ fn table_case(
 }
 
 // Whether these are the entries that are expected at `at`: 0, their count, and row, column and value of each.
-pub fn same_entries(numbers: &[u64], at: usize, len: usize, rows: &[u16], cols: &[u16], values: &[i64]) -> bool
+pub fn same_entries(
+    numbers: &[u64],
+    at: usize,
+    len: usize,
+    rows: &[u16],
+    cols: &[u16],
+    values: &[i64],
+) -> bool
     requires { ⌜ at ≤ 16384 ⌝ }
 {
     if 16384 < len {
@@ -217,19 +243,48 @@ fn beam_case(
     let mut out = [0u8; 256];
     let mut workspace = [0u8; 32768];
     let width = small(word(numbers, 2 + 3 * count));
-    read_bytes(numbers, 4 + 3 * count, small(word(numbers, 3 + 3 * count)), &mut start);
-    let answer = sdp_local_search::beam_search(m, count, rows, cols, values, width, &start, &mut out, &mut workspace);
+    read_bytes(
+        numbers,
+        4 + 3 * count,
+        small(word(numbers, 3 + 3 * count)),
+        &mut start,
+    );
+    let answer = sdp_local_search::beam_search(
+        m,
+        count,
+        rows,
+        cols,
+        values,
+        width,
+        &start,
+        &mut out,
+        &mut workspace,
+    );
     let at = c.given;
     if 16384 < at {
         return false;
     }
     match answer {
-        BeamSearched::Found(objective, rounds) => same_search(numbers, at, m, &out, objective, rounds),
+        BeamSearched::Found(objective, rounds) => same_search(
+            numbers,
+            at,
+            m,
+            &out,
+            objective,
+            rounds,
+        ),
         BeamSearched::Refused(number) => refused(numbers, at, number),
     }
 }
 
-fn same_search(numbers: &[u64], at: usize, m: usize, signs: &[u8], objective: i64, rounds: u64) -> bool
+fn same_search(
+    numbers: &[u64],
+    at: usize,
+    m: usize,
+    signs: &[u8],
+    objective: i64,
+    rounds: u64,
+) -> bool
     requires { ⌜ at ≤ 16384 ⌝ }
 {
     if 256 < m {
@@ -300,7 +355,15 @@ fn bound_case(
         return false;
     }
     if c.name == FLOOR {
-        return same_eighths(numbers, at, table_calls::sign_tables::floor_eighths(m, count, rows, cols, values));
+        return same_eighths(
+            numbers,
+            at,
+            table_calls::sign_tables::floor_eighths(m, count, rows, cols, values),
+        );
     }
-    same_bound(numbers, at, table_calls::sign_tables::entrywise_lower_bound(m, count, rows, cols, values))
+    same_bound(
+        numbers,
+        at,
+        table_calls::sign_tables::entrywise_lower_bound(m, count, rows, cols, values),
+    )
 }

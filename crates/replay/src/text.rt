@@ -95,25 +95,55 @@ fn read_word(line: &[u8], numbers: &mut [u64], c: Case) -> Case
     let count = c.count;
     let b = line[at];
     if b == 32 {
-        return Case { name: c.name, given: c.given, count, at: at + 1 };
+        return Case {
+            name: c.name,
+            given: c.given,
+            count,
+            at: at + 1,
+        };
     }
     if b == 61 {
-        return Case { name: c.name, given: count, count, at: at + 1 };
+        return Case {
+            name: c.name,
+            given: count,
+            count,
+            at: at + 1,
+        };
     }
     let w = word_at(line, at);
     if 97 <= b {
-        return Case { name: w.value, given: c.given, count, at: w.end };
+        return Case {
+            name: w.value,
+            given: c.given,
+            count,
+            at: w.end,
+        };
     }
     if count < numbers.len() {
         numbers[count] = w.value;
-        return Case { name: c.name, given: c.given, count: count + 1, at: w.end };
+        return Case {
+            name: c.name,
+            given: c.given,
+            count: count + 1,
+            at: w.end,
+        };
     }
-    Case { name: 0, given: c.given, count, at: w.end }
+    Case {
+        name: 0,
+        given: c.given,
+        count,
+        at: w.end,
+    }
 }
 
 // The case of a line; its numbers go to `numbers`.
 pub fn read_case(line: &[u8], numbers: &mut [u64]) -> Case {
-    let mut c = Case { name: 0, given: 0, count: 0, at: 0 };
+    let mut c = Case {
+        name: 0,
+        given: 0,
+        count: 0,
+        at: 0,
+    };
     while c.at < line.len() {
         c = read_word(line, numbers, c);
     }

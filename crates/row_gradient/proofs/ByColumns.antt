@@ -4,6 +4,7 @@
 --     gradient-columns           the definition of the sweep, column by column
 --     whole-block                all columns as one block
 --     first-block                a block at the start of a row
+--     one-block, block-and-one, two-ends    a row written as one block, as a block and a column, as two blocks
 -- Assumes nothing.
 use mathlib.Core.Path.{_≡_, refl, sym, _∙_}
 use mathlib.Core.Bool.{Bool, true, false}
@@ -15,14 +16,13 @@ use native.Mathlib.Numerals.{add-one}
 use lib.Dec.{eqb}
 use lib.Ieee.{Float, nan}
 use lib.ListN.{length, getD, set, take, drop, replicate}
-use lib.Seq.{getD-take, getD-drop}
 use Rattle.laws.specs.Rows.{mapFirst, rowOf}
 use Rattle.laws.specs.Lists.{tabulate, over}
-use Rattle.laws.proofs.Made.{length-tabulate, tabulate-all, tabulate-next, tabulate-ext, tabulate-replicate, mapFirst-tabulate}
-use Rattle.ieee.specs.Floats.{_-ᶠ_, _*ᶠ_, at, zero64}
+use Rattle.laws.proofs.Made.{length-tabulate, tabulate-all, tabulate-next, tabulate-ext, tabulate-replicate}
+use Rattle.ieee.specs.Floats.{_-ᶠ_, at, zero64}
 use Rattle.factor.specs.Vectors.{subScaled}
 use Rattle.factor.specs.Columns.{putBlock}
-use Rattle.factor.proofs.Written.{block-next-put}
+use Rattle.factor.proofs.Written.{entry-made, sums-put, block-next-put}
 use Rattle.row_gradient.specs.Gradient.{subEntry, gradientTo, gradientOf}
 use Rattle.row_gradient.specs.Columns.{lessEntry, columnTo, columnOf, blockTo, blockEntry}
 
@@ -31,10 +31,7 @@ entry-tabulate : (b : Bool) (weight : Float) (factor : List Float) (start width 
     → blockEntry b width weight (take width (drop start factor)) (tabulate f width)
     ≡ tabulate (λ j. lessEntry b weight (at factor (start + j)) (f j)) width
 entry-tabulate true weight factor start width f = refl
-entry-tabulate false weight factor start width f =
-    mapFirst-tabulate (λ j x. x -ᶠ weight *ᶠ at (take width (drop start factor)) j) f width nan
-    ∙ tabulate-ext (λ j. f j -ᶠ weight *ᶠ at (take width (drop start factor)) j) (λ j. f j -ᶠ weight *ᶠ at factor (start + j)) width
-    (λ j h. rw (getD-take width (drop start factor) j nan h, getD-drop start factor j nan))
+entry-tabulate false weight factor start width f = entry-made _-ᶠ_ weight factor start width f
 
 -- the sweep's entry is the block's, over all columns
 entry-block : (b : Bool) (weight : Float) (source : List Float) (width : ℕ) (f : ℕ → Float)
@@ -87,7 +84,7 @@ pub first-block : (f : ℕ → Float) (width : ℕ) (g : List Float) → putBloc
 unfolding tabulate
 first-block f width g = rw zero-add at (block-next-put f 0 0 width g g (omega arith) (omega arith) refl)
 
--- rows of one block, and of a block of 16 and a column
+-- rows of one block, of a block of 16 and a column, and of two blocks
 module _ (cols : List ℕ) (values factor : List Float) (vertex : ℕ) where
   pub one-block : (rank : ℕ) (g g′ : List Float) → length g ≡ rank → g′ ≡ putBlock rank 0 (blockTo cols values factor vertex rank 0 rank (length cols)) g
       → g′ ≡ gradientOf cols values factor vertex rank
@@ -97,19 +94,24 @@ module _ (cols : List ℕ) (values factor : List Float) (vertex : ℕ) where
       ∙ tabulate-all (columnOf cols values factor vertex rank) rank g l
       ∙ sym (gradient-columns cols values factor vertex rank)
 
-  pub block-and-one : (g g′ : List Float) (x : Float) → length g ≡ 17 → g′ ≡ putBlock 16 0 (blockTo cols values factor vertex 17 0 16 (length cols)) g
-      → x ≡ columnOf cols values factor vertex 17 16 → set g′ 16 x ≡ gradientOf cols values factor vertex 17
-  block-and-one g g′ x l e h =
-      rw h (tabulate-next (columnOf cols values factor vertex 17) 16 g g′ nan (omega arith) (e ∙ first-block (columnOf cols values factor vertex 17) 16 g))
-      ∙ tabulate-all (columnOf cols values factor vertex 17) 17 g l
+  pub block-and-one : (e : ℕ) (g g′ low : List Float) (x : Float) → length g ≡ 17 → e ≡ length cols → low ≡ blockTo cols values factor vertex 17 0 16 e
+      → x ≡ columnTo cols values factor vertex 17 16 e → g′ ≡ putBlock 16 0 (mapFirst (λ j old. at low j) 16 (take 16 (drop 0 g))) g
+      → set g′ 16 x ≡ gradientOf cols values factor vertex 17
+  block-and-one e g g′ low x l q s h k =
+      let f : ℕ → Float = columnOf cols values factor vertex 17 in
+      rw (h, q) (tabulate-next f 16 g g′ nan (omega arith) (sums-put (λ j. f (0 + j)) 16 0 g g′ low (omega arith) (rw q at s) k ∙ first-block f 16 g))
+      ∙ tabulate-all f 17 g l
       ∙ sym (gradient-columns cols values factor vertex 17)
 
-  -- the first columns and the last ones, which together are all
-  pub two-ends : (rank a b second : ℕ) (g g′ g″ : List Float) → length g ≡ rank → second + b ≡ rank → second ≤ a → a ≤ rank
-      → g′ ≡ putBlock a 0 (blockTo cols values factor vertex rank 0 a (length cols)) g
-      → g″ ≡ putBlock b second (blockTo cols values factor vertex rank second b (length cols)) g′ → g″ ≡ gradientOf cols values factor vertex rank
-  two-ends rank a b second g g′ g″ l s k m e h =
-      h
-      ∙ (rw s at (block-next-put (columnOf cols values factor vertex rank) a second b g g′ k (omega arith) (e ∙ first-block (columnOf cols values factor vertex rank) a g)))
-      ∙ tabulate-all (columnOf cols values factor vertex rank) rank g l
+  -- the sums of the first columns and of the last ones, which together are all
+  pub two-ends : (rank a b second e : ℕ) (g g′ g″ low high : List Float) → length g ≡ rank → length g′ ≡ length g → second + b ≡ rank → second ≤ a → a ≤ rank
+      → e ≡ length cols → low ≡ blockTo cols values factor vertex rank 0 a e → high ≡ blockTo cols values factor vertex rank second b e
+      → g′ ≡ putBlock a 0 (mapFirst (λ j old. at low j) a (take a (drop 0 g))) g
+      → g″ ≡ putBlock b second (mapFirst (λ j old. at high j) b (take b (drop second g′))) g′ → g″ ≡ gradientOf cols values factor vertex rank
+  two-ends rank a b second e g g′ g″ low high l l′ s k m q x y h i =
+      let f : ℕ → Float = columnOf cols values factor vertex rank in
+      let first : g′ ≡ over (tabulate f a) g = sums-put (λ j. f (0 + j)) a 0 g g′ low (omega arith) (rw q at x) h ∙ first-block f a g in
+      sums-put (λ j. f (second + j)) b second g′ g″ high (omega arith) (rw q at y) i
+      ∙ (rw s at (block-next-put f a second b g g′ k (omega arith) first))
+      ∙ tabulate-all f rank g l
       ∙ sym (gradient-columns cols values factor vertex rank)

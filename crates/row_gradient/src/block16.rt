@@ -10,6 +10,7 @@ ghost use Rattle.ieee.specs.Floats.{at};
 ghost use Rattle.factor.specs.Shapes.{ColumnsWithin};
 ghost use Rattle.factor.specs.Columns.{putBlock};
 ghost use Rattle.row_gradient.specs.Columns.{blockEntry, blockTo};
+use factor::block16::copy;
 
 // The 16 sums less weight times source.
 fn subtract(sums: &mut [f64; 16], weight: f64, source: &[f64])
@@ -36,16 +37,6 @@ pub fn subtract_entry(
     if k != vertex {
         let end = start + 16;
         subtract(sums, weight, &factor[start..end]);
-    }
-}
-
-// The 16 sums, copied.
-pub fn copy(out: &mut [f64], sums: &[f64; 16])
-    requires { ⌜ length (now out) ≡ 16 ⌝ }
-    ensures { λ _. ⌜ now (out .exit) ≡ mapFirst (λ j old. at (now (sums .entry)) j) 16 (now (out .entry)) ⌝ }
-{
-    for j in 0..16 {
-        out[j] = sums[j];
     }
 }
 

@@ -10,6 +10,7 @@ ghost use Rattle.ieee.specs.Floats.{at};
 ghost use Rattle.factor.specs.Shapes.{ColumnsWithin};
 ghost use Rattle.factor.specs.Columns.{putBlock};
 ghost use Rattle.row_gradient.specs.Columns.{blockEntry, blockTo};
+use factor::block4::copy;
 
 // The 4 sums less weight times source.
 fn subtract(sums: &mut [f64; 4], weight: f64, source: &[f64])
@@ -36,16 +37,6 @@ pub fn subtract_entry(
     if k != vertex {
         let end = start + 4;
         subtract(sums, weight, &factor[start..end]);
-    }
-}
-
-// The 4 sums, copied.
-pub fn copy(out: &mut [f64], sums: &[f64; 4])
-    requires { ⌜ length (now out) ≡ 4 ⌝ }
-    ensures { λ _. ⌜ now (out .exit) ≡ mapFirst (λ j old. at (now (sums .entry)) j) 4 (now (out .entry)) ⌝ }
-{
-    for j in 0..4 {
-        out[j] = sums[j];
     }
 }
 

@@ -7,8 +7,8 @@ ghost use lib.ListN.{length};
 ghost use Rattle.factor.specs.Shapes.{ColumnsWithin};
 ghost use Rattle.row_gradient.specs.Columns.{blockTo};
 ghost use Rattle.row_gradient.specs.Gradient.{gradientOf};
-use super::block4::copy;
 use super::block4::subtract_entry;
+use factor::block4::copy;
 
 // The lesser of two counts.
 fn lesser(a: usize, b: usize) -> usize

@@ -6,8 +6,8 @@ ghost use lib.ListN.{length, getD};
 ghost use Rattle.factor.specs.Shapes.{ColumnsWithin};
 ghost use Rattle.factor.specs.Columns.{putBlock};
 ghost use Rattle.row_gradient.specs.Columns.{blockTo};
-use super::block16::copy;
 use super::block16::subtract_entry;
+use factor::block16::copy;
 
 // The sums of 16 columns from `offset` on.
 fn gradient_block(
@@ -45,12 +45,5 @@ pub fn put_block(
     ensures { λ _. ⌜ now (g .exit) ≡ putBlock 16 offset (blockTo (now (cols .entry)) (now (values .entry)) (now (factor .entry)) vertex 16 offset 16 (length (now (cols .entry)))) (now (g .entry)) ⌝ }
 {
     let end = offset + 16;
-    gradient_block(
-        cols,
-        values,
-        factor,
-        vertex,
-        offset,
-        &mut g[offset..end],
-    );
+    gradient_block(cols, values, factor, vertex, offset, &mut g[offset..end]);
 }

@@ -13,14 +13,18 @@ use run_record::Stage;
 use sdp_solver::finish::finish;
 use sdp_solver::open::open;
 use sdp_solver::sweep::sweep;
-use step_rules::rule_of;
 use step_rules::StepRule;
+use step_rules::rule_of;
 
 // The stage of a number.
 fn stage_of(stage: u8) -> Stage
     ensures { λ r. ⌜ r ≡ stageOf stage ⌝ }
 {
-    if stage == 0 { Stage::Open } else { Stage::Stopped }
+    if stage == 0 {
+        Stage::Open
+    } else {
+        Stage::Stopped
+    }
 }
 
 // The number of a stage.
@@ -379,7 +383,22 @@ pub extern "C" fn host_finish(
         stage,
         status,
     );
-    let finished = finish(run, n, count, rows, cols, values, c, width, draw_count, draws, factor, b, dual_variables, workspace);
+    let finished = finish(
+        run,
+        n,
+        count,
+        rows,
+        cols,
+        values,
+        c,
+        width,
+        draw_count,
+        draws,
+        factor,
+        b,
+        dual_variables,
+        workspace,
+    );
     match finished {
         Finished::Result(result) => {
             put_result(

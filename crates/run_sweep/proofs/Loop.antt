@@ -77,11 +77,12 @@ pub turn : (w : Work) (k made : ℕ) (run run′ : Run) (factor factor′ : List
     → made < k → isStopped (run .stage) ≡ false → run .sweeps < run .most → factor′ ≡ sweptOnce w run factor → run′ ≡ runAfter run w factor′
     → sweepsUpTo (k - made) w run factor ≡ whole
     → (Running run′) × (sweepsUpTo (k - (made + 1)) w run′ factor′ ≡ whole)
-turn w k made run run′ factor factor′ whole l open′ left swept after inv =
-    (subst (λ (r : Run). Running r) (sym after) (running-after run w factor′ left),
-     ap (λ (r : Run). sweepsUpTo (k - (made + 1)) w r factor′) after
-     ∙ ap (λ (v : List Float). sweepsUpTo (k - (made + 1)) w (runAfter run w v) v) swept
-     ∙ sym (sweeps-next w run factor k made l open′) ∙ inv)
+turn w k made run run′ factor factor′ whole l open′ left swept after inv = (
+  subst (λ (r : Run). Running r) (sym after) (running-after run w factor′ left),
+  ap (λ (r : Run). sweepsUpTo (k - (made + 1)) w r factor′) after
+      ∙ ap (λ (v : List Float). sweepsUpTo (k - (made + 1)) w (runAfter run w v) v) swept
+      ∙ sym (sweeps-next w run factor k made l open′) ∙ inv,
+)
 
 -- a factor of the same length is of the same shape
 pub reshaped : {cols : List ℕ} {values : List Float} {starts : List ℕ} {factor factor′ : List Float} {m rank : ℕ} → Shaped cols values starts factor m rank → length factor′ ≡ length factor

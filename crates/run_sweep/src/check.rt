@@ -56,7 +56,11 @@ fn stop_status(tests: bool, tolerance: f64, settled: bool, previous: f64, new: f
 fn settled(minimum: u32, sweeps: u32, residual: f64, threshold: f64) -> bool
     ensures { λ r. ⌜ r ≡ (leb minimum sweeps && le residual threshold) ⌝ }
 {
-    if minimum <= sweeps { residual <= threshold } else { false }
+    if minimum <= sweeps {
+        residual <= threshold
+    } else {
+        false
+    }
 }
 
 // The stage after a check.
@@ -121,9 +125,25 @@ pub fn run_after(
         let m = run.size;
         let rank = run.rank;
         let tolerance = run.stationarity_tolerance;
-        let seen = maxcut_oracle::check::check(cols, values, starts, m, rank, factor, tolerance, product, dual);
+        let seen = maxcut_oracle::check::check(
+            cols,
+            values,
+            starts,
+            m,
+            rank,
+            factor,
+            tolerance,
+            product,
+            dual,
+        );
         let done = settled(run.minimum, sweeps, seen.residual, seen.threshold);
-        let found = stop_status(tests, run.objective_tolerance, done, run.last_objective, seen.objective);
+        let found = stop_status(
+            tests,
+            run.objective_tolerance,
+            done,
+            run.last_objective,
+            seen.objective,
+        );
         return advanced(run, seen.objective, found);
     }
     advanced(run, run.last_objective, 0)

@@ -9,8 +9,8 @@ ghost use Rattle.run_sweep.specs.Work.{work};
 ghost use Rattle.run_sweep.specs.Sweep.{sweptOnce, runAfter, sweepsUpTo};
 ghost use Rattle.run_sweep.specs.Running.{Running, Sweepable};
 use check::run_after;
-use run_record::is_stopped;
 use run_record::Run;
+use run_record::is_stopped;
 
 // One sweep, and the check where one is due.
 fn sweep_on(
@@ -31,8 +31,29 @@ fn sweep_on(
     let rule = run.rule;
     let m = run.size;
     let rank = run.rank;
-    let tests = step_rules::step(rule, rows, cols, values, starts, m, rank, factor, product, moved);
-    run_after(run, tests, rows, cols, values, starts, factor, product, dual)
+    let tests = step_rules::step(
+        rule,
+        rows,
+        cols,
+        values,
+        starts,
+        m,
+        rank,
+        factor,
+        product,
+        moved,
+    );
+    run_after(
+        run,
+        tests,
+        rows,
+        cols,
+        values,
+        starts,
+        factor,
+        product,
+        dual,
+    )
 }
 
 // Up to k sweeps of a factor of m rows.

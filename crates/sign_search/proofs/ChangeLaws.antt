@@ -15,7 +15,7 @@ use lib.Seq.{getD-set-same, getD-set-other}
 use mir.Syntax.{w64}
 use mir.Val.{SFits}
 use Rattle.laws.specs.Sum.{sum, total, only}
-use Rattle.tables.specs.Table.{Table, InRange, magnitudeOf, sign, signAt}
+use Rattle.tables.specs.Table.{Table, sign, signAt}
 use Rattle.tables.specs.Flip.{flipShare, flipTerm}
 use Rattle.laws.proofs.Integer.{parts, differences, ring, times-one, abs-add, abs-mul, fits-abs}
 use Rattle.laws.proofs.Sums.{sum-more, sum-bounded, total-le}

@@ -1,22 +1,21 @@
 -- A parent's children by its listed changes are its children on the table, and a level's parents one by one. Assumes nothing.
-use Prim.Native.Nat.{ℕ, suc, _+_, _*_, _-_, _≤_, _<_}
+use Prim.Native.Nat.{ℕ, _+_, _*_, _-_, _≤_, _<_}
 use native.Mathlib.Nat.{suc-mul, mul-le-mul-right}
 use native.Mathlib.Omega.{arith}
-use mathlib.Core.Bool.{Bool, true}
 use mathlib.Core.List.{List, []}
-use mathlib.Core.Path.{_≡_, refl, sym, ap, ap₂, _∙_, subst}
+use mathlib.Core.Path.{_≡_, sym, ap, _∙_, subst}
 use lib.IntN.{ℤ, pos, _+ℤ_}
 use lib.Signed.{ltZ}
 use lib.ListN.{length, take, drop, getD, length-take, length-drop}
 use mir.Syntax.{w64}
 use mir.Val.{SFits}
-use Rattle.local_search.specs.LocalSearch.{All, keepBest, childrenOf}
+use Rattle.local_search.specs.LocalSearch.{keepBest, childrenOf}
 use Rattle.local_search.specs.Level.{Choice, below, childOf, levelOf}
-use Rattle.local_search.specs.SignSearch.{improvesC, flipC, childrenC}
+use Rattle.local_search.specs.SignSearch.{improvesC, flipC}
 use Rattle.local_search.specs.Children.{changeOf, listedChildren, ListedSafe, parentOf, Expands, Kept, Appends}
 use Rattle.local_search.proofs.SignLaws.{improving-ext}
 use Rattle.local_search.proofs.SearchLaws.{nextLevel-is}
-use Rattle.local_search.proofs.ExpandLaws.{choiceAt, all-choices, part-long, parent-is}
+use Rattle.local_search.proofs.ExpandLaws.{all-choices, part-long, parent-is}
 use Rattle.tables.specs.Table.{Table}
 use Rattle.sign_search.specs.Search.{changeIn}
 use Rattle.sign_search.specs.Contracts.{Changes, tableChildren, TableSafe, RowExpands, RowAppends, LevelExpands, NextLevel}

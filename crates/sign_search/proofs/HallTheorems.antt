@@ -1,29 +1,28 @@
 -- What the search finds for the quadratic costs H and the linear costs c, said of costs and choices: no choice beside it costs less.
 -- Assumes nothing.
-use Prim.Native.Nat.{ℕ, zero, suc, _+_, _*_, _^_, _≤_, _<_}
+use Prim.Native.Nat.{ℕ, zero, suc, _≤_, _<_}
 use native.Mathlib.Decide.{ℕ-discrete}
 use native.Mathlib.Omega.{arith}
-use mathlib.Core.Bool.{Bool, true, false, cond}
+use mathlib.Core.Bool.{cond}
 use mathlib.Core.List.{List}
-use mathlib.Core.Path.{_≡_, refl, sym, ap, ap₂, _∙_, subst₂}
+use mathlib.Core.Path.{_≡_, refl, sym, subst₂}
 use borrow.Author.Tests.{eq-eqb, ne-eqb}
-use lib.Dec.{eqb}
-use lib.IntN.{ℤ, pos, _+ℤ_, _-ℤ_, _*ℤ_}
+use lib.IntN.{ℤ, pos, _-ℤ_}
 use lib.Signed.{_≤ℤ_}
-use lib.ListN.{length, getD, set}
+use lib.ListN.{length, getD}
 use lib.Seq.{getD-set-same, getD-set-other}
 use Rattle.laws.specs.Lists.{elem}
-use Rattle.laws.proofs.Sums.{sum-ext, sum₂-ext}
-use Rattle.tables.specs.Table.{Table, valueAt, sameSign, floorOf}
+use Rattle.tables.specs.Table.{Table, valueAt, sameSign}
 use Rattle.tables.specs.Cost.{costEighths, decoded, decodedByte}
 use Rattle.tables.specs.Check.{Hall}
+use Rattle.tables.proofs.Choices.{cost-ext}
 use Rattle.sign_table.specs.SignTable.{signTable}
 use Rattle.sign_table.proofs.Theorems.{objective-cost}
 use Rattle.sign_table.proofs.Sizes.{sign-range, sign-rising, sign-mirrored}
 use Rattle.local_search.specs.Level.{flipByte, flipSign}
 use Rattle.sign_search.specs.Search.{objectiveIn, Mirrors, beamSearch}
 use Rattle.sign_search.specs.Choices.{oneMoved, allMoved}
-use Rattle.sign_search.proofs.Theorems.{rising-mirrored, answer-long, no-flip-lowers, rounds-fall}
+use Rattle.sign_search.proofs.Theorems.{rising-mirrored, answer-long, no-flip-lowers}
 
 -- ---- what a flipped sign decodes to
 
@@ -64,12 +63,6 @@ module _ (n : ℕ) (x : List ℕ) (long : length x ≡ suc n) where
   unfolding decodedByte allMoved
   decoded-anchor j k = rw (flipped-here n (omega arith), flipped-there n j (λ q. omega arith)) (moved-right (elem x j) (elem x n))
 
-cost-ext : (n : ℕ) (H : ℕ → ℕ → ℤ) (c a b : ℕ → ℤ) → ((i : ℕ) → i < n → a i ≡ b i) → costEighths n H c a ≡ costEighths n H c b
-unfolding costEighths
-cost-ext n H c a b e =
-    ap₂ (λ (s t : ℤ). pos 4 *ℤ s +ℤ pos 8 *ℤ t)
-    (sum₂-ext n _ _ (λ i j h k. ap₂ (λ (u v : ℤ). H i j *ℤ (u *ℤ v)) (e i h) (e j k))) (sum-ext n _ _ (λ i h. ap (λ (u : ℤ). c i *ℤ u) (e i h)))
-
 -- ---- the theorems
 
 module _ {most capacity limit n : ℕ} {h : Table} {c : ℕ → ℤ} (hall : Hall most capacity limit n h c) where
@@ -98,15 +91,9 @@ module _ {most capacity limit n : ℕ} {h : Table} {c : ℕ → ℤ} (hall : Hal
     -- no choice that differs in one wagon costs less
     pub one-wagon : (i : ℕ) → i < n → cost (decoded n answer) ≤ℤ cost (oneMoved i (decoded n answer))
     one-wagon i q =
-        subst₂ _≤ℤ_ refl (cost-ext n (valueAt h) c _ _ (λ j k. decoded-wagon n answer answer-size i j q k)) (beside i (omega arith))
+        subst₂ _≤ℤ_ refl (cost-ext n (valueAt h) c (λ j k. decoded-wagon n answer answer-size i j q k)) (beside i (omega arith))
 
     -- none that differs in all wagons costs less
     pub all-wagons : cost (decoded n answer) ≤ℤ cost (allMoved (decoded n answer))
     all-wagons =
-        subst₂ _≤ℤ_ refl (cost-ext n (valueAt h) c _ _ (λ j k. decoded-anchor n answer answer-size j k)) (beside n (omega arith))
-
-    -- each round has taken 4 eighths off at least
-    pub rounds-fall-cost : (cost (decoded n answer) +ℤ pos (4 * beamSearch (signTable n h c) W start .rounds)) ≤ℤ cost (decoded n start)
-    rounds-fall-cost =
-        subst₂ _≤ℤ_ (ap (λ (z : ℤ). z +ℤ pos (4 * beamSearch (signTable n h c) W start .rounds)) (signs-cost answer)) (signs-cost start)
-        (rounds-fall hall-mirrors start long W some)
+        subst₂ _≤ℤ_ refl (cost-ext n (valueAt h) c (λ j k. decoded-anchor n answer answer-size j k)) (beside n (omega arith))

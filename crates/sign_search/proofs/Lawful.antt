@@ -1,10 +1,10 @@
 -- A symmetric table's objective and changes are lawful: a flip changes the objective by its change, which is a multiple of 4, and the floor
 -- stands below every objective. Assumes nothing.
-use Prim.Native.Nat.{ℕ, zero, suc, _+_, _*_, _-_, _^_, _≤_, _<_}
+use Prim.Native.Nat.{ℕ, zero, suc, _+_, _*_, _^_, _≤_, _<_}
 use native.Mathlib.Decide.{ℕ-discrete}
 use native.Mathlib.Nat.{lt-of-le-of-lt}
 use native.Mathlib.Omega.{arith}
-use mathlib.Core.Bool.{Bool, true, false, cond}
+use mathlib.Core.Bool.{false, cond}
 use mathlib.Core.List.{List}
 use mathlib.Core.Path.{_≡_, refl, sym, ap, ap₂, _∙_}
 use borrow.Author.Tests.{eq-eqb, ne-eqb}
@@ -19,7 +19,7 @@ use Rattle.laws.specs.Sum.{sum}
 use Rattle.laws.specs.Lists.{elem}
 use Rattle.laws.proofs.Integer.{parts, differences, ring, integers, le-parts, add-parts, neg-⁺, neg-⁻, abs-add, abs-neg, fits-abs, ltZ-false}
 use Rattle.laws.proofs.Sums.{sum-ext, sum-bounded}
-use Rattle.tables.specs.Table.{Table, InRange, magnitudeOf, sign, signAt, share, valueAt, objectiveTerm, objectiveOf, floorOf, floorTerm}
+use Rattle.tables.specs.Table.{Table, magnitudeOf, sign, signAt, share, valueAt, objectiveTerm, objectiveOf, floorOf, floorTerm}
 use Rattle.tables.specs.Flip.{flipped, flipChange}
 use Rattle.tables.proofs.Shares.{abs-share, abs-least, sign-vector}
 use Rattle.tables.proofs.Quadratic.{objective-places, floor-below}

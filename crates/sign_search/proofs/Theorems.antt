@@ -1,21 +1,20 @@
 -- What holds of the search on every sign table that equals its mirror image, every start and every width above 0. Assumes nothing.
-use Prim.Native.Nat.{ℕ, zero, suc, _+_, _*_, _≤_, _<_}
+use Prim.Native.Nat.{ℕ, suc, _*_, _≤_, _<_}
 use native.Mathlib.Omega.{arith}
-use mathlib.Core.Bool.{Bool, true, false, cond}
+use mathlib.Core.Bool.{Bool, true}
 use mathlib.Core.List.{List}
-use mathlib.Core.Path.{_≡_, refl, sym, ap, _∙_}
-use lib.IntN.{ℤ, pos, _+ℤ_}
-use lib.Signed.{_≤ℤ_, ltZ}
+use mathlib.Core.Path.{_≡_}
+use lib.IntN.{pos, _+ℤ_}
+use lib.Signed.{_≤ℤ_}
 use lib.ListN.{length}
 use Rattle.laws.proofs.Integer.{integers, add-parts}
 use Rattle.tables.specs.Table.{Table, InRange, Rising, Mirrored, floorOf}
 use Rattle.tables.specs.Check.{Accepted}
 use Rattle.tables.proofs.Mirrors.{mirrored-symmetric}
-use Rattle.local_search.specs.LocalSearch.{All, Found, concat, levels, Levels, foundIn}
-use Rattle.local_search.specs.Level.{Choice, below, flipSign}
-use Rattle.local_search.specs.SignSearch.{lower, improving, improves, keeping, signSearch, improvesC, childrenC}
-use Rattle.local_search.specs.Children.{parentOf}
-use Rattle.local_search.proofs.SignLaws.{Filter, Found-improved, sign-search, sign-levels, sign-levels-end, visited-objectives, no-flip, keeping-filter, no-kept-flip}
+use Rattle.local_search.specs.LocalSearch.{Found, levels, Levels, foundIn}
+use Rattle.local_search.specs.Level.{flipSign}
+use Rattle.local_search.specs.SignSearch.{lower, improving, improves, keeping}
+use Rattle.local_search.proofs.SignLaws.{Filter, Found-improved, sign-search, sign-levels, sign-levels-end, no-flip, keeping-filter, no-kept-flip}
 use Rattle.sign_search.specs.Search.{objectiveIn, changeIn, heightIn, Mirrors, searchOver, beamSearch, limitedSearch}
 use Rattle.sign_search.proofs.Lawful.{lawful, fallen, not-below}
 
@@ -80,13 +79,6 @@ module _ {m : ℕ} {t : Table} (ok : Mirrors m t) (start : List ℕ) (long : len
     -- so the answer's objective is at most the start's
     pub answer-le : objectiveIn t answer ≤ℤ objectiveIn t start
     answer-le = omega (integers, rounds-fall, add-parts (objectiveIn t answer) (pos (4 * beamSearch t W start .rounds)))
-
-  -- every choice that the search visits has the objective that is carried along with it
-  pub visited : (W : ℕ)
-      → All (λ c. c .objective ≡ objectiveIn t (c .signs))
-      (concat (levels below (childrenC (changeIn t) (improvesC (changeIn t)) m) W (heightIn t start) (childrenC (changeIn t) (improvesC (changeIn t)) m (parentOf (objectiveIn t start) start))))
-  visited W =
-      visited-objectives m (objectiveIn t) (changeIn t) (floorOf t) (heightIn t) (lawful ok) (improvesC (changeIn t)) (λ c i e. e) W (heightIn t start) (parentOf (objectiveIn t start) start) (long, refl) (omega arith)
 
   -- ---- over the children that `keep` lets through, and what they hold
 

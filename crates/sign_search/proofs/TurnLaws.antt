@@ -8,16 +8,16 @@ use lib.Dec.{eqb}
 use mathlib.Core.Logic.{⊎-elim}
 use mathlib.Core.Bool.{Bool, true, false, cond, not}
 use mathlib.Core.List.{List}
-use mathlib.Core.Path.{_≡_, refl, sym, ap, ap₂, _∙_, subst}
+use mathlib.Core.Path.{_≡_, refl, sym, ap, ap₂, _∙_}
 use lib.IntN.{ℤ, pos, negsuc, negℤ, natAbs, _+ℤ_, _-ℤ_, _*ℤ_, *ℤ-zero, +ℤ-idl, +ℤ-idr, +ℤ-assoc}
 use lib.ListN.{length, getD, set, length-set}
 use lib.Seq.{getD-set-same, getD-set-other}
 use mir.Syntax.{w64}
 use mir.Val.{SFits}
-use Rattle.laws.specs.Sum.{sum, total, only}
+use Rattle.laws.specs.Sum.{sum, only}
 use Rattle.laws.proofs.Integer.{parts, differences, ring, square-one, times-one, abs-add, abs-mul, abs-neg, fits-abs}
-use Rattle.laws.proofs.Sums.{sum-more, sum-ext, sum-zero, sum-add, sum-scale, sum-only, sum-bounded, total-le}
-use Rattle.tables.specs.Table.{Table, InRange, Symmetric, SignVector, Rising, magnitudeOf, valueAt, sign, signAt, sameSign}
+use Rattle.laws.proofs.Sums.{sum-more, sum-ext, sum-zero, sum-add, sum-scale, sum-only, sum-bounded}
+use Rattle.tables.specs.Table.{Table, Symmetric, SignVector, Rising, magnitudeOf, valueAt, sign, signAt, sameSign}
 use Rattle.tables.specs.Flip.{flipped, flipChange, flipTerm}
 use Rattle.tables.proofs.Flips.{flip-entries}
 use Rattle.tables.proofs.Shares.{abs-sign, sign-vector}

@@ -1,5 +1,5 @@
 -- What the functions of the search on a table ask and leave.
-use Prim.Native.Nat.{ℕ, suc, _+_, _*_, _^_, _≤_, _<_}
+use Prim.Native.Nat.{ℕ, suc, _*_, _^_, _≤_, _<_}
 use mathlib.Core.Bool.{cond}
 use mathlib.Core.List.{List}
 use mathlib.Core.Path.{_≡_}
@@ -7,7 +7,7 @@ use lib.Dec.{eqb}
 use lib.IntN.{ℤ, pos, natAbs, _+ℤ_, _*ℤ_}
 use lib.ListN.{length, getD, set}
 use Rattle.laws.specs.Sum.{sum, total, only}
-use Rattle.tables.specs.Table.{Table, tableOf, Lent, InRange, magnitudeOf, signAt}
+use Rattle.tables.specs.Table.{Table, InRange, magnitudeOf, signAt}
 use Rattle.tables.specs.Flip.{flipTerm}
 use Rattle.local_search.specs.LocalSearch.{All, Found, nextLevel}
 use Rattle.local_search.specs.Level.{Choice, below, levelOf}

@@ -1,8 +1,8 @@
 -- Sums of a sign table's values are bounded by the magnitude of (H, c).
-use mathlib.Core.Path.{_≡_, refl, sym, _∙_, ap, ap₂}
+use mathlib.Core.Path.{_≡_, refl, _∙_, ap₂}
 use mathlib.Core.Bool.{Bool, true, false, cond}
-use Prim.Native.Nat.{ℕ, zero, suc, _+_, _*_, _^_, _<_, _≤_}
-use native.Mathlib.Nat.{le-trans, le-refl}
+use Prim.Native.Nat.{ℕ, _+_, _*_, _^_, _<_, _≤_}
+use native.Mathlib.Nat.{le-trans}
 use native.Mathlib.Omega.{arith}
 use lib.Dec.{eqb}
 use lib.IntN.{ℤ, pos, natAbs, negℤ, _+ℤ_, _-ℤ_, _*ℤ_, +ℤ-idl}
@@ -14,7 +14,7 @@ use Rattle.laws.specs.Sum.{sum, total, only}
 use Rattle.laws.proofs.Integer.{abs-add, abs-mul, abs-neg, fits-abs, held}
 use Rattle.laws.proofs.Sums.{sum-abs, total-at, total-le, Held, sum-held}
 use Rattle.laws.proofs.Totals.{onlyℕ, total-ext, total-mono, total-add, total-scale, total-swap, total-only}
-use Rattle.tables.specs.Table.{Table, InRange, magnitudeOf, valueAt}
+use Rattle.tables.specs.Table.{Table, InRange, magnitudeOf}
 use Rattle.sign_table.specs.Walk.{rowTerm, rowTotal, Convertible}
 
 pub abs-only : (a b : ℕ) (v : ℤ) → natAbs (only a b v) ≡ onlyℕ a b (natAbs v)

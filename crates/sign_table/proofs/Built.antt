@@ -1,10 +1,9 @@
 -- The sign table as the code writes it: one turn of each loop.
-use mathlib.Core.Path.{_≡_, refl, sym, _∙_, ap, ap₂}
+use mathlib.Core.Path.{_≡_, refl, sym, _∙_, ap}
 use mathlib.Core.List.{List, [], _∷_, _++_}
 use mathlib.Core.Bool.{Bool, true, false, not, cond}
-use Prim.Native.Nat.{ℕ, zero, suc, _+_, _-_, _*_, _^_, _<_, _≤_}
+use Prim.Native.Nat.{ℕ, suc, _+_, _^_, _<_, _≤_}
 use native.Mathlib.Decide.{decLt}
-use native.Mathlib.Nat.{le-trans, zero-add}
 use native.Mathlib.Omega.{arith}
 use native.Mathlib.Numerals.{add-one}
 use borrow.Author.Tests.{eq-eqb, ne-eqb, le-ltb}
@@ -18,14 +17,14 @@ use mir.Facts.{toZ-ofZ}
 use Rattle.laws.specs.Sum.{sum, sum₂, total, only}
 use Rattle.laws.proofs.Integer.{abs-add, abs-mul, fits-abs}
 use Rattle.laws.proofs.Sums.{sum-ext, sum-abs, total-at, turn-fits, turn-is}
-use Rattle.tables.specs.Table.{Table, InRange, magnitudeOf, valueAt, storedAt}
-use Rattle.sign_table.specs.SignTable.{absorbed, signValue, edge, rowPlaces, places, isZero, signKept, keptOf, signOf, signPlaces}
+use Rattle.tables.specs.Table.{Table, InRange, magnitudeOf, valueAt}
+use Rattle.sign_table.specs.SignTable.{absorbed, edge, rowPlaces, places, isZero, signKept, keptOf, signOf, signPlaces}
 use Rattle.sign_table.specs.Walk.{At, isHere, hereValue, afterHere, nextColumn, rowTerm, rowTotal, RowSummed, Wrote, Room, Convertible}
 use Rattle.sign_table.proofs.Costs.{inner, column, row, corner}
-use Rattle.sign_table.proofs.Cursor.{at-start, heldAt, Next, next-column, here-value, here-next, at-row, row-start, row-summed, total-start, row-total}
+use Rattle.sign_table.proofs.Cursor.{at-start, heldAt, Next, next-column, here-value, here-next, row-summed, total-start, row-total}
 use Rattle.tables.proofs.Writing.{wrote-none, wrote-more, wrote-same, wrote-value, wrote-edge, row-more, row-next, row-skip, row-length-lt, row-length-le}
 use Rattle.tables.proofs.Kept.{places-more, places-count, places-le}
-use Rattle.sign_table.proofs.Bounds.{abs-only, row-small, linear-small, rows-held, rows-abs}
+use Rattle.sign_table.proofs.Bounds.{abs-only, row-small, rows-held, rows-abs}
 
 -- ---- which places are kept
 

@@ -7,7 +7,6 @@ use native.Mathlib.Decide.{ℕ-discrete}
 use native.Mathlib.Omega.{arith}
 use Rattle.laws.specs.Lists.{elem}
 use lib.IntN.{ℤ, pos, negsuc, negℤ, _+ℤ_, _-ℤ_, _*ℤ_, *ℤ-comm}
-use lib.Dec.{eqb}
 use borrow.Author.Tests.{eq-eqb, ne-eqb}
 use Rattle.laws.specs.Sum.{sum, sum₂, only}
 use Rattle.tables.specs.Table.{sign, signAt, sameSign, objectiveAt, SignVector, Symmetric}
@@ -16,7 +15,7 @@ use Rattle.sign_table.specs.SignTable.{absorbed, signValue}
 use Rattle.laws.proofs.Integer.{parts, differences, ring, square-one, times-one, add-mul}
 use Rattle.laws.proofs.Sums.{sum-ext, sum-add, sum-scale, sum-only, sum₂-ext, sum₂-add, sum₂-scale, sum₂-swap}
 use Rattle.tables.proofs.Places.{only-mul}
-use Rattle.tables.proofs.Shares.{abs-sign, sign-vector}
+use Rattle.tables.proofs.Shares.{sign-vector}
 use Rattle.tables.proofs.Quadratic.{quadratic}
 
 -- a square of one more row and column

@@ -2,7 +2,7 @@
 use mathlib.Core.Path.{_≡_, refl, sym, _∙_, ap, ap₂}
 use mathlib.Core.Logic.{inl, inr}
 use mathlib.Core.Bool.{Bool, true, false, not, cond}
-use Prim.Native.Nat.{ℕ, zero, suc, _+_, _-_, _*_, _^_, _<_, _≤_}
+use Prim.Native.Nat.{ℕ, zero, suc, _+_, _-_, _^_, _<_, _≤_}
 use native.Mathlib.Decide.{ℕ-discrete, decLt, decLe}
 use native.Mathlib.Omega.{arith}
 use borrow.Author.Tests.{eq-eqb, ne-eqb, lt-ltb, le-ltb, le-leb, lt-leb}
@@ -10,14 +10,14 @@ use lib.Dec.{eqb, ltb, leb}
 use lib.Signed.{mag}
 use mir.Syntax.{w64}
 use mir.Val.{ofZ}
-use lib.IntN.{ℤ, pos, negsuc, _+ℤ_, _*ℤ_, +ℤ-idl, +ℤ-idr}
-use Rattle.laws.specs.Sum.{sum, sum₂, only}
-use Rattle.laws.proofs.Sums.{sum-ext, sum-add, sum-only, sum-swap, sum-zero, sum-more}
+use lib.IntN.{ℤ, pos, negsuc, _+ℤ_, _*ℤ_, +ℤ-idr}
+use Rattle.laws.specs.Sum.{sum, only}
+use Rattle.laws.proofs.Sums.{sum-ext, sum-add, sum-only, sum-swap, sum-zero}
 use Rattle.tables.specs.Table.{Table, Before, InRange, Rising, valueAt, storedAt}
 use Rattle.sign_table.specs.SignTable.{absorbed, isZero}
-use Rattle.sign_table.specs.Walk.{At, inRow, isHere, storedColumn, nextColumn, hereValue, afterHere, rowTerm, rowTotal, RowAt, RowSummed, Convertible}
+use Rattle.sign_table.specs.Walk.{At, inRow, isHere, storedColumn, nextColumn, hereValue, afterHere, rowTerm, rowTotal, RowAt, RowSummed}
 use Rattle.tables.proofs.Places.{only-sum}
-use Rattle.tables.proofs.Mirrors.{rises, value-here, value-none, stored-here, stored-none, unstored-zero}
+use Rattle.tables.proofs.Mirrors.{rises, value-here, stored-here, stored-none, unstored-zero}
 
 unequal : true ≡ false → ⊥
 unequal e = let z : _≡_ {A = ℕ} 0 1 = cc in omega arith
@@ -94,24 +94,6 @@ module _ {h : Table} (ri : Rising h) {k i j : ℕ} (at : At h k i j) where
   -- entry k, in this row, is not behind
   pub column-ahead : k < h .count → h .row k ≡ i → j ≤ h .column k
   column-ahead b r = same-row i j j (h .column k) (λ before. at .ahead k (omega arith) b (rw r before))
-
--- past the row's last column
-pub at-row : {n : ℕ} {h : Table} {k i : ℕ} → InRange n h → At h k i n → At h k (suc i) 0
-at-row {n} {h} {k} {i} r at =
-    record {
-      inside = at .inside;
-      behind = λ l b. down _ _ (at .behind l b);
-      ahead = λ l a b before. go l a b (ℕ-discrete (h .row l) i) before;
-    }
-  where
-    down : (x y : ℕ) → Before x y i n → Before x y (suc i) 0
-    down x y (inl p) = inl (omega arith)
-    down x y (inr p) = inl (omega arith)
-
-    go : (l : ℕ) → k ≤ l → l < h .count → Dec (h .row l ≡ i) → Before (h .row l) (h .column l) (suc i) 0 → ⊥
-    go l a b d (inr p) = omega arith
-    go l a b (yes e) (inl p) = at .ahead l a b (inr (e, r .cols-in l b))
-    go l a b (no d) (inl p) = at .ahead l a b (inl (omega arith))
 
 -- ---- what stands at the cursor's place
 
@@ -303,9 +285,6 @@ module _ {h : Table} {k i : ℕ} where
       low : (l : ℕ) → Before (h .row l) (h .column l) i 0 → h .row l ≡ i → ⊥
       low l (inl p) e = omega arith
       low l (inr p) e = omega arith
-
-pub total-step : (h : Table) (k i : ℕ) → h .row k ≡ i → sum (k + 1) (rowTerm (h .row) (h .value) i) ≡ sum k (rowTerm (h .row) (h .value) i) +ℤ h .value k
-total-step h k i r = sum-more k (rowTerm (h .row) (h .value) i) ∙ rw (eq-eqb (h .row k) i r)
 
 sum-tail : (n k : ℕ) (f : ℕ → ℤ) → k ≤ n → ((l : ℕ) → k ≤ l → l < n → f l ≡ pos 0) → sum n f ≡ sum k f
 unfolding sum

@@ -9,7 +9,7 @@ use Rattle.laws.specs.Lists.{elemZ, anyBelow}
 use Rattle.laws.specs.Refusal.{orElse, first, anyOf}
 use Rattle.ieee.specs.Floats.{eighthOf}
 use Rattle.tables.specs.Limits.{mostWagons, mostEntries, mostMagnitude}
-use Rattle.tables.specs.Table.{Table, tableOf, valueAt, storedAt, share, least, floorOf}
+use Rattle.tables.specs.Table.{Table, tableOf, valueAt, storedAt, least, floorOf}
 use Rattle.tables.specs.Cost.{costEighths, choiceAt}
 use Rattle.tables.specs.Check.{before, badSize, badEntry, badOrder, unmirrored, hallNumber}
 use Rattle.tables.specs.Bound.{boundTerm, boundSum, magnitudeSum, margin, entrywise}

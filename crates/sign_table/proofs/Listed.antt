@@ -10,7 +10,7 @@ use lib.ListN.{length}
 use lib.Dec.{eqb, ltb}
 use lib.IntN.{ℤ, pos, negsuc, negℤ, _+ℤ_, _*ℤ_, +ℤ-idl, +ℤ-idr, +ℤ-assoc, zero-*ℤ}
 use borrow.Author.Tests.{eqb-true, eq-eqb, ne-eqb, not-false}
-use Rattle.laws.specs.Sum.{sum, sum₂, only}
+use Rattle.laws.specs.Sum.{sum, sum₂}
 use Rattle.tables.specs.Table.{Table, valueAt, storedAt, share, objectiveTerm, objectiveOf, objectiveAt, signAt, Symmetric}
 use Rattle.tables.specs.Cost.{costEighths, decoded}
 use Rattle.sign_table.specs.SignTable.{absorbed, signValue, edge, rowPlaces, places, isZero, signKept, keptOf, signOf, signPlaces, signTable, listed}

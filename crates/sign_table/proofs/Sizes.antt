@@ -1,25 +1,25 @@
 -- The sign table of (H, c): in range, rising, mirrored, how many entries it has and of which magnitude.
-use mathlib.Core.Path.{_≡_, refl, sym, _∙_, ap, ap₂}
+use mathlib.Core.Path.{_≡_, refl, sym, _∙_, ap}
 use mathlib.Core.Bool.{Bool, true, false, not, cond}
-use Prim.Native.Nat.{ℕ, zero, suc, _+_, _*_, _^_, _<_, _≤_}
+use Prim.Native.Nat.{ℕ, suc, _+_, _*_, _^_, _<_, _≤_}
 use native.Mathlib.Decide.{ℕ-discrete}
-use native.Mathlib.Nat.{le-trans, le-refl, mul-one}
+use native.Mathlib.Nat.{le-trans, mul-one}
 use native.Mathlib.Omega.{arith}
 use borrow.Author.Tests.{eq-eqb, ne-eqb}
 use lib.ListN.{length}
 use lib.Dec.{eqb}
-use lib.IntN.{ℤ, pos, negℤ, natAbs, _+ℤ_, _*ℤ_}
-use Rattle.laws.specs.Sum.{sum, sum₂, total, only}
+use lib.IntN.{ℤ, pos, negℤ, natAbs, _*ℤ_}
+use Rattle.laws.specs.Sum.{sum, total, only}
 use Rattle.laws.proofs.Integer.{abs-add, abs-mul, abs-neg}
 use Rattle.laws.proofs.Sums.{sum-abs, total-at}
 use Rattle.laws.proofs.Totals.{onlyℕ, total-ext, total-mono, total-add, total-scale, total-const, total-swap, total-only, total₂-suc}
-use Rattle.tables.specs.Table.{Table, InRange, Rising, Mirrored, Symmetric, Before, magnitudeOf, valueAt, storedAt}
+use Rattle.tables.specs.Table.{Table, InRange, Rising, Mirrored, Symmetric, magnitudeOf, valueAt, storedAt}
 use Rattle.tables.specs.Check.{Hall}
-use Rattle.sign_table.specs.SignTable.{absorbed, signValue, places, isZero, signKept, keptOf, signOf, signPlaces, signTable, listed}
+use Rattle.sign_table.specs.SignTable.{absorbed, places, isZero, keptOf, signOf, signPlaces, signTable, listed}
 use Rattle.sign_table.specs.Walk.{rowTotal, Convertible}
 use Rattle.tables.proofs.Kept.{place-at, place-rise, places-have, row-listed, col-listed, value-listed, places-number, places-magnitude}
-use Rattle.tables.proofs.Mirrors.{stored-true, stored-here, stored-false, stored-none, mirrored-symmetric}
-use Rattle.sign_table.proofs.Costs.{inner, column, row, corner, sign-symmetric, absorbed-symmetric}
+use Rattle.tables.proofs.Mirrors.{stored-true, stored-here, mirrored-symmetric}
+use Rattle.sign_table.proofs.Costs.{inner, column, row, sign-symmetric, absorbed-symmetric}
 use Rattle.sign_table.proofs.Cursor.{heldAt, row-total}
 use Rattle.sign_table.proofs.Built.{kept-inner, kept-column, kept-row, kept-corner, corner-total}
 use Rattle.sign_table.proofs.Bounds.{abs-only, rows-abs}

@@ -9,8 +9,8 @@ use Rattle.laws.specs.Lists.{elem, elemZ, over}
 use Rattle.tables.specs.Table.{Table, tableOf, valueAt, signAt, objectiveOf, floorOf}
 use Rattle.tables.specs.Cost.{costEighths, decoded, choiceAt}
 use Rattle.tables.specs.Check.{Hall, Accepted}
-use Rattle.tables.specs.Stored.{rowsOf, colsOf, valuesOf, Wrote, Room}
-use Rattle.tables.proofs.Slices.{Same, same-objective, same-floor, same-accepted, written-same, over-same}
+use Rattle.tables.specs.Stored.{rowsOf, colsOf, valuesOf}
+use Rattle.tables.proofs.Slices.{Same, same-objective, same-floor, same-accepted, over-same}
 use Rattle.sign_table.specs.SignTable.{signOf, signPlaces}
 use Rattle.sign_table.proofs.Theorems.{sign-table-accepted, objective-cost, floor-le-choice}
 
@@ -20,11 +20,6 @@ pub record Holds (n : ℕ) (h : Table) (c : ℕ → ℤ) (rows cols : List ℕ) 
       (elemZ (valuesOf (signOf n h c) (signPlaces n h c)))
 
 module _ (n : ℕ) (h : Table) (c : ℕ → ℤ) where
-  -- as `sign_matrix` leaves them
-  pub written-holds : {rows cols : List ℕ} {values : List ℤ} {rows′ cols′ : List ℕ} {values′ : List ℤ} → Wrote (signOf n h c) (signPlaces n h c) 0 rows cols values rows′ cols′ values′
-      → Room 0 (length (signPlaces n h c)) rows cols values → Holds n h c rows′ cols′ values′
-  written-holds w room = record { same = written-same w room }
-
   -- written over the front of others
   pub over-holds : (rows cols : List ℕ) (values : List ℤ) {rows′ cols′ : List ℕ} {values′ : List ℤ} → rows′ ≡ over (rowsOf (signPlaces n h c)) rows → cols′ ≡ over (colsOf (signPlaces n h c)) cols
       → values′ ≡ over (valuesOf (signOf n h c) (signPlaces n h c)) values → Holds n h c rows′ cols′ values′

@@ -1,23 +1,18 @@
 -- What holds of every accepted (H, c): n wagons, the table h of quadratic costs, the linear costs c, within whatever limits.
-use mathlib.Core.Path.{_≡_, sym, _∙_, ap}
+use mathlib.Core.Path.{_≡_}
 use mathlib.Core.List.{List}
-use Prim.Native.Nat.{ℕ, suc, _+_, _*_, _^_, _<_, _≤_}
+use Prim.Native.Nat.{ℕ, suc, _+_, _*_}
 use native.Mathlib.Omega.{arith}
 use lib.ListN.{take}
-use lib.IntN.{ℤ, pos, _+ℤ_, _-ℤ_, _*ℤ_}
+use lib.IntN.{ℤ}
 use lib.Signed.{_≤ℤ_}
-use Rattle.laws.specs.Sum.{sum}
-use Rattle.laws.proofs.Sums.{sum-ext}
 use Rattle.tables.specs.Limits.{mostWagons, mostEntries, mostMagnitude, mostSigns, mostSignEntries, mostSignMagnitude}
 use Rattle.tables.specs.Table.{Table, Symmetric, valueAt, signAt, objectiveOf, floorOf}
 use Rattle.tables.specs.Cost.{costEighths, decoded, choiceAt}
 use Rattle.tables.specs.Check.{Hall, Accepted}
-use Rattle.tables.specs.Flip.{flipped, flipChange}
-use Rattle.tables.proofs.Shares.{sign-vector}
 use Rattle.tables.proofs.Mirrors.{mirrored-symmetric}
-use Rattle.tables.proofs.Quadratic.{floor-below}
+use Rattle.tables.proofs.Theorems.{floor-le-objective}
 use Rattle.tables.proofs.Choices.{choice-cost}
-use Rattle.tables.proofs.Flips.{objective-flipped, flip-four}
 use Rattle.sign_table.specs.SignTable.{signTable}
 use Rattle.sign_table.proofs.Listed.{table-objective-is-cost}
 use Rattle.sign_table.proofs.Sizes.{sign-range, sign-rising, sign-mirrored, sign-count, sign-magnitude}
@@ -45,23 +40,10 @@ module _ {most capacity limit n : ℕ} {h : Table} {c : ℕ → ℤ} (ok : Hall 
 
   -- its floor is at most the cost of whatever signs decode to, hence of every choice
   pub floor-le-cost : (signs : List ℕ) → floorOf (signTable n h c) ≤ℤ costEighths n (valueAt h) c (decoded n signs)
-  floor-le-cost signs =
-      let t = sign-table-accepted in
-      rw (← (objective-cost signs))
-      (floor-below (t .in-range) (signAt signs) (mirrored-symmetric (t .rising) (t .mirrored) (suc n)) (sign-vector signs))
+  floor-le-cost signs = rw (← (objective-cost signs)) (floor-le-objective sign-table-accepted signs)
 
   pub floor-le-choice : (b : List ℕ) → floorOf (signTable n h c) ≤ℤ costEighths n (valueAt h) c (choiceAt b)
   floor-le-choice b = rw (← (choice-cost n (valueAt h) c b)) (floor-le-cost (take n b))
-
-  -- flipping one sign, the anchor too, changes the cost by 4·Q_ii − 4·x_i·(Qx)_i
-  pub cost-flipped : (signs signs′ : List ℕ) (i : ℕ) → i < suc n → ((j : ℕ) → signAt signs′ j ≡ flipped (signAt signs) i j)
-      → costEighths n (valueAt h) c (decoded n signs′) ≡ costEighths n (valueAt h) c (decoded n signs) +ℤ flipChange (suc n) (valueAt (signTable n h c)) (signAt signs) i
-  cost-flipped signs signs′ i l is =
-      let t = sign-table-accepted in
-      sym (objective-cost signs′)
-      ∙ sum-ext (signTable n h c .count) _ _ (λ k b. rw (is (signTable n h c .row k), is (signTable n h c .column k)))
-      ∙ objective-flipped (t .in-range) (t .rising) (t .mirrored) (signAt signs) (sign-vector signs) i l
-      ∙ ap (λ z. z +ℤ flipChange (suc n) (valueAt (signTable n h c)) (signAt signs) i) (objective-cost signs)
 
 -- 01's limits: 127 wagons, 4,096 entries and 2^40 give 128 signs, 4,478 entries and 2^42
 pub house-sign-table : {n : ℕ} {h : Table} {c : ℕ → ℤ} → Hall mostWagons mostEntries mostMagnitude n h c → Accepted mostSigns mostSignEntries mostSignMagnitude (suc n) (signTable n h c)

@@ -1,16 +1,15 @@
 // `absorb_linear_terms_into_hessian`, without a table of its own: the values, the kept columns and the row sums of H with 2·c_i added at (i, i).
 use tables::check::wide;
 ghost use mathlib.Core.Path.{_≡_};
-ghost use mathlib.Core.Bool.{not, cond};
-ghost use mathlib.Core.List.{[], _∷_};
-ghost use Prim.Native.Nat.{ℕ, suc, _+_, _*_, _≤_, _<_, _^_};
+ghost use mathlib.Core.Bool.{cond};
+ghost use Prim.Native.Nat.{_+_, _*_, _≤_, _<_, _^_};
 ghost use lib.ListN.{length};
-ghost use lib.IntN.{pos, natAbs, negℤ, _*ℤ_};
+ghost use lib.IntN.{pos, natAbs, _*ℤ_};
 ghost use Rattle.laws.specs.Sum.{sum, total, only};
 ghost use Rattle.laws.specs.Lists.{elem, elemZ};
-ghost use Rattle.tables.specs.Table.{tableOf, Lent, Rising, magnitudeOf};
-ghost use Rattle.sign_table.specs.SignTable.{isZero, edge, rowPlaces, places, keptOf, signOf, signPlaces};
-ghost use Rattle.sign_table.specs.Walk.{At, inRow, isHere, storedColumn, nextColumn, hereValue, afterHere, rowTerm, RowAt, RowSummed, rowTotal, Wrote, Room, Convertible};
+ghost use Rattle.tables.specs.Table.{tableOf, Lent, magnitudeOf};
+ghost use Rattle.sign_table.specs.SignTable.{isZero};
+ghost use Rattle.sign_table.specs.Walk.{inRow, isHere, storedColumn, nextColumn, hereValue, afterHere, rowTerm, RowAt, RowSummed};
 
 // Whether entry k is there, in row i.
 fn in_row(count: usize, rows: &[u16], i: usize, k: usize) -> bool

@@ -5,16 +5,16 @@ use crate::absorb::next_column;
 use crate::absorb::row_sum;
 use crate::absorb::vanishes;
 ghost use mathlib.Core.Path.{_≡_};
-ghost use mathlib.Core.Bool.{not, cond};
+ghost use mathlib.Core.Bool.{not};
 ghost use mathlib.Core.List.{[], _∷_};
-ghost use Prim.Native.Nat.{ℕ, suc, _+_, _*_, _≤_, _<_, _^_};
+ghost use Prim.Native.Nat.{suc, _+_, _*_, _≤_, _<_, _^_};
 ghost use lib.ListN.{length};
-ghost use lib.IntN.{pos, natAbs, negℤ, _*ℤ_};
-ghost use Rattle.laws.specs.Sum.{sum, total, only};
-ghost use Rattle.laws.specs.Lists.{elem, elemZ};
-ghost use Rattle.tables.specs.Table.{tableOf, Lent, Rising, magnitudeOf};
+ghost use lib.IntN.{natAbs, negℤ};
+ghost use Rattle.laws.specs.Sum.{sum, total};
+ghost use Rattle.laws.specs.Lists.{elemZ};
+ghost use Rattle.tables.specs.Table.{tableOf, Lent};
 ghost use Rattle.sign_table.specs.SignTable.{isZero, edge, rowPlaces, places, keptOf, signOf, signPlaces};
-ghost use Rattle.sign_table.specs.Walk.{At, inRow, isHere, storedColumn, nextColumn, hereValue, afterHere, rowTerm, RowAt, RowSummed, rowTotal, Wrote, Room, Convertible};
+ghost use Rattle.sign_table.specs.Walk.{At, rowTotal, Wrote, Room, Convertible};
 
 // One entry, at `at`.
 fn put(

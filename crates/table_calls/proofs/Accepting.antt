@@ -9,12 +9,12 @@ use lib.Dec.{ltb, lit<, lit≤}
 use lib.ListN.{length, drop, length-map}
 use lib.Seq.{sets, sets-eq}
 use lib.IntN.{ℤ}
-use Rattle.laws.specs.Refusal.{_if_, orElse, first, anyOf, short}
+use Rattle.laws.specs.Refusal.{_if_, orElse, first, short}
 use Rattle.laws.proofs.Refusal.{clear, first-head, first-rest}
 use Rattle.laws.proofs.Any.{any-head, any-rest, any-not, any-none}
 use Rattle.tables.specs.Limits.{mostWagons, mostEntries, mostMagnitude, mostSigns, mostSignEntries, mostSignMagnitude}
 use Rattle.tables.specs.Table.{Table, Lent, InRange, tableOf, magnitudeOf}
-use Rattle.tables.specs.Check.{badSize, shortTable, hallNumber, tableNumber, Hall, Accepted}
+use Rattle.tables.specs.Check.{badSize, shortTable, Hall, Accepted}
 use Rattle.tables.proofs.Checks.{long-enough, table-lent, table-accepted, hall-accepted, size-passes}
 use Rattle.laws.specs.Lists.{elemZ, over}
 use Rattle.sign_table.specs.SignTable.{rowsOf, colsOf, valuesOf, signPlaces}
@@ -23,7 +23,7 @@ use Rattle.sign_table.proofs.Sizes.{sign-count, hall-convertible}
 use Rattle.table_calls.specs.declared.Entries.the-variants as T
 use Rattle.table_calls.specs.Answer.{answered}
 use Rattle.table_calls.specs.Convert.{Converts}
-use Rattle.table_calls.specs.Numbers.{badSigns, badWagons, signTableNumber, houseNumber, floorNumber, objectiveShort, objectiveNumber, decodeShort, decodeNumber, costShort, costNumber, roomShort, signShort, signNumber}
+use Rattle.table_calls.specs.Numbers.{badSigns, signTableNumber, houseNumber, floorNumber, objectiveShort, objectiveNumber, decodeShort, decodeNumber, costShort, costNumber, roomShort, signShort, signNumber}
 
 -- ---- answers
 

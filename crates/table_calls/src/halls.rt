@@ -11,7 +11,6 @@ use tables::limits::MOST_WAGONS;
 use tables::objective;
 ghost use mathlib.Core.Path.{_≡_};
 ghost use Prim.Native.Nat.{_+_, _*_};
-ghost use lib.ListN.{length};
 ghost use Rattle.laws.specs.Lists.{elemZ};
 ghost use Rattle.tables.specs.Table.{tableOf, valueAt};
 ghost use Rattle.tables.specs.Cost.{costEighths, choiceAt};

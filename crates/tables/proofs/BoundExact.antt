@@ -1,13 +1,12 @@
 -- The float bound is the exact floor, in whole units, less its margin: eighths up to 2 ^ 53 in magnitude and their sums are exact in doubles.
-use mathlib.Core.Path.{_≡_, refl, sym, _∙_, ap, ap₂}
+use mathlib.Core.Path.{_≡_, refl, _∙_, ap}
 use mathlib.Core.Bool.{Bool, true, false, cond}
-use Prim.Native.Nat.{ℕ, zero, suc, _+_, _^_, _≤_, _<_}
+use Prim.Native.Nat.{ℕ, zero, suc, _^_, _≤_, _<_}
 use native.Mathlib.Nat.{le-trans}
 use native.Mathlib.Omega.{arith}
-use borrow.Author.Tests.{eq-eqb, ne-eqb}
 use lib.Dec.{eqb}
 use lib.IntN.{ℤ, pos, negℤ, natAbs, _+ℤ_}
-use lib.Ieee.{Float, binary64, ofBits, ofInt, div, neg}
+use lib.Ieee.{ofBits, ofInt, div, neg}
 use Rattle.laws.specs.Sum.{sum, total}
 use Rattle.laws.proofs.Sums.{sum-abs, total-le, total-at}
 use Rattle.laws.proofs.Totals.{total-mono}

@@ -1,18 +1,18 @@
 -- The float bound: its terms by cases, and its sums turn by turn.
-use mathlib.Core.Path.{_≡_, refl, sym, _∙_, ap}
+use mathlib.Core.Path.{_≡_, refl}
 use mathlib.Core.Bool.{true, false}
-use Prim.Native.Nat.{ℕ, zero, suc, _+_, _^_, _≤_, _<_}
+use Prim.Native.Nat.{ℕ, suc, _+_, _^_, _≤_}
 use native.Mathlib.Omega.{arith}
 use native.Mathlib.Numerals.{add-one}
 use borrow.Author.Tests.{eq-eqb, ne-eqb, ltb-true}
 use lib.Dec.{T, le→leb}
-use lib.IntN.{ℤ, pos, negsuc, negℤ, natAbs, _-ℤ_, +ℤ-idl}
+use lib.IntN.{ℤ, pos, negsuc, natAbs, _-ℤ_, +ℤ-idl}
 use lib.Signed.{ltZ}
 use mir.Syntax.{w64}
 use mir.Val.{SFits}
-use lib.Ieee.{Float, binary64, inFloat, neg, add}
+use lib.Ieee.{Float, binary64, inFloat, neg}
 use Rattle.ieee.specs.Floats.{_+ᶠ_, eighthOf}
-use Rattle.laws.proofs.Integer.{ltZ-true, ltZ-false, fits-abs, abs-neg}
+use Rattle.laws.proofs.Integer.{ltZ-false, fits-abs}
 use Rattle.tables.specs.Table.{Table}
 use Rattle.tables.specs.Bound.{boundTerm, boundSum, magnitudeSum}
 

@@ -1,27 +1,27 @@
 -- What the checks show: the mirror search, and that nothing is refused exactly where the table is as it should be.
 use Prim.Native.Nat.{ℕ, zero, suc, _+_, _-_, _*_, _^_, _<_, _≤_, min}
 use mathlib.Core.Path.{_≡_, refl, sym, ap, _∙_}
-use mathlib.Core.Bool.{Bool, true, false, cond, not, _&&_}
+use mathlib.Core.Bool.{Bool, true, false, not, _&&_}
 use mathlib.Core.List.{List, [], _∷_}
 use mathlib.Core.Logic.{_⊎_, inl, inr}
 use native.Mathlib.Omega.{arith}
 use native.Mathlib.Numerals.{add-one}
-use native.Mathlib.Nat.{eq-or-lt-of-le, le-of-suc-le-suc}
+use native.Mathlib.Nat.{eq-or-lt-of-le}
 use native.Mathlib.Decide.{ℕ-discrete, decLt}
-use borrow.Author.Tests.{eq-eqb, ne-eqb, eqb-true, eqb-false, ltb-true, ltb-false, leb-false, lt-ltb, le-ltb, lt-leb, not-false}
+use borrow.Author.Tests.{eq-eqb, ne-eqb, eqb-true, eqb-false, ltb-false, leb-false, lt-ltb, le-ltb, lt-leb, not-false}
 use lib.ListN.{length}
-use lib.Dec.{eqb, leb, ltb}
-use lib.IntN.{ℤ, pos, negsuc, natAbs}
+use lib.Dec.{eqb, ltb}
+use lib.IntN.{ℤ, pos, negsuc}
 use lib.Signed.{mag}
 use mir.Syntax.{w64}
 use mir.Val.{ofZ}
 use Rattle.laws.specs.Sum.{total}
 use Rattle.laws.specs.Lists.{anyBelow}
-use Rattle.laws.specs.Refusal.{_if_, first, anyOf, short}
+use Rattle.laws.specs.Refusal.{_if_, first, short}
 use Rattle.laws.proofs.Refusal.{clear, first-head, first-rest, first-skip, first-end}
 use Rattle.laws.proofs.Any.{any-head, any-rest, any-not, any-none, below-none, below-only, below-true, below-false, below-at}
-use Rattle.tables.specs.Table.{Table, Lent, tableOf, InRange, Before, Rising, Mirrored, magnitudeOf}
-use Rattle.tables.specs.Check.{badSize, before, badEntry, badOrder, placeOf, Placed, eqZ, isMirror, unmirrored, hallMagnitude, hallNumber, tableNumber, shortTable, Hall, Accepted}
+use Rattle.tables.specs.Table.{Table, Lent, InRange, Before, Rising, Mirrored}
+use Rattle.tables.specs.Check.{badSize, before, badEntry, badOrder, placeOf, Placed, eqZ, isMirror, unmirrored, hallNumber, tableNumber, shortTable, Hall, Accepted}
 use Rattle.tables.proofs.Mirrors.{rises}
 
 unequal : false ≡ true → ⊥

@@ -1,6 +1,6 @@
 -- 01's ranks, computed.
 use mathlib.Core.Path.{_≡_, refl}
-use mathlib.Core.List.{List, [], _∷_, map}
+use mathlib.Core.List.{[], _∷_, map}
 use Rattle.tables.specs.Rank.{rootFrom, leastRoot, defaultRank}
 
 -- for m 1, 2, 3, 8, 9, 128

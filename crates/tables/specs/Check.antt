@@ -1,7 +1,7 @@
 -- The numbers 13, 14, 15, 16 of a table and 31 of its slices (01, "Numbers from the input" and "Numbers from the state"), with the limits
 -- as parameters.
 use mathlib.Core.Bool.{Bool, true, false, cond, _&&_, not}
-use mathlib.Core.List.{List, [], _∷_}
+use mathlib.Core.List.{[], _∷_}
 use Prim.Native.Nat.{ℕ, _+_, _*_, _-_, _≤_, _<_}
 use lib.Dec.{eqb, leb, ltb}
 use lib.IntN.{ℤ, pos, negsuc, natAbs}

@@ -1,14 +1,14 @@
 // The numbers 13, 14 and 16 of a table, the first of 13 to 16, and 31 of its slices. Each is a pass of its own and writes nothing.
 use crate::mirror::unmirrored;
 ghost use mathlib.Core.Path.{_≡_};
-ghost use Prim.Native.Nat.{ℕ, _+_, _*_, _≤_, _<_, _^_, min};
+ghost use Prim.Native.Nat.{_+_, _*_, _≤_, _<_, _^_, min};
 ghost use lib.ListN.{length};
 ghost use lib.Dec.{ltb};
 ghost use lib.IntN.{natAbs};
 ghost use Rattle.laws.specs.Sum.{total};
 ghost use Rattle.laws.specs.Lists.{elem, elemZ};
 ghost use Rattle.laws.specs.Refusal.{short};
-ghost use Rattle.tables.specs.Table.{tableOf, Lent, magnitudeOf};
+ghost use Rattle.tables.specs.Table.{tableOf, Lent};
 ghost use Rattle.tables.specs.Check.{badSize, before, badEntry, badOrder, hallNumber, tableNumber, shortTable};
 
 // 13: a size or an entry count out of its limits.

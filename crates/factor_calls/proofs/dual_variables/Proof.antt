@@ -29,9 +29,9 @@ multipliers-requires c κs = let a = c .before .before .before .before .before .
 
 returns-2 : tie.Need-returns-2
 returns-2 c = record {
-      answers = sym (c .before .before .before .before .before .before .if1 .left) ∙ c .before .before .before .before .before .before .before .dual-number .ensures;
-      multipliers-are = (rw (c .before .before .before .before .before .rank-meant .ensures .0) at (c .before .before .multipliers .ensures .1)) ∙ accepted-is _ _ _ (c .before .before .before .before .before .before .before .dual-number .ensures) (c .before .before .before .before .before .before .if1 .left);
-    }
+  answers = sym (c .before .before .before .before .before .before .if1 .left) ∙ c .before .before .before .before .before .before .before .dual-number .ensures;
+  multipliers-are = (rw (c .before .before .before .before .before .rank-meant .ensures .0) at (c .before .before .multipliers .ensures .1)) ∙ accepted-is _ _ _ (c .before .before .before .before .before .before .before .dual-number .ensures) (c .before .before .before .before .before .before .if1 .left);
+}
 
 pub dual-variables-spec : {M : Type 1} → statement M
 dual-variables-spec =

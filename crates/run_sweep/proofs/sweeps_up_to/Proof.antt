@@ -54,7 +54,7 @@ loop-less : tie.Need-loop-less Inv-loop μ-loop
 loop-less c = omega (arith, c .before .before .before .before .before .before .before .before .before .before .before .before .before .before .before .loop-test .taken)
 
 loop-again : tie.Need-loop-again Inv-loop μ-loop
-loop-again c = 
+loop-again c =
     let open′ = sym (c .before .before .before .before .before .before .before .before .before .before .before .before .before .before .is-stopped .ensures) ∙ c .before .before .before .before .before .before .before .before .before .before .before .before .before .if1 .left in
     let after = c .before .before .before .before .before .before .before .before .sweep-on .ensures .0 ∙ ap (runAfter _ (work _ _ _ _)) (sym (c .before .before .before .before .before .before .before .before .sweep-on .ensures .1)) in
     let next = turn _ _ _ _ _ _ _ _ (c .before .before .before .before .before .before .before .before .before .before .before .before .before .before .before .loop-test .taken) open′ (c .before .before .before .before .before .before .before .before .before .before .before .before .before .before .before .before .loop .inv .5 open′) (c .before .before .before .before .before .before .before .before .sweep-on .ensures .1) after (c .before .before .before .before .before .before .before .before .before .before .before .before .before .before .before .before .loop .inv .7) in

@@ -1,15 +1,13 @@
 -- `factor::block4::put_block` meets its contract. The part that comes back is the block, put in its place. Assumes nothing.
 use borrow.Author.Needs.{needs}
-use native.Mathlib.Omega.{arith}
 use native.Mathlib.Nat.{add-sub-cancel-left}
-use mathlib.Core.Path.{_∙_}
-use Prim.Native.Nat.{_+_}
-use Rattle.laws.proofs.Parts.{length-part}
+use mathlib.Core.Path.{refl}
+use Rattle.factor.proofs.Written.{block-asked}
 use Rattle.factor.proofs.block4.put_block.Statement.{statement}
 use Rattle.factor.proofs.block4.put_block.Tie as tie
 
 product-block-requires : tie.Need-product-block-requires
-product-block-requires c κs = ((length-part (c .before .before .before .before .before .args .offset) (c .before .before .before .before .before .args .offset + 4) (c .before .before .before .before .before .args .g .now) (c .before .before .before .before .before .pre .0 .0) ∙ add-sub-cancel-left (c .before .before .before .before .before .args .offset) 4, c .before .before .before .before .before .pre .0 .1), λ e l. omega (arith, c .before .before .before .before .before .pre .1 e l))
+product-block-requires c κs = let s = c .before .before .before .before .before in block-asked (s .args .cols .now) (s .args .values .now) (s .args .factor .now) (s .args .g .now) _ _ 4 refl (s .pre .0 .0) (s .pre .0 .1) (s .pre .1)
 
 returns : tie.Need-returns
 returns c = rw (c .before .before .product-block .ensures, add-sub-cancel-left)

@@ -1,6 +1,6 @@
 -- `finalize::choice::choose` meets its contract. The arrays are cut to a direction and to n + 1 signs. Assumes nothing.
 use borrow.Author.Needs.{needs}
-use mathlib.Core.Path.{_≡_, sym, _∙_}
+use mathlib.Core.Path.{sym, _∙_}
 use native.Mathlib.Numerals.{add-one}
 use native.Mathlib.Omega.{arith}
 use lib.Seq.{length-take-le}

@@ -1,7 +1,7 @@
 -- `finalize::multipliers::multipliers` meets its contract. The arrays are cut to m rows; the multipliers stand at the front of their slice. Assumes nothing.
 use borrow.Author.Needs.{needs}
 use Prim.Native.Nat.{_*_, _≤_}
-use mathlib.Core.Path.{_≡_, sym}
+use mathlib.Core.Path.{sym}
 use native.Mathlib.Nat.{mul-le-mul}
 use native.Mathlib.Omega.{arith}
 use denote.Ref.{now}

@@ -1,6 +1,6 @@
 -- `finalize::multipliers::multiply_out` meets its contract. The table without its diagonal is cut from the front of its slices. Assumes nothing.
 use borrow.Author.Needs.{needs}
-use mathlib.Core.Path.{_≡_, sym, _∙_, ap}
+use mathlib.Core.Path.{sym, _∙_, ap}
 use Prim.Native.Nat.{_≤_}
 use native.Mathlib.Omega.{arith}
 use denote.Ref.{now}

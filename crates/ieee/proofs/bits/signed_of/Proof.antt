@@ -1,11 +1,11 @@
 -- `ieee::bits::signed_of` meets its contract: in the upper half, -1 less the complement is the number in two's complement. Assumes nothing.
 use Prim.Native.Nat.{ℕ, zero, suc, _-_, _<_, _≤_, _^_}
-use mathlib.Core.Path.{_≡_, refl, sym, ap, _∙_, subst}
+use mathlib.Core.Path.{_≡_, refl, sym, ap, _∙_}
 use native.Mathlib.Omega.{arith}
 use native.Mathlib.Nat.{zero-add}
 use lib.IntN.{ℤ, pos, negsuc, _-ℤ_}
 use mir.Syntax.{w64}
-use mir.Val.{SFits, toZ, ofZ}
+use mir.Val.{SFits, toZ}
 use mir.Facts.{toZ-ofZ, toZ-pos, toZ-neg}
 use borrow.Author.Needs.{needs}
 use Rattle.ieee.proofs.bits.signed_of.Statement.{statement}

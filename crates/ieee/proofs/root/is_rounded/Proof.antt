@@ -5,7 +5,7 @@ use Prim.Native.Nat.{_/_, _%_, _^_}
 use native.Mathlib.Omega.{arith}
 use borrow.Author.Tests.{leb-true}
 use lib.Dec.{T}
-use Rattle.ieee.proofs.Halves.{near, Parts, parts}
+use Rattle.ieee.proofs.Halves.{near, parts}
 use Rattle.ieee.proofs.root.is_rounded.Statement.{statement}
 use Rattle.ieee.proofs.root.is_rounded.Tie as tie
 

@@ -1,12 +1,12 @@
 use borrow.Author.Needs.{needs, sfits-of}
 use denote.Ref.{now}
-use mathlib.Core.Path.{_≡_, refl, ap, ap₂, _∙_}
-use lib.IntN.{ℤ, pos, _+ℤ_}
-use lib.ListN.{length, getD}
+use mathlib.Core.Path.{_≡_, refl, ap₂, _∙_}
+use lib.IntN.{pos, _+ℤ_}
+use lib.ListN.{getD}
 use mir.Facts.{toZ-ofZ}
 use mir.Syntax.{w64}
 use mir.Val.{toZ, ofZ}
-use Rattle.local_search.specs.SignSearch.{improvesC, flipC}
+use Rattle.local_search.specs.SignSearch.{improvesC}
 use Rattle.local_search.specs.Children.{changeOf, parentOf}
 use Rattle.local_search.proofs.ExpandLaws.{child-kept, no-child}
 use Rattle.local_search.proofs.children.consider_child.Statement.{statement}

@@ -1,11 +1,10 @@
 use denote.Ref.{now}
 use mathlib.Core.Path.{ap, _∙_}
 use Rattle.local_search.proofs.Shift.{shifted-none, shifted-turn, length-shifted}
-use Prim.Native.Nat.{ℕ, _≤_, _<_, _+_, _-_}
+use Prim.Native.Nat.{ℕ, _≤_, _-_}
 use mathlib.Core.Path.{_≡_}
 use native.Mathlib.Omega.{arith}
-use borrow.Author.Needs.{needs, scaled-fits}
-use lib.ListN.{length, take, drop}
+use lib.ListN.{length}
 use Rattle.local_search.specs.Level.{shifted}
 use Rattle.local_search.proofs.rows.shift_signs.Statement.{statement}
 use Rattle.local_search.proofs.rows.shift_signs.Tie as tie

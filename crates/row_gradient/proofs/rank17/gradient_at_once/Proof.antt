@@ -1,14 +1,11 @@
 -- `row_gradient::rank17::gradient_at_once` meets its contract. The sums are the definition at e. Assumes nothing.
 use borrow.Author.Needs.{needs}
-use mathlib.Core.List.{List}
-use mathlib.Core.Path.{_≡_, refl, ap, _∙_}
+use mathlib.Core.Path.{_≡_, refl, _∙_}
 use Prim.Native.Nat.{_≤_, _<_, _-_, _+_, _*_}
 use native.Mathlib.Nat.{add-zero}
 use native.Mathlib.Omega.{arith}
-use lib.Ieee.{Float, ofBits}
-use lib.ListN.{length, getD, length-take, length-drop}
-use Rattle.factor.specs.Columns.{putBlock}
-use Rattle.factor.proofs.Written.{block-copied}
+use lib.Ieee.{ofBits}
+use lib.ListN.{length, getD}
 use Rattle.row_gradient.specs.Columns.{blockTo, columnTo}
 use Rattle.row_gradient.proofs.ByColumns.{block-start, block-next, column-next, block-and-one}
 use Rattle.row_gradient.proofs.rank17.gradient_at_once.Statement.{statement}
@@ -52,7 +49,7 @@ slice-write-g : tie.Need-slice-write-g Inv-loop μ-loop
 slice-write-g c = omega (arith, c .before .before .put-sums .kept .0, c .before .before .before .before .before .before .before .before .before .before .before .pre .0 .0)
 
 returns : tie.Need-returns Inv-loop μ-loop
-returns c = let E : c .before .before .before .before .before .before .loop .e ≡ length (c .before .before .before .before .before .before .before .before .before .before .before .args .cols .now) = omega arith in rw (c .before .before .before .before .before .before .before .before .before .before .before .pre .0 .0) (block-and-one _ _ _ _ (c .before .before .before .before .before .before .before .before .before .before .before .args .g .now) _ _ (c .before .before .before .before .before .before .before .before .before .before .before .pre .0 .0) (c .before .before .put-sums .ensures ∙ ap (λ (t : List Float). putBlock 16 0 t (c .before .before .before .before .before .before .before .before .before .before .before .args .g .now)) (block-copied _ 16 _ _ (simp (length-take, length-drop) (omega (arith, c .before .before .before .before .before .before .before .before .before .before .before .pre .0 .0))) (rw E at (c .before .before .before .before .before .before .loop .inv .2)))) (rw E at (c .before .before .before .before .before .before .loop .inv .3)))
+returns c = let s = c .before .before .before .before .before .before .before .before .before .before .before in let l = c .before .before .before .before .before .before .loop in rw (s .pre .0 .0) (block-and-one _ _ _ _ (l .e) (s .args .g .now) _ _ _ (s .pre .0 .0) (omega arith) (l .inv .2) (l .inv .3) (c .before .before .put-sums .ensures))
 
 pub gradient-at-once-spec : {M : Type 1} → statement M
 gradient-at-once-spec =

@@ -1,11 +1,9 @@
 -- `changes_of` meets its contract: with no entries the changes are 0.
 -- Assumes nothing.
-use Prim.Native.Nat.{ℕ, _≤_}
 use native.Mathlib.Omega.{arith}
 use denote.Ref.{now}
 use Rattle.tables.specs.Table.{tableOf}
-use mathlib.Core.Path.{_≡_, _∙_}
-use lib.ListN.{length}
+use mathlib.Core.Path.{_∙_}
 use Rattle.sign_search.proofs.ChangeLaws.{changes-none}
 use Rattle.sign_search.proofs.changes.changes_of.Statement.{statement}
 use Rattle.sign_search.proofs.changes.changes_of.Tie as tie

@@ -2,7 +2,7 @@
 -- Assumes nothing.
 use Prim.Native.Nat.{_≤_, _-_}
 use native.Mathlib.Omega.{arith}
-use mathlib.Core.Path.{_≡_, refl, subst}
+use mathlib.Core.Path.{_≡_, refl}
 use denote.Ref.{now}
 use lib.ListN.{length, length-set}
 use Rattle.sign_search.specs.Contracts.{Cleared}

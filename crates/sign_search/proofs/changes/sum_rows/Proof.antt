@@ -4,9 +4,9 @@ use Prim.Native.Nat.{ℕ, _+_, _-_, _≤_, _<_}
 use native.Mathlib.Omega.{arith}
 use denote.Ref.{now}
 use Rattle.tables.specs.Table.{tableOf}
-use mathlib.Core.Path.{_≡_, refl, sym, ap, ap₂, _∙_, subst}
-use lib.IntN.{ℤ, pos, _+ℤ_}
-use lib.ListN.{length, getD, set, length-set}
+use mathlib.Core.Path.{_≡_, refl, sym, _∙_, subst}
+use lib.IntN.{pos, _+ℤ_}
+use lib.ListN.{length, getD, length-set}
 use mir.Syntax.{w64}
 use mir.Val.{SFits, toZ, ofZ}
 use mir.Facts.{toZ-ofZ}

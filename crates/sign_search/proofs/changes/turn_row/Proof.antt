@@ -1,10 +1,10 @@
 -- `turn_row` meets its contract, for the same row and for another.
 -- Assumes nothing.
-use borrow.Author.Needs.{needs, sfits-of}
+use borrow.Author.Needs.{needs}
 use borrow.Author.Tests.{eq-eqb, ne-eqb}
 use denote.Ref.{now}
-use mathlib.Core.Path.{_≡_, refl, sym, ap, ap₂, _∙_, subst}
-use lib.IntN.{ℤ, pos, _+ℤ_}
+use mathlib.Core.Path.{_≡_, sym, ap, _∙_, subst}
+use lib.IntN.{pos, _+ℤ_}
 use lib.ListN.{getD, set}
 use mir.Syntax.{w64}
 use mir.Val.{SFits, toZ, ofZ}

@@ -1,5 +1,3 @@
-use borrow.Author.Needs.{needs}
-use borrow.Author.Needs.{needs}
 use Rattle.sign_search.proofs.levels.advance.Statement.{statement}
 use Rattle.sign_search.proofs.levels.advance.Tie as tie
 use Prim.Native.Nat.{_*_, _≤_}

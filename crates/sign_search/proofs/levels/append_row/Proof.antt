@@ -2,7 +2,7 @@ use borrow.Author.Needs.{needs}
 use borrow.Author.Needs.{needs}
 use Rattle.sign_search.proofs.levels.append_row.Statement.{statement}
 use Rattle.sign_search.proofs.levels.append_row.Tie as tie
-use mathlib.Core.Path.{_≡_, refl, sym, ap, _∙_, subst}
+use mathlib.Core.Path.{subst}
 use mathlib.Core.List.{List, []}
 use denote.Ref.{now}
 use lib.ListN.{length}

@@ -1,7 +1,6 @@
 use Rattle.sign_search.proofs.levels.expand_level.Statement.{statement}
 use Rattle.sign_search.proofs.levels.expand_level.Tie as tie
-use Prim.Native.Nat.{ℕ, suc, _+_, _*_, _-_, _≤_}
-use native.Mathlib.Nat.{suc-mul, mul-le-mul-right}
+use Prim.Native.Nat.{_-_, _≤_}
 use native.Mathlib.Omega.{arith}
 use borrow.Author.Needs.{sfits-of}
 use mathlib.Core.List.{[]}

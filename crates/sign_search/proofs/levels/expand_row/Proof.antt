@@ -1,9 +1,7 @@
-use borrow.Author.Needs.{needs}
-use borrow.Author.Needs.{needs}
 use Rattle.sign_search.proofs.levels.expand_row.Statement.{statement}
 use Rattle.sign_search.proofs.levels.expand_row.Tie as tie
-use mathlib.Core.Path.{_≡_, refl, sym, ap, _∙_, subst}
-use mathlib.Core.List.{List, []}
+use mathlib.Core.Path.{subst}
+use mathlib.Core.List.{List}
 use denote.Ref.{now}
 use lib.ListN.{length}
 use mir.Facts.{toZ-ofZ}

@@ -3,7 +3,7 @@ use borrow.Author.Needs.{needs}
 use Rattle.sign_search.proofs.moves.fit_sign.Statement.{statement}
 use Rattle.sign_search.proofs.moves.fit_sign.Tie as tie
 use native.Mathlib.Omega.{arith}
-use mathlib.Core.Path.{_≡_, sym, _∙_}
+use mathlib.Core.Path.{sym, _∙_}
 use denote.Ref.{now}
 use Rattle.sign_search.proofs.TurnLaws.{not-true, not-false, agree-flipped, agree-more}
 

@@ -4,7 +4,7 @@ use Rattle.sign_search.proofs.moves.flip_current.Statement.{statement}
 use Rattle.sign_search.proofs.moves.flip_current.Tie as tie
 use native.Mathlib.Omega.{arith}
 use native.Mathlib.Numerals.{add-one}
-use mathlib.Core.Path.{_≡_, refl, sym, ap, _∙_}
+use mathlib.Core.Path.{ap, _∙_}
 use denote.Ref.{now}
 use lib.IntN.{ℤ, pos, negℤ, _-ℤ_, +ℤ-idl}
 use lib.ListN.{getD, length-set}

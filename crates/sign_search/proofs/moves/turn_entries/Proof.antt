@@ -1,18 +1,18 @@
 use borrow.Author.Needs.{needs}
 use Rattle.sign_search.proofs.moves.turn_entries.Statement.{statement}
 use Rattle.sign_search.proofs.moves.turn_entries.Tie as tie
-use Prim.Native.Nat.{ℕ, suc, _+_, _-_, _≤_, _<_}
+use Prim.Native.Nat.{ℕ, _+_, _-_, _≤_, _<_}
 use mathlib.Core.Path.{_≡_, refl, sym, ap, ap₂, _∙_, subst}
 use native.Mathlib.Omega.{arith}
 use denote.Ref.{now}
-use lib.IntN.{ℤ, pos, _+ℤ_, _*ℤ_}
+use lib.IntN.{pos, _+ℤ_, _*ℤ_}
 use lib.ListN.{length, getD, length-set}
 use mir.Syntax.{w64}
 use mir.Val.{SFits, toZ, ofZ}
 use mir.Facts.{toZ-ofZ}
 use Rattle.laws.specs.Lists.{elem, elemZ}
 use Rattle.laws.proofs.Integer.{held}
-use Rattle.tables.specs.Table.{Table, tableOf}
+use Rattle.tables.specs.Table.{tableOf}
 use Rattle.tables.proofs.Shares.{value-small}
 use Rattle.sign_search.specs.Contracts.{Turned, turnWeight}
 use Rattle.sign_search.proofs.TurnLaws.{turned-none, turned-more, turned-fits, turned-all, change-abs}

@@ -1,6 +1,6 @@
 use Rattle.sign_search.proofs.moves.unlike.Statement.{statement}
 use Rattle.sign_search.proofs.moves.unlike.Tie as tie
-use mathlib.Core.Path.{_≡_, refl, sym, ap, _∙_}
+use mathlib.Core.Path.{_≡_, refl, ap, _∙_}
 use mathlib.Core.Bool.{Bool, true, false, not}
 use Rattle.tables.proofs.Shares.{same-plus, same-minus}
 

@@ -1,6 +1,6 @@
 use Rattle.sign_search.proofs.search.search_levels.Statement.{statement}
 use Rattle.sign_search.proofs.search.search_levels.Tie as tie
-use Prim.Native.Nat.{ℕ, suc, _+_, _*_, _-_, _≤_, _<_}
+use Prim.Native.Nat.{ℕ, _*_, _-_, _≤_, _<_}
 use native.Mathlib.Nat.{mul-le-mul-right}
 use native.Mathlib.Omega.{arith}
 use borrow.Author.Needs.{sfits-of}
@@ -15,7 +15,7 @@ use mir.Facts.{toZ-ofZ}
 use Rattle.tables.specs.Table.{tableOf}
 use Rattle.local_search.specs.LocalSearch.{best}
 use Rattle.local_search.specs.Level.{below, levelOf}
-use Rattle.local_search.specs.SignSearch.{improvesC, Searches}
+use Rattle.local_search.specs.SignSearch.{improvesC}
 use Rattle.local_search.specs.Children.{parentOf}
 use Rattle.local_search.proofs.LevelLaws.{length-levelOf, level-empty}
 use Rattle.local_search.proofs.LoopLaws.{Searching, start-safe, searching-first, searching-next, searching-safe, searching-more, searching-end}

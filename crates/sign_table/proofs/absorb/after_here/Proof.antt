@@ -1,5 +1,5 @@
 -- `sign_table::absorb::after_here` meets its contract.
-use borrow.Author.Tests.{lt-ltb, le-ltb, eq-eqb, ne-eqb}
+use borrow.Author.Tests.{le-ltb}
 use borrow.Author.Needs.{needs}
 use Rattle.sign_table.proofs.absorb.after_here.Statement.{statement}
 use Rattle.sign_table.proofs.absorb.after_here.Tie as tie

@@ -1,5 +1,5 @@
 -- `sign_table::absorb::in_row` meets its contract.
-use borrow.Author.Tests.{lt-ltb, le-ltb, eq-eqb, ne-eqb}
+use borrow.Author.Tests.{lt-ltb, le-ltb}
 use borrow.Author.Needs.{needs}
 use Rattle.sign_table.proofs.absorb.in_row.Statement.{statement}
 use Rattle.sign_table.proofs.absorb.in_row.Tie as tie

@@ -13,7 +13,7 @@ use borrow.Author.Tests.{eq-eqb}
 use native.Mathlib.Nat.{le-trans}
 use native.Mathlib.Omega.{arith}
 use mathlib.Core.Path.{_≡_, refl, sym, _∙_}
-use Prim.Native.Nat.{_≤_, _-_}
+use Prim.Native.Nat.{_-_}
 use borrow.Author.Needs.{needs}
 use Rattle.sign_table.proofs.absorb.row_sum.Statement.{statement}
 use Rattle.sign_table.proofs.absorb.row_sum.Tie as tie

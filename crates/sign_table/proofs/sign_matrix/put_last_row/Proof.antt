@@ -6,8 +6,8 @@ use Rattle.tables.specs.Table.{tableOf}
 use Rattle.laws.specs.Lists.{elemZ}
 use lib.ListN.{length}
 use native.Mathlib.Omega.{arith}
-use mathlib.Core.Path.{_≡_, refl, sym, _∙_}
-use Prim.Native.Nat.{suc, _-_}
+use mathlib.Core.Path.{_≡_, refl}
+use Prim.Native.Nat.{_-_}
 use borrow.Author.Needs.{needs}
 use Rattle.sign_table.proofs.sign_matrix.put_last_row.Statement.{statement}
 use Rattle.sign_table.proofs.sign_matrix.put_last_row.Tie as tie

@@ -6,7 +6,7 @@ use Rattle.laws.proofs.Integer.{held}
 use Rattle.laws.specs.Lists.{elemZ}
 use lib.ListN.{length}
 use native.Mathlib.Omega.{arith}
-use mathlib.Core.Path.{_≡_, refl, sym, _∙_}
+use mathlib.Core.Path.{_≡_, refl, _∙_}
 use Prim.Native.Nat.{_-_}
 use borrow.Author.Needs.{needs}
 use Rattle.sign_table.proofs.sign_matrix.put_row.Statement.{statement}

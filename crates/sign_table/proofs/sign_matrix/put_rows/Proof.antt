@@ -5,8 +5,8 @@ use Rattle.laws.specs.Lists.{elemZ}
 use lib.ListN.{length}
 use denote.Ref.{now}
 use native.Mathlib.Omega.{arith}
-use mathlib.Core.Path.{_≡_, refl, sym, _∙_}
-use Prim.Native.Nat.{suc, _-_}
+use mathlib.Core.Path.{_≡_, refl}
+use Prim.Native.Nat.{_-_}
 use borrow.Author.Needs.{needs}
 use Rattle.sign_table.proofs.sign_matrix.put_rows.Statement.{statement}
 use Rattle.sign_table.proofs.sign_matrix.put_rows.Tie as tie

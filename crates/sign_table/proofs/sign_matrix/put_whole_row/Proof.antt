@@ -7,11 +7,10 @@ use Rattle.sign_table.proofs.Bounds.{linear-small}
 use Rattle.tables.specs.Table.{tableOf}
 use Rattle.sign_table.specs.SignTable.{keptOf}
 use Rattle.laws.specs.Lists.{elemZ}
-use lib.ListN.{length}
 use denote.Ref.{now}
 use native.Mathlib.Omega.{arith}
-use mathlib.Core.Path.{_≡_, refl, sym, _∙_}
-use Prim.Native.Nat.{suc, _-_}
+use mathlib.Core.Path.{_∙_}
+use Prim.Native.Nat.{suc}
 use borrow.Author.Needs.{needs}
 use Rattle.sign_table.proofs.sign_matrix.put_whole_row.Statement.{statement}
 use Rattle.sign_table.proofs.sign_matrix.put_whole_row.Tie as tie

@@ -3,7 +3,7 @@ use borrow.Author.Needs.{needs}
 use Rattle.table_calls.proofs.choices.qubo_binary_from_sign_solution.Statement.{statement}
 use Rattle.table_calls.proofs.choices.qubo_binary_from_sign_solution.Tie as tie
 use denote.Ref.{now}
-use mathlib.Core.Path.{sym, _∙_, ap}
+use mathlib.Core.Path.{sym, _∙_}
 use native.Mathlib.Omega.{arith}
 use Rattle.table_calls.proofs.Accepting.{refused-is, accepted-is, decode-accepted}
 

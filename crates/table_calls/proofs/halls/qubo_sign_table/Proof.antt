@@ -3,7 +3,7 @@ use borrow.Author.Needs.{needs}
 use Rattle.table_calls.proofs.halls.qubo_sign_table.Statement.{statement}
 use Rattle.table_calls.proofs.halls.qubo_sign_table.Tie as tie
 use denote.Ref.{now}
-use mathlib.Core.Path.{sym, _∙_, ap}
+use mathlib.Core.Path.{sym, _∙_}
 use Rattle.laws.specs.Lists.{elemZ}
 use Rattle.table_calls.proofs.Accepting.{sign-lent, sign-numbered, sign-accepted, refused-converts, accepted-converts, hall-converts, enough-room}
 

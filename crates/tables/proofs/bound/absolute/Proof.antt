@@ -1,7 +1,7 @@
 -- `tables::bound::absolute` meets its contract.
 use Rattle.tables.proofs.bound.absolute.Statement.{statement}
 use Rattle.tables.proofs.bound.absolute.Tie as tie
-use mathlib.Core.Path.{_∙_, ap}
+use mathlib.Core.Path.{_∙_}
 use mir.Facts.{toZ-ofZ}
 use Rattle.tables.proofs.BoundSums.{absolute-negative, absolute-positive, absolute-fits}
 

@@ -4,7 +4,7 @@ use Rattle.tables.proofs.check.bad_entry.Statement.{statement}
 use Rattle.tables.proofs.check.bad_entry.Tie as tie
 use mathlib.Core.Path.{sym, _∙_, ap}
 use mathlib.Core.Bool.{not}
-use borrow.Author.Tests.{le-leb, lt-leb, lt-ltb, le-ltb}
+use borrow.Author.Tests.{le-leb, lt-leb}
 use Rattle.laws.proofs.Any.{any-here, any-skip, any-last}
 use Rattle.tables.specs.Check.{badEntry}
 use Rattle.tables.proofs.Checks.{entry-after, entry-first}

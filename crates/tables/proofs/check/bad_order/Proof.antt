@@ -3,7 +3,7 @@ use borrow.Author.Needs.{needs}
 use Rattle.tables.proofs.check.bad_order.Statement.{statement}
 use Rattle.tables.proofs.check.bad_order.Tie as tie
 use mathlib.Core.Path.{_≡_, refl, sym, _∙_}
-use mathlib.Core.Bool.{true, false}
+use mathlib.Core.Bool.{false}
 use Prim.Native.Nat.{_≤_, _-_}
 use native.Mathlib.Omega.{arith}
 use Rattle.laws.specs.Lists.{elem, anyBelow}

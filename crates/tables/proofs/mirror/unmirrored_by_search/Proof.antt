@@ -2,8 +2,8 @@
 use borrow.Author.Needs.{needs}
 use Rattle.tables.proofs.mirror.unmirrored_by_search.Statement.{statement}
 use Rattle.tables.proofs.mirror.unmirrored_by_search.Tie as tie
-use mathlib.Core.Path.{_≡_, refl, sym, _∙_, ap}
-use mathlib.Core.Bool.{true, false, not}
+use mathlib.Core.Path.{_≡_, refl, sym}
+use mathlib.Core.Bool.{false, not}
 use Prim.Native.Nat.{_≤_, _-_}
 use native.Mathlib.Omega.{arith}
 use Rattle.laws.specs.Lists.{anyBelow}
