@@ -161,7 +161,7 @@ module _ {s : List ℕ} {j : Job} {rows cols : List ℕ} {values c : List ℤ} {
       let run₀ = openRun (jobSettings s) in
       let factor₀ = startFactor (jobSettings s) in
       let none : sweepNumber run₀ costs (length factor₀) ≡ 0 =
-          subst (λ (x : CostTable). sweepNumber run₀ x (length factor₀) ≡ 0) (sym (d .costs-are)) (sweeps s (d .accepted) (omega (arith, most-is)) (length factor₀) (omega (arith, opened-used))) in
+      subst (λ (x : CostTable). sweepNumber run₀ x (length factor₀) ≡ 0) (sym (d .costs-are)) (sweeps s (d .accepted) (omega (arith, most-is)) (length factor₀) (omega (arith, opened-used))) in
       let at : Sweeping run₀ costs (length factor₀) × (length factor₀ ≡ used run₀) = (sweep-accepted run₀ costs (length factor₀) none, sym opened-used) in
       subst (λ (x : Run). Sweeping x costs (length factor) × (length factor ≡ used x)) (sym is)
       (subst (λ (x : List Float). Sweeping run₀ costs (length x) × (length x ≡ used run₀)) (sym made) at)
@@ -172,11 +172,11 @@ module _ {s : List ℕ} {j : Job} {rows cols : List ℕ} {values c : List ℤ} {
   swept-run {run} {run′} {factor} {factor′} is made after left =
       let run₀ = openRun (jobSettings s) in
       let e : sweepsUpTo (j .most) (callWork costs) run factor ≡ stopped s =
-          ap (λ (x : Run). sweepsUpTo (j .most) (callWork costs) x factor) is
-          ∙ ap (λ (x : List Float). sweepsUpTo (j .most) (callWork costs) run₀ x) made
-          ∙ ap (λ (x : CostTable). sweepsUpTo (j .most) (callWork x) run₀ (startFactor (jobSettings s))) (d .costs-are)
-          ∙ ap (λ (x : ℕ). sweepsUpTo x (callWork (jobCosts s)) run₀ (startFactor (jobSettings s))) most-is
-          ∙ sym (stopped-is s (d .accepted)) in
+      ap (λ (x : Run). sweepsUpTo (j .most) (callWork costs) x factor) is
+      ∙ ap (λ (x : List Float). sweepsUpTo (j .most) (callWork costs) run₀ x) made
+      ∙ ap (λ (x : CostTable). sweepsUpTo (j .most) (callWork x) run₀ (startFactor (jobSettings s))) (d .costs-are)
+      ∙ ap (λ (x : ℕ). sweepsUpTo x (callWork (jobCosts s)) run₀ (startFactor (jobSettings s))) most-is
+      ∙ sym (stopped-is s (d .accepted)) in
       (after ∙ ap (λ (x : State). x .run) e, left ∙ ap (λ (x : State). x .factor) e)
 
   drawn-long : length (jobDraws s) ≡ jobDrawn s

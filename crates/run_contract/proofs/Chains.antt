@@ -80,38 +80,44 @@ module _ (run : Run) (t : CostTable) (width drawCount : ℕ) (draws factor : Lis
   unfolding finishResult
   keeps-demand hall w =
       let finalizes : Finalizes (t .n) (quadratic t) (linear t) (run .rank) width drawCount draws v b choice dual (over (finishMultipliers run t v) dual)
-          (diagonalTotal (t .n) (quadratic t) (linear t)) (result .«float_bound») (result .floor) (result .«rounded_cost») (result .cost) (result .rounds) =
-          record {
-            diagonal-is = refl;
-            bound-is = refl;
-            floor-is = refl;
-            rounded-is = refl;
-            cost-is = refl;
-            rounds-are = refl;
-            choice-is = refl;
-            multipliers-are = refl;
-          } in
+      (diagonalTotal (t .n) (quadratic t) (linear t)) (result .«float_bound») (result .floor) (result .«rounded_cost») (result .cost) (result .rounds) =
+      record {
+        diagonal-is = refl;
+        bound-is = refl;
+        floor-is = refl;
+        rounded-is = refl;
+        cost-is = refl;
+        rounds-are = refl;
+        choice-is = refl;
+        multipliers-are = refl;
+      } in
       demand3 hall (run .rank) v draws drawCount width w finalizes
 
   finish-has : (m : ℕ) → finishNumber run t width drawCount (finishLengths draws factor b dual workspace) ≡ m
       → (answer : Finished) × (b′ : List ℕ) × (dual′ : List Float) × Finishes run t width drawCount draws factor b dual workspace answer b′ dual′ workspace
   finish-has zero e =
-      let good = finish-accepted run t width drawCount (finishLengths draws factor b dual workspace) e in
-      (F.Result result, choice, over (finishMultipliers run t v) dual,
-       record {
-         numbered = sym e;
-         refused = λ n. absurd (n refl);
-         accepted = λ z. (refl, refl, refl);
-         demand-3 = λ x is w. subst Kept (ap (resultOr result) is) (keeps-demand (good .hall) w);
-       })
-  finish-has (suc m) e =
-      (F.Refused (suc m), b, dual,
-       record {
-         numbered = sym e;
-         refused = λ n. (refl, refl, refl);
-         accepted = λ z. absurd (omega arith);
-         demand-3 = λ x is w. let no : _≡_ {A = ℕ} 1 0 = ap Kind is in absurd (omega arith);
-       })
+      let good = finish-accepted run t width drawCount (finishLengths draws factor b dual workspace) e in (
+        F.Result result,
+        choice,
+        over (finishMultipliers run t v) dual,
+        record {
+          numbered = sym e;
+          refused = λ n. absurd (n refl);
+          accepted = λ z. (refl, refl, refl);
+          demand-3 = λ x is w. subst Kept (ap (resultOr result) is) (keeps-demand (good .hall) w);
+        },
+      )
+  finish-has (suc m) e = (
+    F.Refused (suc m),
+    b,
+    dual,
+    record {
+      numbered = sym e;
+      refused = λ n. (refl, refl, refl);
+      accepted = λ z. absurd (omega arith);
+      demand-3 = λ x is w. let no : _≡_ {A = ℕ} 1 0 = ap Kind is in absurd (omega arith);
+    },
+  )
 
 sized : (call : FinishCall) → Sized call (replicate (call .b-length) 0) (replicate (call .dual-length) nan) (replicate (call .workspace-length) 0)
 sized call =
@@ -134,6 +140,6 @@ chain-of (finish call ∷ calls) run kept =
     let dual : List Float = replicate (call .dual-length) nan in
     let workspace : List ℕ = replicate (call .workspace-length) 0 in
     let one = finish-has run (call .table) (call .width) (call .draw-count) (call .draws) factor b dual workspace
-        (finishNumber run (call .table) (call .width) (call .draw-count) (finishLengths (call .draws) factor b dual workspace)) refl in
+    (finishNumber run (call .table) (call .width) (call .draw-count) (finishLengths (call .draws) factor b dual workspace)) refl in
     let rest = chain-of calls run kept in
     (_, finishes factor b dual workspace (one .0) (one .1) (one .2) workspace (lends kept (call .factor-length)) (sized call) (one .3) (rest .1))

@@ -37,7 +37,7 @@ length-setRow : (rank : ℕ) (factor : List Float) (i : ℕ) (row : List Float) 
 length-setRow rank factor i row e =
     let rest = drop (i * rank) factor in
     let back : length (row ++ drop rank rest) ≡ length rest =
-        length-append row (drop rank rest) ∙ ap (λ (k : ℕ). k + length (drop rank rest)) e ∙ sym (length-append (take rank rest) (drop rank rest)) ∙ ap length (take-append-drop rank rest) in
+    length-append row (drop rank rest) ∙ ap (λ (k : ℕ). k + length (drop rank rest)) e ∙ sym (length-append (take rank rest) (drop rank rest)) ∙ ap length (take-append-drop rank rest) in
     length-append (take (i * rank) factor) (row ++ drop rank rest) ∙ ap (λ (k : ℕ). length (take (i * rank) factor) + k) back
     ∙ sym (length-append (take (i * rank) factor) rest) ∙ ap length (take-append-drop (i * rank) factor)
 

@@ -99,11 +99,12 @@ module _ (p : Plain) (call : SweepCall) (factor : List Float) (number : ℕ) (ru
       let t = callWork (call .table) in
       let room : p .size * p .rank ≤ call .factor-length = sweep-accepted (recordOf p) (call .table) (call .factor-length) (sym sweep-number ∙ z) .factor-room in
       let state = ap (λ (v : List Float). sweepsUpTo (call .k) t (recordOf p) v) (lent-factor p (call .factor-length) factor w lends room) ∙ sweeps-follow (call .k) t p in
-      let keeps = keeps-sweeps (call .k) t p in
-      (a .0 ∙ ap (λ (s : State). s .run) state,
-       ap (keptAfter (p .factor) (call .factor-length)) (a .1 ∙ ap (λ (s : State). over (s .factor) factor) state)
-       ∙ kept-written (p .factor) (call .factor-length) (plainSweeps (call .k) t p .factor) factor (rw w room) (keeps .0),
-       whole-kept p (plainSweeps (call .k) t p) keeps w)
+      let keeps = keeps-sweeps (call .k) t p in (
+        a .0 ∙ ap (λ (s : State). s .run) state,
+        ap (keptAfter (p .factor) (call .factor-length)) (a .1 ∙ ap (λ (s : State). over (s .factor) factor) state)
+            ∙ kept-written (p .factor) (call .factor-length) (plainSweeps (call .k) t p .factor) factor (rw w room) (keeps .0),
+        whole-kept p (plainSweeps (call .k) t p) keeps w,
+      )
 
   sweep-by : (m : ℕ) → number ≡ m → Left (plainAfter p (sweep call))
   unfolding plainAfter
@@ -146,9 +147,9 @@ module _ (p : Plain) (call : FinishCall) (factor : List Float) (b : List ℕ) (d
       let v = take (p .size * p .rank) factor in
       let room : p .size * p .rank ≤ call .factor-length = finish-accepted (recordOf p) t (call .width) (call .draw-count) (lengthsOf call) (sym finish-number ∙ z) .factor-room in
       let bytes : take (t .n) b′ ≡ finishChoice (recordOf p) t (call .width) (call .draw-count) (call .draws) v =
-          ap (take (t .n)) (a .1) ∙ take-at _ _ _ (length-choice (t .n) (quadratic t) (linear t) (p .rank) v (call .draws) (call .draw-count) (call .width)) in
+      ap (take (t .n)) (a .1) ∙ take-at _ _ _ (length-choice (t .n) (quadratic t) (linear t) (p .rank) v (call .draws) (call .draw-count) (call .width)) in
       let multipliers : take (suc (t .n)) dual′ ≡ finishMultipliers (recordOf p) t v =
-          ap (take (suc (t .n))) (a .2) ∙ take-at _ _ _ (length-multipliers (t .n) (quadratic t) (linear t) (p .rank) v) in
+      ap (take (suc (t .n))) (a .2) ∙ take-at _ _ _ (length-multipliers (t .n) (quadratic t) (linear t) (p .rank) v) in
       ap (λ (x : Finished). givenOf x (t .n) b′ dual′) (a .0)
       ∙ ap (λ (bs : List ℕ). some (record { result = gives v .result; b = bs; dual = take (suc (t .n)) dual′ })) bytes
       ∙ ap (λ (ds : List Float). some (record { result = gives v .result; b = gives v .b; dual = ds })) multipliers

@@ -36,12 +36,13 @@ open-record o = refl
 pub plain-open : (o : Settings) (factor : List Float) (answer : Opened) (factor′ : List Float) → Opens o factor answer factor′
     → ((run : Run) → answer ≡ O.Started run → openNumberOf o (length factor) ≡ 0)
     × (openNumberOf o (length factor) ≡ 0
-        → (answer ≡ O.Started (recordOf (plainOpen o))) × (take (plainOpen o .size * plainOpen o .rank) factor′ ≡ plainOpen o .factor))
-plain-open o factor answer factor′ opens =
-    ((λ run e. sym (opens .numbered) ∙ ap openedNumber e),
-     (λ ok.
-       let a = opens .accepted (opens .numbered ∙ ok) in
-       (a .0 ∙ ap (λ (run : Run). O.Started run) (open-record o), ap (take (plainOpen o .size * plainOpen o .rank)) (a .1) ∙ open-front o (length factor) factor ok)))
+    → (answer ≡ O.Started (recordOf (plainOpen o))) × (take (plainOpen o .size * plainOpen o .rank) factor′ ≡ plainOpen o .factor))
+plain-open o factor answer factor′ opens = (
+  (λ run e. sym (opens .numbered) ∙ ap openedNumber e),
+  (λ ok.
+      let a = opens .accepted (opens .numbered ∙ ok) in
+      (a .0 ∙ ap (λ (run : Run). O.Started run) (open-record o), ap (take (plainOpen o .size * plainOpen o .rank)) (a .1) ∙ open-front o (length factor) factor ok)),
+)
 
 -- an open has an outcome
 pub open-has : (o : Settings) (factor : List Float) → (answer : Opened) × (factor′ : List Float) × Opens o factor answer factor′

@@ -40,15 +40,15 @@ pub record Sized (call : FinishCall) (b : List ℕ) (dual : List Float) (workspa
 pub data Chain : Run → List Float → List Call → List Seen → Type 0 where
   ends : {run : Run} {kept : List Float} → Chain run kept [] []
   sweeps : {run : Run} {kept : List Float} {call : SweepCall} {calls : List Call} {seen : List Seen}
-    (factor : List Float) (number : ℕ) (run′ : Run) (factor′ : List Float)
-    → Lends kept (call .factor-length) factor
-    → Sweeps run (call .table) (call .k) factor number run′ factor′
-    → Chain run′ (keptAfter kept (call .factor-length) factor′) calls seen
-    → Chain run kept (sweep call ∷ calls) (seenOf number none run′ (keptAfter kept (call .factor-length) factor′) ∷ seen)
+      (factor : List Float) (number : ℕ) (run′ : Run) (factor′ : List Float)
+      → Lends kept (call .factor-length) factor
+      → Sweeps run (call .table) (call .k) factor number run′ factor′
+      → Chain run′ (keptAfter kept (call .factor-length) factor′) calls seen
+      → Chain run kept (sweep call ∷ calls) (seenOf number none run′ (keptAfter kept (call .factor-length) factor′) ∷ seen)
   finishes : {run : Run} {kept : List Float} {call : FinishCall} {calls : List Call} {seen : List Seen}
-    (factor : List Float) (b : List ℕ) (dual : List Float) (workspace : List ℕ) (answer : Finished) (b′ : List ℕ) (dual′ : List Float) (workspace′ : List ℕ)
-    → Lends kept (call .factor-length) factor
-    → Sized call b dual workspace
-    → Finishes run (call .table) (call .width) (call .draw-count) (call .draws) factor b dual workspace answer b′ dual′ workspace′
-    → Chain run kept calls seen
-    → Chain run kept (finish call ∷ calls) (seenOf (finishedNumber answer) (givenOf answer (call .table .n) b′ dual′) run kept ∷ seen)
+      (factor : List Float) (b : List ℕ) (dual : List Float) (workspace : List ℕ) (answer : Finished) (b′ : List ℕ) (dual′ : List Float) (workspace′ : List ℕ)
+      → Lends kept (call .factor-length) factor
+      → Sized call b dual workspace
+      → Finishes run (call .table) (call .width) (call .draw-count) (call .draws) factor b dual workspace answer b′ dual′ workspace′
+      → Chain run kept calls seen
+      → Chain run kept (finish call ∷ calls) (seenOf (finishedNumber answer) (givenOf answer (call .table .n) b′ dual′) run kept ∷ seen)

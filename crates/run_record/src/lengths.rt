@@ -4,9 +4,9 @@ ghost use Rattle.run_record.specs.CostTable.{costTable};
 ghost use Rattle.run_record.specs.Lengths.{lengthsOf};
 ghost use Rattle.run_record.specs.Numbers.{tableShort, factorShort, sweepShort, drawsShort, choiceShort, finishShort, openRankRefused, startShort, openFactorShort, openShort};
 use super::Run;
-use run_limits::SEARCH_WORKSPACE;
 use run_limits::MOST_DRAWS;
 use run_limits::MOST_RANK;
+use run_limits::SEARCH_WORKSPACE;
 use run_limits::rank_meant;
 use run_limits::start_length;
 use tables::check::short_table;
@@ -14,7 +14,14 @@ use tables::check::too_short;
 use tables::limits;
 
 // 31 of the slices of (H, c).
-fn table_short(n: usize, count: usize, rows: &[u16], cols: &[u16], values: &[i64], c: &[i64]) -> bool
+fn table_short(
+    n: usize,
+    count: usize,
+    rows: &[u16],
+    cols: &[u16],
+    values: &[i64],
+    c: &[i64],
+) -> bool
     ensures { λ r. ⌜ r ≡ tableShort (costTable n count (now (rows .entry)) (now (cols .entry)) (now (values .entry)) (now (c .entry))) ⌝ }
 {
     if short_table(limits::MOST_ENTRIES, count, rows, cols, values) {

@@ -4,14 +4,14 @@ ghost use mathlib.Core.Bool.{false};
 ghost use Rattle.run_record.specs.CostTable.{costTable};
 ghost use Rattle.run_record.specs.Lengths.{lengthsOf};
 ghost use Rattle.run_record.specs.Numbers.{tableShort, recordRefused, tableNumber, badMomentum, sweepNumber, drawsRefused, widthRefused, finishNumber, ruleRefused, openNumber};
+use super::Run;
 use super::is_stopped;
+use super::lengths::FinishSlices;
 use super::lengths::finish_short;
 use super::lengths::open_rank_refused;
 use super::lengths::open_short;
 use super::lengths::sweep_short;
-use super::lengths::FinishSlices;
 use super::open_and;
-use super::Run;
 use run_limits::MOST_DRAWS;
 use run_limits::MOST_RANK;
 use run_limits::MOST_WIDTH;
@@ -54,7 +54,17 @@ fn table_number(n: usize, count: usize, rows: &[u16], cols: &[u16], values: &[i6
     requires { ⌜ tableShort (costTable n count (now rows) (now cols) (now values) (now c)) ≡ false ⌝ }
     ensures { λ r. ⌜ r ≡ tableNumber (costTable n count (now (rows .entry)) (now (cols .entry)) (now (values .entry)) (now (c .entry))) ⌝ }
 {
-    tables::check::hall_number(limits::MOST_WAGONS, limits::MOST_ENTRIES, limits::MOST_MAGNITUDE, n, count, rows, cols, values, c)
+    tables::check::hall_number(
+        limits::MOST_WAGONS,
+        limits::MOST_ENTRIES,
+        limits::MOST_MAGNITUDE,
+        n,
+        count,
+        rows,
+        cols,
+        values,
+        c,
+    )
 }
 
 // Whether 18 refuses a record's rule: only rule 4 has a momentum.
@@ -170,7 +180,11 @@ fn rule_refused(rule: u8, number: f64) -> bool
     if 4 < rule {
         return true;
     }
-    if rule == 4 { !is_momentum(number) } else { false }
+    if rule == 4 {
+        !is_momentum(number)
+    } else {
+        false
+    }
 }
 
 // The number that an open answers.
@@ -191,7 +205,19 @@ pub fn open_number(
 ) -> u8
     ensures { λ r. ⌜ r ≡ openNumber (costTable n count (now (rows .entry)) (now (cols .entry)) (now (values .entry)) (now (c .entry))) rank rule number most start numbers factor ⌝ }
 {
-    if open_short(n, count, rows, cols, values, c, rank, most, start, numbers, factor) {
+    if open_short(
+        n,
+        count,
+        rows,
+        cols,
+        values,
+        c,
+        rank,
+        most,
+        start,
+        numbers,
+        factor,
+    ) {
         return 31;
     }
     let table = table_number(n, count, rows, cols, values, c);

@@ -2,9 +2,9 @@
 use finalize::finalize;
 use run_contract::FinishResult;
 use run_contract::Finished;
+use run_record::Run;
 use run_record::lengths::FinishSlices;
 use run_record::numbers::finish_number;
-use run_record::Run;
 ghost use Rattle.run_record.specs.CostTable.{costTable};
 ghost use mathlib.Core.Path.{_≡_};
 ghost use Rattle.run_record.specs.Numbers.{finishNumber};
@@ -90,7 +90,18 @@ pub fn finish(
         dual: dual_variables.len(),
         workspace: workspace.len(),
     };
-    let number = finish_number(run, n, count, rows, cols, values, c, width, draw_count, lent);
+    let number = finish_number(
+        run,
+        n,
+        count,
+        rows,
+        cols,
+        values,
+        c,
+        width,
+        draw_count,
+        lent,
+    );
     if number != 0 {
         return Finished::Refused(number);
     }

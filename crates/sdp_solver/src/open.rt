@@ -6,9 +6,9 @@ use maxcut_oracle::objective::obj;
 use run_contract::Opened;
 use run_limits::draws_follow;
 use run_limits::rank_meant;
-use run_record::numbers::open_number;
 use run_record::Run;
 use run_record::Stage;
+use run_record::numbers::open_number;
 use step_rules::rule_of;
 ghost use mathlib.Core.Path.{_≡_};
 ghost use Prim.Native.Nat.{_+_, _*_};
@@ -24,7 +24,11 @@ ghost use Rattle.sdp_solver.specs.Usable.{Usable};
 fn first_stage(most: u32) -> Stage
     ensures { λ r. ⌜ r ≡ firstStage most ⌝ }
 {
-    if most == 0 { Stage::Stopped } else { Stage::Open }
+    if most == 0 {
+        Stage::Stopped
+    } else {
+        Stage::Open
+    }
 }
 
 // The objective of the start, its diagonal left out.
@@ -57,7 +61,13 @@ fn first_objective(
         &mut work_values,
         &mut starts,
     );
-    obj(&work_rows[..stay], &work_cols[..stay], &work_values[..stay], factor, rank)
+    obj(
+        &work_rows[..stay],
+        &work_cols[..stay],
+        &work_values[..stay],
+        factor,
+        rank,
+    )
 }
 
 // Opens a run that nothing refuses; the factor takes m rows of the rank that is meant.
@@ -85,7 +95,14 @@ pub fn open_accepted(
     let size = n + 1;
     let meant = rank_meant(size, rank);
     let used = size * meant;
-    prepare_initial_factor(start == 2, draws_follow(most, meant), numbers, meant, size, factor);
+    prepare_initial_factor(
+        start == 2,
+        draws_follow(most, meant),
+        numbers,
+        meant,
+        size,
+        factor,
+    );
     let last_objective = first_objective(n, count, rows, cols, values, c, meant, &factor[..used]);
     let step = rule_of(rule, number);
     let stage = first_stage(most);
@@ -125,7 +142,21 @@ pub fn open(
 ) -> Opened
     ensures { λ r. ⌜ Opens (settingsOf (costTable n count (now (rows .entry)) (now (cols .entry)) (now (values .entry)) (now (c .entry))) rank rule number most minimum «objective_tolerance» «stationarity_tolerance» start (now (numbers .entry))) (now (factor .entry)) r (now (factor .exit)) ⌝ }
 {
-    let refusal = open_number(n, count, rows, cols, values, c, rank, rule, number, most, start, numbers.len(), factor.len());
+    let refusal = open_number(
+        n,
+        count,
+        rows,
+        cols,
+        values,
+        c,
+        rank,
+        rule,
+        number,
+        most,
+        start,
+        numbers.len(),
+        factor.len(),
+    );
     if refusal != 0 {
         return Opened::Refused(refusal);
     }

@@ -2,8 +2,8 @@
 use super::work::call_work;
 use finalize::room;
 use run_contract::Swept;
-use run_record::numbers::sweep_number;
 use run_record::Run;
+use run_record::numbers::sweep_number;
 use run_sweep::sweeps_up_to;
 ghost use mathlib.Core.Path.{_≡_};
 ghost use Prim.Native.Nat.{_+_, _*_, _≤_};
@@ -116,7 +116,10 @@ pub fn sweep_run(
     }
     let used = run.size * run.rank;
     let next = sweep_accepted(run, n, count, rows, cols, values, c, k, &mut factor[..used]);
-    Swept { run: next, number: 0 }
+    Swept {
+        run: next,
+        number: 0,
+    }
 }
 
 // The sweep call on the caller's own record; its number.

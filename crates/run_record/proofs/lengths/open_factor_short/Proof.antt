@@ -23,7 +23,7 @@ rank-meant-requires : tie.Need-rank-meant-requires
 rank-meant-requires c κs = (λ _. omega arith, taken-low _ _ (sym (c .before .open-rank-refused .ensures) ∙ c .if2 .left))
 
 mul-result : tie.Need-mul-result
-mul-result c = 
+mul-result c =
     let m : c .before .before .before .before .args .n + 1 ≤ 128 = omega arith in
     omega (arith, mul-le-mul m (c .rank-meant .ensures .1))
 

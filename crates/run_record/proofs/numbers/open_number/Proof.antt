@@ -17,7 +17,7 @@ table-number-requires c κs = any-head _ _ (sym (c .before .open-short .ensures)
 
 returns-2 : tie.Need-returns-2
 unfolding openNumber
-returns-2 c = 
+returns-2 c =
     let e = c .before .table-number .ensures in
     e ∙ sym (first-skip 31 _ _ (sym (c .before .before .before .open-short .ensures) ∙ c .before .before .if1 .left) ∙ first-found _ _ (λ z. c .if2 .taken (e ∙ z)))
 

@@ -31,8 +31,7 @@ sweep-work-requires : tie.Need-sweep-work-requires
 sweep-work-requires c κs =
     let p = c .before .before .before .before .before .before .before .before .before .before .before .before .before .before .before .before .before .before .before .before .before .pre in
     let a = c .before .before .before .before .before .before .before .before .before .before .before .before .before .before .before .before .before .before .before .before .before .args in
-    let k = written (c .before .before .before .before .before) in
-    (
+    let k = written (c .before .before .before .before .before) in (
       (p .1, omega (arith, p .2, p .0 .hall .wagons), omega (arith, p .2), p .3),
       (rw (p .2) (cut-shaped (p .0) k (a .run .rank) (now (a .factor)) (p .4 ∙ ap (λ m. m * a .run .rank) (p .2))), rw (p .2) (cut-fits (p .0) k (a .run .rank))),
     )

@@ -26,15 +26,17 @@ dual-fits c = omega (arith, c .before .before .before .before .before .before .b
 sweeps-up-to-requires : tie.Need-sweeps-up-to-requires
 sweeps-up-to-requires c κs =
     let p = c .before .before .before .before .before .before .before .before .before .before .before .before .before .pre in
-    let row : 1 * c .before .before .before .before .before .before .before .before .before .before .before .before .before .args .run .rank ≤ c .before .before .before .before .before .before .before .before .before .before .before .before .before .args .run .size * c .before .before .before .before .before .before .before .before .before .before .before .before .before .args .run .rank = mul-le-mul (p .0 .2) (omega arith) in
-    (p .0 .0, record {
-      shaped = p .1 .0;
-      fits = p .1 .1;
-      product-is = length-take-le _ _ (product-fits (c .before .before .before .before .before));
-      moved-is = length-take-le _ _ (moved-fits (c .before .before .before .before .before));
-      dual-is = length-take-le _ _ (dual-fits (c .before .before .before .before .before));
-      some = omega (arith, row);
-    })
+    let row : 1 * c .before .before .before .before .before .before .before .before .before .before .before .before .before .args .run .rank ≤ c .before .before .before .before .before .before .before .before .before .before .before .before .before .args .run .size * c .before .before .before .before .before .before .before .before .before .before .before .before .before .args .run .rank = mul-le-mul (p .0 .2) (omega arith) in (
+      p .0 .0,
+      record {
+        shaped = p .1 .0;
+        fits = p .1 .1;
+        product-is = length-take-le _ _ (product-fits (c .before .before .before .before .before));
+        moved-is = length-take-le _ _ (moved-fits (c .before .before .before .before .before));
+        dual-is = length-take-le _ _ (dual-fits (c .before .before .before .before .before));
+        some = omega (arith, row);
+      },
+    )
 
 pub sweep-work-spec : {M : Type 1} → statement M
 sweep-work-spec =
