@@ -1,10 +1,10 @@
 -- 01's example answer, computed: 00000039 01 00 02 01 00000000 0000000000000000 C000000000000028 FFFFFFFFFFFFFFF0 0000000000000000
 -- FFFFFFFFFFFFFFF0 0000000000000001 01.
 use mathlib.Core.Path.{_≡_, refl}
-use mathlib.Core.List.{List, [], _∷_, _++_}
-use lib.ListN.{replicate, take}
-use lib.IntN.{ℤ, pos, negsuc}
-use lib.Ieee.{Float, ofBits, toBits, ofFields, odd, climb, size, span}
+use mathlib.Core.List.{[], _∷_, _++_}
+use lib.ListN.{replicate}
+use lib.IntN.{pos, negsuc}
+use lib.Ieee.{ofBits, toBits, ofFields, odd, climb, size, span}
 use Rattle.ieee.specs.Floats.{zero64, doubleOf}
 use Rattle.job_reader.specs.Encode.{bytesOf}
 use Rattle.answer_record.specs.Answer.{frameBytes, countBytes, floatBytes, eighthBytes, answerBytes, refusalBytes}

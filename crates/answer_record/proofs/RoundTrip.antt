@@ -2,9 +2,9 @@
 --     answer-back    the fields
 --     choice-back    and the choice
 -- Assumes nothing.
-use Prim.Native.Nat.{ℕ, zero, suc, _+_, _*_, _^_, _<_, _≤_}
-use mathlib.Core.Path.{_≡_, refl, sym, ap, _∙_}
-use mathlib.Core.List.{List, [], _∷_, _++_, append-assoc}
+use Prim.Native.Nat.{ℕ, _+_, _^_, _<_, _≤_}
+use mathlib.Core.Path.{_≡_, ap}
+use mathlib.Core.List.{List, _++_, append-assoc}
 use lib.Dec.{T}
 use lib.ListN.{length, take, drop, length-append}
 use lib.Seq.{take-at, drop-at, length-take-le}
@@ -13,7 +13,7 @@ use lib.Ieee.{Float, binary64, fits}
 use mir.Syntax.{w64}
 use mir.Val.{SFits}
 use Rattle.laws.specs.Lists.{over}
-use Rattle.job_reader.specs.Bytes.{bigEndian, signedAt, doubleAt}
+use Rattle.job_reader.specs.Bytes.{bigEndian}
 use Rattle.job_reader.specs.Encode.{bytesOf}
 use Rattle.job_reader.proofs.Encode.{read-bytes, read-signed, read-double}
 use Rattle.answer_record.specs.Answer.{frameBytes, countBytes, floatBytes, eighthBytes, answerBytes, answerOf, choiceOf}

@@ -1,7 +1,6 @@
 -- The sizes of an answer record's parts.
-use Prim.Native.Nat.{ℕ, _+_, _≤_}
-use mathlib.Core.Path.{_≡_, refl}
-use mathlib.Core.List.{List}
+use Prim.Native.Nat.{ℕ}
+use mathlib.Core.Path.{_≡_}
 use lib.ListN.{length, length-append}
 use lib.IntN.{ℤ}
 use lib.Ieee.{Float}

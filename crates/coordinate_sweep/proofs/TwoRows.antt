@@ -7,17 +7,17 @@ use mathlib.Core.Bool.{Bool, true, false, cond}
 use mathlib.Core.Logic.{_⊎_, inl, inr}
 use mathlib.Core.List.{List, _++_, append-assoc}
 use Prim.Native.Nat.{ℕ, zero, suc, _+_, _*_, _-_, _≤_, _<_}
-use native.Mathlib.Nat.{suc-mul, add-assoc}
+use native.Mathlib.Nat.{suc-mul}
 use native.Mathlib.Numerals.{add-one}
 use native.Mathlib.Omega.{arith}
 use lib.Dec.{eqb}
 use lib.Ieee.{Float, nan}
-use lib.ListN.{length, getD, take, drop, length-take, length-drop, length-append, take-append-drop, List·getD-append}
+use lib.ListN.{length, getD, take, drop, length-append, take-append-drop, List·getD-append}
 use lib.Seq.{take-at, drop-at, drop-drop, getD-take, getD-drop, getD-append-add, length-take-le}
 use borrow.Author.Tests.{eq-eqb}
 use lib.Ieee
 use Rattle.laws.specs.Rows.{rowOf, setRow}
-use Rattle.laws.specs.Lists.{tabulate, anyBelow}
+use Rattle.laws.specs.Lists.{anyBelow}
 use Rattle.laws.proofs.Any.{below-false}
 use Rattle.laws.proofs.MapFirst.{length-mapFirst}
 use Rattle.laws.proofs.Made.{tabulate-ext, below-or-not}
@@ -27,7 +27,7 @@ use Rattle.ieee.specs.Sqrt.{sqrtOf}
 use Rattle.factor.specs.Shapes.{Shaped}
 use Rattle.factor.specs.Norms.{squaredNorm}
 use Rattle.factor.specs.Vectors.{scaled}
-use Rattle.row_gradient.specs.Columns.{columnTo, lessEntry}
+use Rattle.row_gradient.specs.Columns.{columnTo}
 use Rattle.row_gradient.specs.Gradient.{gradientOf}
 use Rattle.coordinate_sweep.specs.Sweep.{momentumRow, exactRow, normalized, pickRow, wrote, updateRow, gradientAt, rowTo, rowBy, sweptRow, sweepTo, meetsNext}
 use Rattle.row_gradient.proofs.ByColumns.{gradient-columns}

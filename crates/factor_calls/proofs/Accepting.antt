@@ -1,26 +1,26 @@
 -- What holds where a call is accepted, and how its 31 is put together.
 -- Assumes nothing.
-use mathlib.Core.Path.{_≡_, refl, sym, ap, _∙_}
+use mathlib.Core.Path.{_≡_, refl}
 use mathlib.Core.Bool.{Bool, true, false, _&&_}
-use mathlib.Core.List.{List, [], _∷_}
+use mathlib.Core.List.{List}
 use Prim.Native.Nat.{ℕ, _*_, _≤_}
 use borrow.Author.Tests.{ltb-false}
 use lib.Dec.{ltb, eqb}
 use lib.ListN.{length}
 use lib.IntN.{ℤ}
 use lib.Ieee.{Float}
-use Rattle.laws.specs.Refusal.{_if_, first, anyOf, short}
+use Rattle.laws.specs.Refusal.{short}
 use Rattle.laws.proofs.Refusal.{clear, first-head, first-rest}
 use Rattle.laws.proofs.Any.{any-head, any-rest, any-not, any-none}
 use Rattle.tables.specs.Limits.{mostSigns, mostSignEntries, mostSignMagnitude}
 use Rattle.tables.specs.Table.{Table, Lent, tableOf}
 use Rattle.rounding.specs.Rounding.{leastDraw, roundedSol}
 use Rattle.rounding.proofs.Least.{length-signsOf}
-use Rattle.tables.specs.Check.{Accepted, shortTable}
+use Rattle.tables.specs.Check.{Accepted}
 use Rattle.tables.proofs.Checks.{long-enough, table-lent, table-accepted}
 use Rattle.run_limits.specs.Limits.{mostRank, mostDraws}
 use Rattle.run_limits.specs.Rank.{rankMeant}
-use Rattle.table_calls.specs.Numbers.{badSigns, signTableNumber}
+use Rattle.table_calls.specs.Numbers.{badSigns}
 use Rattle.table_calls.proofs.Accepting.{signs-passes, signs-parts}
 use Rattle.factor_calls.specs.Numbers.{badRank, badDraws, factorRefused, factorShort, drawsRefused, drawsShort, roundedShort, roundedNumber, dualShort, dualNumber}
 

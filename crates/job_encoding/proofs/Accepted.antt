@@ -1,26 +1,24 @@
 -- A record written from values that 01's limits allow is accepted.
 --     accepted-back    its number is 0
 -- Assumes nothing.
-use Prim.Native.Nat.{ℕ, zero, suc, _+_, _-_, _*_, _^_, _<_, _≤_}
+use Prim.Native.Nat.{ℕ, _+_, _-_, _*_, _^_, _<_, _≤_}
 use mathlib.Core.Path.{_≡_, refl, sym, ap, _∙_}
 use mathlib.Core.Bool.{Bool, true, false, _&&_, not}
 use mathlib.Core.List.{List, [], _∷_, _++_}
 use native.Mathlib.Omega.{arith}
 use borrow.Author.Tests.{le-ltb, eq-eqb, ne-eqb, eqb-true}
-use lib.Dec.{ltb, eqb}
+use lib.Dec.{ltb}
 use lib.ListN.{length, getD, length-append}
-use lib.IntN.{ℤ, pos, natAbs}
-use lib.Ieee.{Float}
+use lib.IntN.{pos, natAbs}
 use Rattle.ieee.specs.Floats.{doubleOf}
-use Rattle.laws.specs.Refusal.{_if_, first, orElse, firstOf}
-use Rattle.laws.specs.Sum.{total}
-use Rattle.laws.proofs.Refusal.{neither, none-of, clear, first-head, first-rest}
+use Rattle.laws.specs.Refusal.{_if_, first}
+use Rattle.laws.proofs.Refusal.{neither, none-of}
 use Rattle.laws.proofs.Any.{below-false}
 use Rattle.laws.proofs.Following.{moves-on, moves-on-if, answers-last, passes-last, first-append}
 use Rattle.tables.specs.Table.{Table}
 use Rattle.tables.specs.Limits.{mostWagons, mostEntries, mostMagnitude}
 use Rattle.tables.proofs.Checks.{hall-accepted, order-passes, mirror-passes}
-use Rattle.tables.specs.Check.{badEntry, badOrder, unmirrored, hallMagnitude, hallNumber}
+use Rattle.tables.specs.Check.{badEntry, badOrder, hallMagnitude, hallNumber}
 use Rattle.job_reader.specs.Bytes.{bigEndian}
 use Rattle.job_reader.specs.Encode.{bytesOf}
 use Rattle.job_reader.proofs.Encode.{length-bytesOf, read-bytes}
@@ -28,14 +26,14 @@ use Rattle.run_limits.specs.Limits.{mostRank, mostWidth, mostDraws}
 use Rattle.job_record.specs.Limits.{mostBytes, lastRule, lastStart}
 use Rattle.run_limits.specs.Rank.{rankMeant}
 use Rattle.run_limits.specs.Momentum.{isMomentum}
-use Rattle.job_record.specs.Fields.{restLength, version, wagons, entryCount, entryAt, row, column, value, entries, signedFrom, settingsAfter, rankAt, ruleAt, ruleNumberAt, startAt, widthAt, rankOf, drawsAfter}
+use Rattle.job_record.specs.Fields.{restLength, version, wagons, entryAt, row, column, value, entries, signedFrom, ruleNumberAt, rankOf}
 use Rattle.job_record.specs.Number.{past, bounded, frameNumber, versionNumber, entryNumber, momentumNumber, headNumbers, entriesNumbers, costsNumbers, settingsNumbers, drawsNumbers, runNumbers, jobNumber}
-use Rattle.job_record.specs.Values.{settingsOf, drawsOf, jobCost}
+use Rattle.job_record.specs.Values.{settingsOf, drawsOf}
 use Rattle.job_record.proofs.Same.{order-same, mirror-same, total-same}
 use Rattle.job_record.proofs.Whole.{parts}
-use Rattle.job_encoding.specs.Encode.{Entry, Values, each, entryBytes, signedBytes, doubleBytes, settingsBytes, bodyBytes, headBytes, jobBytes}
+use Rattle.job_encoding.specs.Encode.{Entry, Values, entryBytes, signedBytes, doubleBytes, bodyBytes, headBytes, jobBytes}
 use Rattle.job_encoding.proofs.Each.{length-each}
-use Rattle.job_encoding.proofs.Back.{Held, entry-size, signed-size, double-size, settings-size, head-size, wagons-back, count-back, row-back, column-back, value-back, cost-back, settings-at, setting-at, rank-is, most-is, start-is, draws-at, drawn-is, set-rule, set-number, set-width}
+use Rattle.job_encoding.proofs.Back.{Held, entry-size, signed-size, double-size, settings-size, head-size, wagons-back, count-back, row-back, column-back, value-back, cost-back, settings-at, setting-at, rank-is, start-is, draws-at, drawn-is, set-rule, set-number, set-width}
 
 -- a field that is there and within its limit
 within : (s : List ℕ) (at width most k : ℕ) → at + width ≤ length s → bigEndian s at width ≤ most → 0 ≡ bounded s at width most k

@@ -1,15 +1,13 @@
 -- What an accepted record holds.
-use Prim.Native.Nat.{ℕ, zero, suc, _+_, _*_, _<_, _≤_}
-use mathlib.Core.Path.{_≡_, refl, sym, ap, _∙_}
-use mathlib.Core.List.{List, [], _∷_}
+use Prim.Native.Nat.{ℕ, _+_, _*_, _≤_}
+use mathlib.Core.Path.{_≡_, refl}
+use mathlib.Core.List.{List}
 use native.Mathlib.Omega.{arith}
 use lib.ListN.{length}
-use Rattle.laws.specs.Refusal.{first}
-use Rattle.laws.proofs.Refusal.{clear, first-head}
 use Rattle.tables.specs.Limits.{mostWagons, mostEntries}
 use Rattle.job_record.specs.Limits.{mostBytes, mostDrawn}
 use Rattle.job_record.specs.Fields.{wagons, entryCount, entryAt, rankAt, mostAt, startAt, settingsAfter}
-use Rattle.job_record.specs.Number.{costsNumbers, jobNumber}
+use Rattle.job_record.specs.Number.{jobNumber}
 use Rattle.job_record.specs.Values.{settingsOf, drawsOf, jobRank, jobStartCount, jobDrawn}
 use Rattle.run_limits.specs.Limits.{mostStart}
 use Rattle.run_limits.proofs.Ranks.{meant-low}

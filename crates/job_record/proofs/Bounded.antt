@@ -1,16 +1,15 @@
 -- A field as it is read, and what holds where it is not refused.
-use Prim.Native.Nat.{ℕ, zero, suc, _+_, _*_, _<_, _≤_}
-use mathlib.Core.Path.{_≡_, refl, sym, ap, _∙_}
+use Prim.Native.Nat.{ℕ, suc, _+_, _<_, _≤_}
+use mathlib.Core.Path.{_≡_, refl}
 use mathlib.Core.Bool.{Bool, true, false, cond}
-use mathlib.Core.List.{List, [], _∷_}
+use mathlib.Core.List.{List}
 use native.Mathlib.Omega.{arith}
 use borrow.Author.Tests.{leb-true, leb-false, lt-ltb, le-ltb, ltb-false}
 use lib.ListN.{length}
-use lib.Dec.{ltb, leb}
-use Rattle.laws.specs.Refusal.{_if_, first}
+use lib.Dec.{leb}
+use Rattle.laws.specs.Refusal.{_if_}
 use Rattle.laws.proofs.Refusal.{clear, first-head, first-rest}
 use Rattle.laws.proofs.Following.{answers-if, moves-on-if, answers-last}
-use Rattle.job_reader.specs.declared.Field.{Field}
 use Rattle.job_reader.specs.declared.Field.the-variants.{Value, Short}
 use Rattle.job_reader.specs.Bytes.{bigEndian, fieldAt}
 use Rattle.job_record.specs.Number.{past, bounded}

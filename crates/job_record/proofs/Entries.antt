@@ -1,24 +1,23 @@
 -- The entries as they are read: those that are there whole are stored and judged, then a cut one is seen.
-use Prim.Native.Nat.{ℕ, zero, suc, _+_, _-_, _*_, _<_, _≤_}
+use Prim.Native.Nat.{ℕ, _+_, _-_, _*_, _<_, _≤_}
 use mathlib.Core.Path.{_≡_, refl, sym, ap, _∙_}
-use mathlib.Core.Bool.{Bool, true, false, not}
+use mathlib.Core.Bool.{Bool, true, false}
 use mathlib.Core.List.{List, [], _∷_}
 use mathlib.Core.Logic.{_⊎_, inl, inr}
 use native.Mathlib.Omega.{arith}
 use native.Mathlib.Nat.{eq-or-lt-of-le}
 use borrow.Author.Tests.{lt-ltb, le-ltb}
 use lib.ListN.{length}
-use lib.Dec.{ltb}
 use lib.IntN.{ℤ, pos, natAbs}
 use Rattle.laws.specs.Refusal.{_if_, first, orElse, firstOf}
 use Rattle.laws.specs.Sum.{total}
 use Rattle.laws.specs.Lists.{elem, elemZ, fill}
 use Rattle.laws.proofs.Following.{answers, moves-on, answers-if, moves-on-if, answers-last, passes-last, firstOf-if, firstOf-stops}
-use Rattle.tables.specs.Table.{Table, tableOf}
+use Rattle.tables.specs.Table.{tableOf}
 use Rattle.tables.specs.Check.{badEntry, badOrder, unmirrored, Placed, hallMagnitude}
 use Rattle.tables.proofs.Checks.{order-placed}
-use Rattle.job_record.specs.Fields.{entryAt, row, column, value, entries, signedFrom, settingsAfter}
-use Rattle.job_record.specs.Number.{past, entryNumber, entriesNumbers, costsNumbers}
+use Rattle.job_record.specs.Fields.{entryAt, row, column, value, entries, signedFrom}
+use Rattle.job_record.specs.Number.{past, entryNumber, entriesNumbers}
 use Rattle.job_record.proofs.Same.{filled, first-same, order-same, mirror-same, total-same}
 
 module _ (s : List ℕ) (n count whole : ℕ) (few : whole ≤ count) (there : entryAt whole ≤ length s) (cut : whole < count → length s < entryAt whole + 10) where

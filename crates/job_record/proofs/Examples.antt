@@ -4,8 +4,8 @@ use Prim.Native.Nat.{ℕ}
 use mathlib.Core.Path.{_≡_, refl}
 use mathlib.Core.List.{List, [], _∷_, _++_, map}
 use lib.ListN.{replicate, set, take}
-use lib.IntN.{ℤ, pos, negsuc}
-use lib.Ieee.{Float, ofBits, ofFields, odd, climb, size, span, le, lt}
+use lib.IntN.{pos, negsuc}
+use lib.Ieee.{ofBits, ofFields, odd, climb, size, span, le, lt}
 use Rattle.laws.specs.Refusal.{orElse, first, firstOf, anyOf}
 use Rattle.laws.specs.Lists.{anyBelow}
 use Rattle.laws.specs.Sum.{total}

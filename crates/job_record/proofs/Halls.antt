@@ -1,10 +1,10 @@
 -- An accepted job's H and c pass the tables' own checks, in the record and in the slices that they were read into.
 --     hall           the first number of the record's H and c is 0
 --     hall-stored    and so is that of the slices that hold them
-use Prim.Native.Nat.{ℕ, zero, suc, _+_, _*_, _<_, _≤_}
-use mathlib.Core.Path.{_≡_, refl, sym, ap, _∙_}
-use mathlib.Core.Bool.{Bool, true, false}
-use mathlib.Core.List.{List, [], _∷_}
+use Prim.Native.Nat.{ℕ, _+_, _*_, _<_, _≤_}
+use mathlib.Core.Path.{_≡_, sym, ap, _∙_}
+use mathlib.Core.Bool.{false}
+use mathlib.Core.List.{List}
 use native.Mathlib.Omega.{arith}
 use lib.ListN.{length}
 use lib.Dec.{ltb}
@@ -12,13 +12,13 @@ use lib.IntN.{ℤ, pos, natAbs}
 use lib.Ieee.{Float}
 use Rattle.laws.specs.Refusal.{_if_, first}
 use Rattle.laws.specs.Sum.{total}
-use Rattle.laws.specs.Lists.{elem, elemZ, fill}
-use Rattle.laws.proofs.Refusal.{clear, each, first-head, first-rest, first-skip}
+use Rattle.laws.specs.Lists.{elem, elemZ}
+use Rattle.laws.proofs.Refusal.{clear, each, first-head, first-rest}
 use Rattle.laws.proofs.Any.{below-none}
 use Rattle.laws.proofs.Following.{passes-last, moves-on-if}
 use Rattle.tables.specs.Table.{Table, tableOf}
 use Rattle.tables.specs.Limits.{mostWagons, mostEntries, mostMagnitude}
-use Rattle.tables.specs.Check.{badSize, badEntry, badOrder, unmirrored, hallMagnitude, hallNumber}
+use Rattle.tables.specs.Check.{badOrder, unmirrored, hallMagnitude, hallNumber}
 use Rattle.tables.proofs.Checks.{size-passes}
 use Rattle.job_record.specs.Fields.{wagons, entryCount, entryAt, row, column, value, entries, signedFrom}
 use Rattle.job_record.specs.Number.{entryNumber, entriesNumbers, costsNumbers, jobNumber}

@@ -1,16 +1,16 @@
 -- Definitions by index look below their count alone, so that a filled list serves for what filled it.
-use Prim.Native.Nat.{ℕ, zero, suc, _+_, _-_, _*_, _<_, _≤_}
-use mathlib.Core.Path.{_≡_, refl, sym, ap, _∙_}
-use mathlib.Core.Bool.{Bool, true, false, not}
+use Prim.Native.Nat.{ℕ, zero, suc, _-_, _<_, _≤_}
+use mathlib.Core.Path.{_≡_, refl, ap}
+use mathlib.Core.Bool.{Bool, not}
 use mathlib.Core.List.{List}
 use native.Mathlib.Omega.{arith}
 use lib.ListN.{length, getD}
-use lib.IntN.{ℤ, natAbs}
+use lib.IntN.{ℤ}
 use Rattle.laws.specs.Refusal.{firstOf}
 use Rattle.laws.specs.Sum.{total}
 use Rattle.laws.specs.Lists.{anyBelow, fill}
 use Rattle.laws.proofs.MapFirst.{getD-mapFirst}
-use Rattle.tables.specs.Check.{badEntry, badOrder, isMirror, unmirrored}
+use Rattle.tables.specs.Check.{badEntry, badOrder, unmirrored}
 
 pub filled : {A : Type 0} (f : ℕ → A) (l : List A) (d : A) (n : ℕ) → n ≤ length l → (i : ℕ) → i < n → getD (fill f n l) i d ≡ f i
 filled f l d n h i k = getD-mapFirst (λ j _. f j) n l i d k (omega arith)

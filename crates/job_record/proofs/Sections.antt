@@ -1,13 +1,12 @@
 -- What holds of a section that is not refused.
-use Prim.Native.Nat.{ℕ, zero, suc, _+_, _*_, _<_, _≤_}
-use mathlib.Core.Path.{_≡_, refl, sym, ap, _∙_}
-use mathlib.Core.Bool.{Bool, true, false, _&&_, not}
-use mathlib.Core.List.{List, [], _∷_, _++_}
+use Prim.Native.Nat.{ℕ, zero, suc, _+_, _*_, _≤_}
+use mathlib.Core.Path.{_≡_, refl, sym, _∙_}
+use mathlib.Core.Bool.{Bool, true, false, _&&_}
+use mathlib.Core.List.{List}
 use native.Mathlib.Omega.{arith}
 use borrow.Author.Tests.{ltb-false, eqb-true, eqb-false, not-false, eq-eqb}
 use lib.ListN.{length}
-use lib.Dec.{ltb, eqb}
-use Rattle.laws.specs.Refusal.{_if_, first, orElse}
+use Rattle.laws.specs.Refusal.{first}
 use Rattle.laws.proofs.Refusal.{clear, both, first-head, first-rest}
 use Rattle.laws.proofs.Following.{first-append}
 use Rattle.tables.specs.Limits.{mostWagons, mostEntries}
@@ -16,7 +15,7 @@ use Rattle.run_limits.specs.Limits.{mostRank, mostWidth, mostDraws}
 use Rattle.run_limits.specs.Momentum.{isMomentum}
 use Rattle.job_record.specs.Limits.{mostBytes, lastRule, lastStart}
 use Rattle.job_record.specs.Fields.{restLength, wagons, entryCount, rankAt, ruleAt, ruleNumberAt, widthAt, startAt, rankOf, drawsAfter}
-use Rattle.job_record.specs.Number.{past, bounded, frameNumber, headNumbers, momentumNumber, settingsNumbers, drawsNumbers, runNumbers}
+use Rattle.job_record.specs.Number.{frameNumber, headNumbers, momentumNumber, settingsNumbers, drawsNumbers, runNumbers}
 use Rattle.job_record.proofs.Bounded.{bounded-passed}
 
 -- the frame, the version, n and the entry count

@@ -1,7 +1,7 @@
 -- The number of a record, from the numbers of its sections; and what holds where it is 0.
-use Prim.Native.Nat.{ℕ, zero, suc, _+_, _*_, _<_, _≤_}
+use Prim.Native.Nat.{ℕ, zero, suc, _+_}
 use mathlib.Core.Path.{_≡_, refl, sym, ap, _∙_}
-use mathlib.Core.List.{List, [], _∷_, _++_}
+use mathlib.Core.List.{List, _++_}
 use Rattle.laws.specs.Refusal.{first, orElse}
 use Rattle.laws.proofs.Refusal.{stop, pass, both}
 use Rattle.laws.proofs.Following.{first-append}

@@ -3,7 +3,7 @@ use job_reader::fields::f64_at;
 use job_reader::fields::i64_at;
 use job_reader::fields::u8_at;
 ghost use mathlib.Core.Path.{_≡_};
-ghost use Prim.Native.Nat.{ℕ, _+_, _*_, _≤_, _<_};
+ghost use Prim.Native.Nat.{_+_, _*_, _≤_, _<_};
 ghost use lib.ListN.{length};
 ghost use Rattle.laws.specs.Lists.{fill};
 ghost use Rattle.job_record.specs.Fields.{entryAt, row, column, value, signedFrom, doubleFrom};

@@ -9,13 +9,12 @@ use job_reader::fields::u32_at;
 use run_limits::rank_meant;
 use run_limits::start_length;
 ghost use mathlib.Core.Path.{_≡_};
-ghost use Prim.Native.Nat.{ℕ, _+_, _*_, _≤_, _<_};
+ghost use Prim.Native.Nat.{_+_, _*_, _≤_};
 ghost use lib.ListN.{length};
 ghost use Rattle.laws.specs.Lists.{fill};
 ghost use Rattle.tables.specs.Limits.{mostWagons, mostEntries};
 ghost use Rattle.run_limits.specs.Limits.{mostRank, mostStart};
 ghost use Rattle.job_record.specs.Limits.{mostBytes, mostDrawn};
-ghost use Rattle.job_record.specs.Fields.{row, column, value};
 ghost use Rattle.job_record.specs.Number.{jobNumber};
 ghost use Rattle.job_record.specs.Values.{settingsOf, drawsOf, jobOf, jobRank, jobStartCount, jobStart, jobDrawn, jobDraw, Stored};
 

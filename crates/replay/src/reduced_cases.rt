@@ -1,5 +1,4 @@
 // Cases on the reduced pair. A slice is its length and its numbers.
-ghost use Prim.Native.Nat.{_≤_};
 use super::table_cases::refused;
 use super::table_cases::same_entries;
 use super::text::Case;

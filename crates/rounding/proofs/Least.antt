@@ -15,7 +15,6 @@ use lib.Signed.{ltZ, _≤ℤ_}
 use lib.Ieee.{Float}
 use lib.ListN.{length, drop, length-append}
 use Rattle.laws.specs.Rows.{rowOf, setRow}
-use Rattle.laws.specs.Lists.{tabulate}
 use Rattle.laws.proofs.Parts.{setRow-next}
 use Rattle.laws.proofs.Made.{length-tabulate}
 use Rattle.laws.proofs.Integer.{integers, ltZ-true, ltZ-false}

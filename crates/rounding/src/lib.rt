@@ -7,7 +7,7 @@ ghost use Prim.Native.Nat.{_+_, _*_, _≤_, _<_, _^_};
 ghost use lib.Ieee as Ieee;
 ghost use lib.ListN.{length, drop};
 ghost use lib.Signed.{ltZ};
-ghost use Rattle.laws.specs.Rows.{rowOf, setRow};
+ghost use Rattle.laws.specs.Rows.{setRow};
 ghost use Rattle.laws.specs.Lists.{tabulate};
 ghost use Rattle.ieee.specs.Floats.{zero64};
 ghost use Rattle.factor.specs.Vectors.{unit};

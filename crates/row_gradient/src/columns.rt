@@ -1,7 +1,7 @@
 // The columns of a row's gradient one by one, for ranks below the least block's width.
 
 ghost use mathlib.Core.Path.{_≡_};
-ghost use Prim.Native.Nat.{_*_, _≤_, _<_};
+ghost use Prim.Native.Nat.{_*_, _<_};
 ghost use lib.Dec.{eqb};
 ghost use lib.ListN.{length};
 ghost use Rattle.factor.specs.Shapes.{ColumnsWithin};

@@ -4,8 +4,8 @@ use mathlib.Core.Bool.{Bool, true, false}
 use mathlib.Core.List.{List, [], _∷_, map}
 use mathlib.Core.Option.{Option, some, none}
 use mathlib.Core.Path.{_≡_, refl}
-use lib.IntN.{ℤ, pos, negsuc}
-use lib.Ieee.{Float, ofBits, toBits, ofInt, add, sub, mul, div, neg, lt, le}
+use lib.IntN.{pos, negsuc}
+use lib.Ieee.{ofBits, toBits, ofInt, add, sub, mul, div, neg, lt, le}
 use Rattle.laws.specs.Sum as Sum
 use Rattle.laws.specs.Lists as Lists
 use Rattle.laws.specs.Rows as Rows

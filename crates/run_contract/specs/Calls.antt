@@ -19,7 +19,7 @@ use Rattle.run_limits.specs.Rank.{rankMeant}
 use Rattle.run_limits.specs.Start.{isSigns, drawsFollow}
 use Rattle.run_record.specs.Numbers.{openNumber, sweepNumber, FinishLengths, finishNumber}
 use Rattle.run_sweep.specs.Work.{signsOf, callWork}
-use Rattle.run_sweep.specs.Sweep.{State, sweepsUpTo}
+use Rattle.run_sweep.specs.Sweep.{sweepsUpTo}
 use Rattle.finalize.specs.Finalize.{diagonalTotal, floatBound, floorEighths, roundedCost, searchedChoice, searchedCost, searchedRounds, multipliersOf}
 use Rattle.finalize.specs.Demand3.{Demand3}
 use Rattle.run_contract.specs.declared.Opened.{Opened}

@@ -1,7 +1,7 @@
 -- The refusal numbers of open, sweep and finish: for each call the first of its numbers, in 01's order, whose condition holds. Assumes nothing.
 use Prim.Native.Nat.{ℕ, _+_, _*_}
 use mathlib.Core.Bool.{Bool, true, false, not, _&&_, _||_}
-use mathlib.Core.List.{List, [], _∷_}
+use mathlib.Core.List.{[], _∷_}
 use lib.ListN.{length}
 use lib.Dec.{ltb, eqb}
 use lib.Ieee.{Float}

@@ -3,7 +3,6 @@ use Prim.Native.Nat.{ℕ, _*_, _<_, _≤_}
 use mathlib.Core.Path.{_≡_}
 use mathlib.Core.Bool.{false}
 use mathlib.Core.List.{List}
-use lib.ListN.{length}
 use lib.Ieee.{Float}
 use Rattle.factor.specs.Shapes.{Shaped, ObjFits}
 use Rattle.run_record.specs.declared.Run.{Run}

@@ -1,12 +1,12 @@
 -- The parts of the call's contract. Assumes nothing.
-use Prim.Native.Nat.{ℕ, _-_, _+_, _≤_}
+use Prim.Native.Nat.{ℕ, _-_, _+_}
 use native.Mathlib.Omega.{arith}
 use mathlib.Core.List.{List, _++_}
-use mathlib.Core.Path.{_≡_, refl, sym, ap, ap₂, _∙_}
+use mathlib.Core.Path.{_≡_, ap, ap₂, _∙_}
 use lib.IntN.{ℤ}
 use lib.ListN.{length, drop}
 use Rattle.laws.specs.Lists.{over}
-use Rattle.tables.specs.Table.{Table, tableOf}
+use Rattle.tables.specs.Table.{Table}
 use Rattle.local_search.specs.LocalSearch.{Found}
 use Rattle.sign_search.specs.Search.{objectiveIn, beamSearch}
 use mir.Syntax.{w64}
@@ -16,8 +16,7 @@ use Rattle.sign_search.specs.Contracts.{Sound, Found-by}
 use Rattle.sign_search.proofs.Lawful.{objective-fits}
 use Rattle.sdp_local_search.specs.Accepted.{FoundInto}
 use Rattle.sdp_local_search.specs.Call.{Searched-so}
-use Rattle.sdp_local_search.specs.declared.BeamSearched.{BeamSearched}
-use Rattle.sdp_local_search.specs.declared.BeamSearched.the-variants.{Found as Answer, Refused}
+use Rattle.sdp_local_search.specs.declared.BeamSearched.the-variants.{Found as Answer}
 
 -- the first m bytes of `out`, as they come back
 pub found-into : (t : Table) (width m : ℕ) (from : List ℕ) (least : ℤ) (rounds : ℕ) (kept out : List ℕ) → length kept ≡ m

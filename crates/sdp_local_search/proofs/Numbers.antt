@@ -1,14 +1,14 @@
 -- What holds of the slices where 31 is not answered, and of the table where no number is. Assumes nothing.
-use Prim.Native.Nat.{ℕ, _*_, _≤_, _<_}
+use Prim.Native.Nat.{ℕ, _≤_}
 use native.Mathlib.Omega.{arith}
 use borrow.Author.Tests.{ltb-false, le-ltb}
 use mathlib.Core.Bool.{Bool, true, false}
 use mathlib.Core.List.{List}
-use mathlib.Core.Path.{_≡_, refl, sym, ap, _∙_}
+use mathlib.Core.Path.{_≡_, refl}
 use lib.Dec.{ltb}
 use lib.IntN.{ℤ}
 use lib.ListN.{length}
-use Rattle.laws.specs.Refusal.{_if_, first, anyOf, short}
+use Rattle.laws.specs.Refusal.{short}
 use Rattle.laws.proofs.Any.{any-head, any-rest}
 use Rattle.laws.proofs.Refusal.{first-head, first-rest, clear}
 use Rattle.tables.specs.Table.{Table, tableOf, Lent}

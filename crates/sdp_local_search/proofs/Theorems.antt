@@ -2,13 +2,13 @@
 use Prim.Native.Nat.{ℕ, zero, suc, _+_, _*_, _≤_, _<_}
 use native.Mathlib.Decide.{ℕ-discrete}
 use native.Mathlib.Omega.{arith}
-use mathlib.Core.List.{List, [], _∷_, _++_}
-use mathlib.Core.Path.{_≡_, refl, sym, ap, _∙_}
+use mathlib.Core.List.{List}
+use mathlib.Core.Path.{_≡_, sym, ap, _∙_}
 use lib.IntN.{ℤ, pos, _+ℤ_}
 use lib.Signed.{_≤ℤ_}
 use lib.ListN.{length, getD, take, drop, length-set}
 use lib.Seq.{take-at, getD-set-same, getD-set-other}
-use Rattle.laws.specs.Lists.{elem, over, tabulate}
+use Rattle.laws.specs.Lists.{elem}
 use Rattle.laws.proofs.Made.{length-tabulate, getD-tabulate}
 use Rattle.tables.specs.Table.{Table, tableOf}
 use Rattle.local_search.specs.LocalSearch.{Found}
@@ -16,9 +16,9 @@ use Rattle.local_search.specs.Level.{flipByte, flipSign}
 use Rattle.sign_search.specs.Search.{Mirrors, objectiveIn, beamSearch}
 use Rattle.sign_search.proofs.Theorems.{answer-long, answer-keeps, no-flip-lowers, rounds-fall}
 use Rattle.sdp_local_search.specs.BeamSearch.{baseLimits, signByte, signBytes}
-use Rattle.sdp_local_search.specs.Call.{callNumber, Searched-so, BeamSearches}
+use Rattle.sdp_local_search.specs.Call.{callNumber, BeamSearches}
 use Rattle.sdp_local_search.specs.declared.BeamSearched.{BeamSearched}
-use Rattle.sdp_local_search.specs.declared.BeamSearched.the-variants.{Found as Answer, Refused}
+use Rattle.sdp_local_search.specs.declared.BeamSearched.the-variants.{Found as Answer}
 use Rattle.sdp_local_search.proofs.Numbers.{call-sound}
 
 -- ---- bytes 0 and 1

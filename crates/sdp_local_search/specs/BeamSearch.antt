@@ -1,6 +1,6 @@
 -- The call `beam_search` on a sign table: its numbers, in 01's order, and the signs it starts from.
 use Prim.Native.Nat.{ℕ, zero, suc, _^_}
-use mathlib.Core.Bool.{Bool, true, false, _||_}
+use mathlib.Core.Bool.{Bool, false}
 use mathlib.Core.List.{List, [], _∷_}
 use lib.Dec.{ltb}
 use Rattle.laws.specs.Lists.{elem, tabulate}

@@ -4,7 +4,6 @@ use sign_search::search::search_signs;
 ghost use mathlib.Core.Path.{_≡_};
 ghost use Prim.Native.Nat.{_≤_};
 ghost use lib.ListN.{length};
-ghost use Rattle.laws.specs.Lists.{over};
 ghost use Rattle.tables.specs.Table.{tableOf, Lent};
 ghost use Rattle.sign_search.specs.Contracts.{Sound, Room, Found-by};
 ghost use Rattle.sdp_local_search.specs.BeamSearch.{signByte, signBytes};

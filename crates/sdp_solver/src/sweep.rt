@@ -14,7 +14,7 @@ ghost use Rattle.run_limits.specs.Limits.{mostRank};
 ghost use Rattle.run_record.specs.CostTable.{costTable};
 ghost use Rattle.run_sweep.specs.Work.{work, callWork};
 ghost use Rattle.run_sweep.specs.Running.{Running};
-ghost use Rattle.run_sweep.specs.Sweep.{State, sweepsUpTo};
+ghost use Rattle.run_sweep.specs.Sweep.{sweepsUpTo};
 ghost use Rattle.run_contract.specs.Calls.{Sweeps};
 ghost use Rattle.sdp_solver.specs.Usable.{Usable};
 

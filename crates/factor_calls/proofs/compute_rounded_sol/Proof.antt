@@ -1,12 +1,12 @@
 -- `factor_calls::compute_rounded_sol` meets its contract. By the number. Assumes nothing.
 use borrow.Author.Needs.{needs}
-use mathlib.Core.Path.{_≡_, sym, ap, _∙_}
+use mathlib.Core.Path.{sym, ap, _∙_}
 use denote.Ref.{now}
 use lib.ListN.{length}
 use Rattle.laws.proofs.Integer.{held}
 use Rattle.table_calls.proofs.Accepting.{refused-is, accepted-is}
 use Rattle.table_calls.specs.declared.Eighths.the-variants as E
-use Rattle.factor_calls.proofs.Accepting.{Usable, rounded-accepted}
+use Rattle.factor_calls.proofs.Accepting.{rounded-accepted}
 use Rattle.factor_calls.proofs.compute_rounded_sol.Statement.{statement}
 use Rattle.factor_calls.proofs.compute_rounded_sol.Tie as tie
 

@@ -1,13 +1,13 @@
 -- `factor_calls::dual_variables` meets its contract. By the number. Assumes nothing.
 use borrow.Author.Needs.{needs}
-use mathlib.Core.Path.{_≡_, sym, ap, _∙_}
+use mathlib.Core.Path.{sym, _∙_}
 use native.Mathlib.Nat.{mul-le-mul}
 use native.Mathlib.Omega.{arith}
 use denote.Ref.{now}
 use lib.ListN.{length}
 use lib.Seq.{length-take-le}
 use Rattle.table_calls.proofs.Accepting.{refused-is, accepted-is}
-use Rattle.factor_calls.proofs.Accepting.{DualUsable, dual-accepted}
+use Rattle.factor_calls.proofs.Accepting.{dual-accepted}
 use Rattle.factor_calls.proofs.dual_variables.Statement.{statement}
 use Rattle.factor_calls.proofs.dual_variables.Tie as tie
 

@@ -1,8 +1,7 @@
 -- `factor_calls::round` meets its contract. The parts that are lent have the lengths that are asked. Assumes nothing.
 use borrow.Author.Needs.{needs}
-use mathlib.Core.Path.{_≡_, sym, ap, _∙_}
+use mathlib.Core.Path.{sym, _∙_}
 use native.Mathlib.Omega.{arith}
-use lib.ListN.{length}
 use lib.Seq.{length-take-le}
 use Rattle.laws.proofs.Integer.{held}
 use Rattle.factor_calls.proofs.Accepting.{length-roundedSol}

@@ -1,6 +1,5 @@
 -- `run_host::put` meets its contract. Assumes nothing.
 use borrow.Author.Needs.{needs}
-use mathlib.Core.Path.{_≡_, refl}
 use Rattle.run_host.proofs.Numbers.{run-again}
 use Rattle.run_host.proofs.put.Statement.{statement}
 use Rattle.run_host.proofs.put.Tie as tie

@@ -1,6 +1,6 @@
 -- `run_host::run_of` meets its contract. Assumes nothing.
 use borrow.Author.Needs.{needs}
-use mathlib.Core.Path.{_≡_, refl}
+use mathlib.Core.Path.{refl}
 use Rattle.run_host.proofs.run_of.Statement.{statement}
 use Rattle.run_host.proofs.run_of.Tie as tie
 

@@ -1,6 +1,6 @@
 -- `run_limits::rank_meant` meets its contract. By the test. Assumes nothing.
 use borrow.Author.Needs.{needs}
-use mathlib.Core.Path.{_≡_, sym, _∙_}
+use mathlib.Core.Path.{sym, _∙_}
 use native.Mathlib.Omega.{arith}
 use Rattle.run_limits.proofs.Ranks.{default-low, meant-given, meant-default}
 use Rattle.run_limits.proofs.rank_meant.Statement.{statement}

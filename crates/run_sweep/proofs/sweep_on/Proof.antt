@@ -1,7 +1,7 @@
 use borrow.Author.Needs.{needs}
 use Rattle.run_sweep.proofs.sweep_on.Statement.{statement}
 use Rattle.run_sweep.proofs.sweep_on.Tie as tie
-use mathlib.Core.Path.{_≡_, sym, _∙_}
+use mathlib.Core.Path.{_∙_}
 use mathlib.Core.Path.{ap}
 use Rattle.run_sweep.specs.Work.{work}
 use Rattle.run_sweep.specs.Sweep.{runAfter}

@@ -1,7 +1,7 @@
 use borrow.Author.Needs.{needs}
 use Rattle.run_sweep.proofs.sweeps_up_to.Statement.{statement}
 use Rattle.run_sweep.proofs.sweeps_up_to.Tie as tie
-use Prim.Native.Nat.{ℕ, _≤_, _<_, _-_, _+_}
+use Prim.Native.Nat.{_≤_, _-_}
 use mathlib.Core.Path.{_≡_, refl, sym, ap, _∙_}
 use mathlib.Core.List.{List}
 use native.Mathlib.Omega.{arith}

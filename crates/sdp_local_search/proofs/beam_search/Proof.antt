@@ -2,7 +2,7 @@ use borrow.Author.Needs.{needs}
 use borrow.Author.Needs.{needs}
 use Rattle.sdp_local_search.proofs.beam_search.Statement.{statement}
 use Rattle.sdp_local_search.proofs.beam_search.Tie as tie
-use mathlib.Core.Path.{_≡_, refl, sym, ap₂, _∙_}
+use mathlib.Core.Path.{refl, sym, _∙_}
 use denote.Ref.{now}
 use lib.ListN.{length}
 use Rattle.sdp_local_search.proofs.Numbers.{call-room, call-sound, call-lent, start-there, out-there}

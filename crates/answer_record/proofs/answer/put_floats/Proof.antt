@@ -2,13 +2,11 @@ use borrow.Author.Needs.{needs}
 use borrow.Author.Needs.{needs}
 use Rattle.answer_record.proofs.answer.put_floats.Statement.{statement}
 use Rattle.answer_record.proofs.answer.put_floats.Tie as tie
-use mathlib.Core.Path.{ap, _∙_}
-use mathlib.Core.List.{_++_}
+use mathlib.Core.Path.{_∙_}
 use native.Mathlib.Omega.{arith}
 use Rattle.ieee.specs.Floats.{bitsOf}
 use Rattle.job_reader.specs.Encode.{bytesOf}
 use Rattle.job_reader.proofs.Encode.{length-bytesOf}
-use Rattle.answer_record.specs.Put.{put}
 use Rattle.answer_record.specs.Answer.{floatBytes}
 use Rattle.answer_record.proofs.Written.{put-next}
 

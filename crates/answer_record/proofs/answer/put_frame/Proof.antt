@@ -3,7 +3,6 @@ use borrow.Author.Needs.{needs}
 use Rattle.answer_record.proofs.answer.put_frame.Statement.{statement}
 use Rattle.answer_record.proofs.answer.put_frame.Tie as tie
 use Prim.Native.Nat.{_+_}
-use mathlib.Core.List.{_++_}
 use native.Mathlib.Omega.{arith}
 use Rattle.job_reader.specs.Encode.{bytesOf}
 use Rattle.job_reader.proofs.Encode.{length-bytesOf}

@@ -2,7 +2,6 @@ use borrow.Author.Needs.{needs}
 use borrow.Author.Needs.{needs}
 use Rattle.answer_record.proofs.answer.read_answer.Statement.{statement}
 use Rattle.answer_record.proofs.answer.read_answer.Tie as tie
-use mathlib.Core.Path.{_≡_, _∙_}
 use mir.Syntax.{w64}
 use mir.ValLaws.{toZ-ofZ}
 use Rattle.answer_record.specs.Answer.{answerOf}

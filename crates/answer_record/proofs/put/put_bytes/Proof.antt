@@ -2,7 +2,7 @@ use borrow.Author.Needs.{needs}
 use Rattle.answer_record.proofs.put.put_bytes.Statement.{statement}
 use Rattle.answer_record.proofs.put.put_bytes.Tie as tie
 use Prim.Native.Nat.{_≤_, _-_}
-use mathlib.Core.Path.{_≡_, refl, sym, _∙_}
+use mathlib.Core.Path.{_≡_, refl}
 use native.Mathlib.Omega.{arith}
 use lib.ListN.{length, length-set}
 use lib.Seq.{paste}

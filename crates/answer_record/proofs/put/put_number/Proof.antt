@@ -2,7 +2,7 @@ use borrow.Author.Needs.{needs}
 use Rattle.answer_record.proofs.put.put_number.Statement.{statement}
 use Rattle.answer_record.proofs.put.put_number.Tie as tie
 use Prim.Native.Nat.{_≤_}
-use mathlib.Core.Path.{_≡_, refl, sym, _∙_}
+use mathlib.Core.Path.{_≡_, refl, _∙_}
 use native.Mathlib.Omega.{arith}
 use lib.ListN.{length, length-set}
 use Rattle.answer_record.proofs.Written.{stored, stored-turn, put-written}

@@ -1,6 +1,6 @@
 -- `factor_calls::numbers::draws_refused` meets its contract. By the tests. Assumes nothing.
 use borrow.Author.Needs.{needs}
-use mathlib.Core.Path.{_≡_, sym, _∙_}
+use mathlib.Core.Path.{sym, _∙_}
 use borrow.Author.Tests.{eq-eqb, ne-eqb}
 use Rattle.laws.proofs.Any.{any-here, any-skip, any-last, any-not, any-none}
 use Rattle.factor_calls.specs.Numbers.{drawsRefused}

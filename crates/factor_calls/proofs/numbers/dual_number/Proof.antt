@@ -1,6 +1,6 @@
 -- `factor_calls::numbers::dual_number` meets its contract. By the tests, in their order. Assumes nothing.
 use borrow.Author.Needs.{needs}
-use mathlib.Core.Path.{_≡_, sym, _∙_}
+use mathlib.Core.Path.{sym, _∙_}
 use lib.Dec.{lit<, lit≤}
 use denote.Ref.{now}
 use Rattle.laws.proofs.Refusal.{first-here, first-skip, first-next, first-found, first-end}

@@ -2,7 +2,7 @@ use borrow.Author.Needs.{needs}
 use Rattle.job_record.proofs.arrays.read_doubles.Statement.{statement}
 use Rattle.job_record.proofs.arrays.read_doubles.Tie as tie
 use Prim.Native.Nat.{_≤_, _-_}
-use mathlib.Core.Path.{_≡_, refl, _∙_}
+use mathlib.Core.Path.{_≡_, refl}
 use native.Mathlib.Omega.{arith}
 use lib.ListN.{length, length-set}
 use Rattle.laws.specs.Lists.{fill}

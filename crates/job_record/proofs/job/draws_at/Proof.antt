@@ -2,7 +2,6 @@ use borrow.Author.Needs.{needs}
 use borrow.Author.Needs.{needs}
 use Rattle.job_record.proofs.job.draws_at.Statement.{statement}
 use Rattle.job_record.proofs.job.draws_at.Tie as tie
-use mathlib.Core.Path.{_≡_, sym, _∙_}
 use native.Mathlib.Omega.{arith}
 use Rattle.job_record.proofs.Accepted.{fields}
 

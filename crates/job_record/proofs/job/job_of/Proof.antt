@@ -2,7 +2,6 @@ use borrow.Author.Needs.{needs}
 use borrow.Author.Needs.{needs}
 use Rattle.job_record.proofs.job.job_of.Statement.{statement}
 use Rattle.job_record.proofs.job.job_of.Tie as tie
-use mathlib.Core.Path.{_≡_, sym, _∙_}
 use native.Mathlib.Omega.{arith}
 use Rattle.job_record.specs.Values.{jobOf}
 use Rattle.job_record.proofs.Accepted.{fields}

@@ -2,8 +2,8 @@ use borrow.Author.Needs.{needs}
 use borrow.Author.Needs.{needs}
 use Rattle.job_record.proofs.job.read_draws.Statement.{statement}
 use Rattle.job_record.proofs.job.read_draws.Tie as tie
-use mathlib.Core.Path.{_≡_, sym, _∙_}
-use Prim.Native.Nat.{_*_, _≤_}
+use mathlib.Core.Path.{_≡_, _∙_}
+use Prim.Native.Nat.{_*_}
 use native.Mathlib.Omega.{arith}
 use Rattle.job_record.specs.Values.{jobDrawn}
 use Rattle.job_record.proofs.Products.{area}

@@ -2,10 +2,10 @@ use borrow.Author.Needs.{needs}
 use borrow.Author.Needs.{needs}
 use Rattle.job_record.proofs.number.costs_number.Statement.{statement}
 use Rattle.job_record.proofs.number.costs_number.Tie as tie
-use mathlib.Core.Path.{_≡_, refl, sym, ap, _∙_}
+use mathlib.Core.Path.{sym, ap, _∙_}
 use native.Mathlib.Omega.{arith}
 use borrow.Author.Tests.{lt-ltb, le-ltb}
-use lib.Dec.{ltb, lit≤}
+use lib.Dec.{ltb}
 use lib.ListN.{replicate}
 use lib.IntN.{pos}
 use Rattle.laws.proofs.Following.{answers-if, moves-on-if, passes-last}

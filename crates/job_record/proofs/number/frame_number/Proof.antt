@@ -2,7 +2,6 @@ use borrow.Author.Needs.{needs}
 use borrow.Author.Needs.{needs}
 use Rattle.job_record.proofs.number.frame_number.Statement.{statement}
 use Rattle.job_record.proofs.number.frame_number.Tie as tie
-use mathlib.Core.Path.{_≡_, sym, ap, _∙_}
 use borrow.Author.Tests.{lt-ltb, le-ltb, eq-eqb, ne-eqb}
 use Rattle.laws.specs.Refusal.{first, orElse}
 use Rattle.job_record.specs.Number.{frameNumber}

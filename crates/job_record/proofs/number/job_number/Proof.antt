@@ -2,7 +2,7 @@ use borrow.Author.Needs.{needs}
 use borrow.Author.Needs.{needs}
 use Rattle.job_record.proofs.number.job_number.Statement.{statement}
 use Rattle.job_record.proofs.number.job_number.Tie as tie
-use mathlib.Core.Path.{_≡_, sym, _∙_}
+use mathlib.Core.Path.{sym, _∙_}
 use native.Mathlib.Omega.{arith}
 use Rattle.job_record.proofs.Sections.{head}
 use Rattle.job_record.proofs.Whole.{at-head, at-table, at-run}

@@ -2,11 +2,11 @@ use borrow.Author.Needs.{needs}
 use borrow.Author.Needs.{needs}
 use Rattle.job_record.proofs.settings.draws_number.Statement.{statement}
 use Rattle.job_record.proofs.settings.draws_number.Tie as tie
-use mathlib.Core.Path.{_≡_, sym, ap, _∙_}
+use mathlib.Core.Path.{sym, _∙_}
 use Prim.Native.Nat.{_≤_, _*_}
 use native.Mathlib.Omega.{arith}
 use borrow.Author.Tests.{lt-ltb, le-ltb, eq-eqb, ne-eqb}
-use Rattle.laws.proofs.Following.{answers, moves-on, answers-if, moves-on-if, answers-last}
+use Rattle.laws.proofs.Following.{answers, moves-on, answers-if, moves-on-if}
 use Rattle.job_record.specs.Number.{drawsNumbers}
 use Rattle.job_record.proofs.Bounded.{bounded-passed}
 use Rattle.laws.proofs.Following.{passes-last}

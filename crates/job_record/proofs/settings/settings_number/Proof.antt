@@ -2,7 +2,7 @@ use borrow.Author.Needs.{needs}
 use borrow.Author.Needs.{needs}
 use Rattle.job_record.proofs.settings.settings_number.Statement.{statement}
 use Rattle.job_record.proofs.settings.settings_number.Tie as tie
-use mathlib.Core.Path.{sym, ap, _∙_}
+use mathlib.Core.Path.{sym, _∙_}
 use native.Mathlib.Omega.{arith}
 use borrow.Author.Tests.{lt-ltb, le-ltb, eq-eqb, ne-eqb}
 use Rattle.laws.proofs.Following.{answers, moves-on, answers-if, moves-on-if, answers-last}

@@ -1,6 +1,5 @@
 -- `maxcut_oracle::objective::dual_variables` meets its contract. By what its callees ensure. Assumes nothing.
 use borrow.Author.Needs.{needs}
-use mathlib.Core.Path.{_∙_, sym}
 use Rattle.maxcut_oracle.proofs.objective.dual_variables.Statement.{statement}
 use Rattle.maxcut_oracle.proofs.objective.dual_variables.Tie as tie
 

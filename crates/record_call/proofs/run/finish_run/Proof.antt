@@ -1,6 +1,6 @@
 -- `record_call::run::finish_run` meets its contract: nothing refuses the job's finish. Assumes nothing.
 use borrow.Author.Needs.{needs}
-use mathlib.Core.Path.{_≡_, refl}
+use mathlib.Core.Path.{refl}
 use denote.Ref.{now}
 use Rattle.record_call.proofs.Decoding.{finishes-now, finished, resulted}
 use Rattle.record_call.proofs.run.finish_run.Statement.{statement}

@@ -2,7 +2,6 @@
 use borrow.Author.Needs.{needs}
 use mathlib.Core.Path.{_≡_, refl, _∙_}
 use denote.Ref.{now}
-use Rattle.run_record.specs.declared.Run.{Run}
 use Rattle.run_contract.specs.Calls.{openRun, startFactor}
 use Rattle.record_call.specs.Record.{jobSettings}
 use Rattle.record_call.proofs.Decoding.{opens-now, opened-run, unswept-run, sweeps-now, swept-run, started, positive}

@@ -1,6 +1,5 @@
 use borrow.Author.Needs.{needs}
-use Prim.Native.Nat.{_≤_, _<_, _-_}
-use mathlib.Core.Path.{_≡_}
+use Prim.Native.Nat.{_≤_, _-_}
 use Rattle.replay.proofs.typed.same_doubles.Statement.{statement}
 use Rattle.replay.proofs.typed.same_doubles.Tie as tie
 

@@ -1,5 +1,4 @@
-use Prim.Native.Nat.{_≤_, _<_, _-_, _+_, _*_}
-use mathlib.Core.Path.{_≡_}
+use Prim.Native.Nat.{_≤_, _-_, _+_, _*_}
 use borrow.Author.Needs.{needs}
 use Rattle.replay.proofs.typed.same_indices.Statement.{statement}
 use Rattle.replay.proofs.typed.same_indices.Tie as tie

@@ -1,8 +1,6 @@
 -- `row_gradient::gradient::gradient_blocks` meets its contract. By what its callees ensure. Assumes nothing.
 use borrow.Author.Needs.{needs}
-use mathlib.Core.Path.{_≡_, _∙_}
 use native.Mathlib.Omega.{arith}
-use lib.ListN.{length}
 use lib.Seq.{take-at}
 use Rattle.laws.proofs.Made.{length-tabulate}
 use Rattle.row_gradient.proofs.gradient.gradient_blocks.Statement.{statement}

@@ -1,9 +1,9 @@
 use borrow.Author.Needs.{needs}
 use Rattle.run_record.proofs.lengths.choice_short.Statement.{statement}
 use Rattle.run_record.proofs.lengths.choice_short.Tie as tie
-use mathlib.Core.Path.{_≡_, sym, _∙_}
+use mathlib.Core.Path.{sym, _∙_}
 use borrow.Author.Tests.{lt-ltb, le-ltb}
-use Rattle.laws.proofs.Any.{any-here, any-skip, any-none, any-last}
+use Rattle.laws.proofs.Any.{any-here, any-skip, any-last}
 use Rattle.run_record.proofs.Short.{untested, tests}
 use Rattle.run_record.specs.Numbers.{choiceShort}
 

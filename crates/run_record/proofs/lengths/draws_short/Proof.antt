@@ -1,7 +1,7 @@
 use Rattle.run_record.proofs.lengths.draws_short.Statement.{statement}
 use Rattle.run_record.proofs.lengths.draws_short.Tie as tie
 use Prim.Native.Nat.{ℕ, _≤_, _<_}
-use mathlib.Core.Path.{_≡_, sym, ap, _∙_}
+use mathlib.Core.Path.{_≡_, _∙_}
 use mathlib.Core.Bool.{true, false}
 use native.Mathlib.Omega.{arith}
 use native.Mathlib.Nat.{mul-le-mul}

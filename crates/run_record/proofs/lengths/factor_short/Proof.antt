@@ -2,8 +2,8 @@ use borrow.Author.Needs.{needs}
 use Rattle.run_record.proofs.lengths.factor_short.Statement.{statement}
 use Rattle.run_record.proofs.lengths.factor_short.Tie as tie
 use Prim.Native.Nat.{ℕ}
-use mathlib.Core.Path.{_≡_, sym, ap, _∙_}
-use mathlib.Core.Bool.{Bool, true, false, not}
+use mathlib.Core.Path.{_≡_, ap, _∙_}
+use mathlib.Core.Bool.{true, false, not}
 use native.Mathlib.Omega.{arith}
 use native.Mathlib.Nat.{mul-le-mul}
 use borrow.Author.Tests.{eq-eqb, ne-eqb, lt-ltb, le-ltb}

@@ -1,7 +1,7 @@
 use borrow.Author.Needs.{needs}
 use Rattle.run_record.proofs.lengths.open_factor_short.Statement.{statement}
 use Rattle.run_record.proofs.lengths.open_factor_short.Tie as tie
-use mathlib.Core.Path.{_≡_, sym, _∙_}
+use mathlib.Core.Path.{sym, _∙_}
 use Prim.Native.Nat.{_≤_, _+_}
 use native.Mathlib.Omega.{arith}
 use native.Mathlib.Nat.{mul-le-mul}

@@ -1,7 +1,7 @@
 use borrow.Author.Needs.{needs}
 use Rattle.run_sweep.proofs.check.run_after.Statement.{statement}
 use Rattle.run_sweep.proofs.check.run_after.Tie as tie
-use mathlib.Core.Path.{_≡_, sym, _∙_}
+use mathlib.Core.Path.{sym, _∙_}
 use Rattle.run_sweep.specs.Work.{work}
 use Rattle.run_sweep.proofs.Checking.{unchecked, checked}
 

@@ -1,6 +1,5 @@
 use Rattle.run_sweep.proofs.check.stage_after.Statement.{statement}
 use Rattle.run_sweep.proofs.check.stage_after.Tie as tie
-use mathlib.Core.Bool.{Bool, true, false, not}
 use borrow.Author.Tests.{eq-eqb, ne-eqb}
 use Rattle.laws.specs.Refusal.{anyOf}
 use Rattle.run_sweep.specs.Sweep.{stageAfter}

@@ -9,7 +9,6 @@ use Rattle.laws.specs.Lists.{elem, over, tabulate}
 use Rattle.laws.proofs.Made.{tabulate-next, tabulate-all}
 use Rattle.sdp_local_search.specs.BeamSearch.{signByte, signBytes}
 use Prim.Native.Nat.{ℕ}
-use mathlib.Core.List.{List}
 use mathlib.Core.Path.{ap}
 use lib.ListN.{set}
 use denote.Ref.{now}

@@ -2,7 +2,7 @@ use borrow.Author.Needs.{needs}
 use borrow.Author.Needs.{needs}
 use Rattle.sdp_local_search.proofs.signs.search_accepted.Statement.{statement}
 use Rattle.sdp_local_search.proofs.signs.search_accepted.Tie as tie
-use mathlib.Core.Path.{_≡_, _∙_}
+use mathlib.Core.Path.{_∙_}
 use denote.Ref.{now}
 use Rattle.tables.specs.Table.{tableOf}
 use Rattle.sdp_local_search.specs.BeamSearch.{signBytes}

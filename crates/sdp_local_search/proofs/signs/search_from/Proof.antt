@@ -2,7 +2,7 @@ use borrow.Author.Needs.{needs}
 use borrow.Author.Needs.{needs}
 use Rattle.sdp_local_search.proofs.signs.search_from.Statement.{statement}
 use Rattle.sdp_local_search.proofs.signs.search_from.Tie as tie
-use mathlib.Core.Path.{_≡_, _∙_}
+use mathlib.Core.Path.{_∙_}
 
 search-signs-requires : tie.Need-search-signs-requires
 search-signs-requires c κs = let e = c .before .before .before .before .copy-signs .kept .1 .0 in (rw e (c .before .before .before .before .before .before .before .before .before .before .before .pre .0), rw e (c .before .before .before .before .before .before .before .before .before .before .before .pre .1), c .before .before .before .before .before .before .before .before .before .before .before .pre .2)

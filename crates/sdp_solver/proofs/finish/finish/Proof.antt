@@ -1,6 +1,6 @@
 -- `sdp_solver::finish::finish` meets its contract: by the number, and by `finish_accepted`. Assumes nothing.
 use borrow.Author.Needs.{needs}
-use mathlib.Core.Path.{_≡_, refl, sym, ap, _∙_}
+use mathlib.Core.Path.{refl, sym, ap, _∙_}
 use Rattle.run_contract.specs.Calls.{finishedNumber}
 use Rattle.sdp_solver.proofs.finish.finish.Statement.{statement}
 use Rattle.sdp_solver.proofs.finish.finish.Tie as tie

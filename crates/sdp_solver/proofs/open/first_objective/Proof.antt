@@ -1,6 +1,6 @@
 -- `sdp_solver::open::first_objective` meets its contract, on the table that `call_work` wrote. Assumes nothing.
 use borrow.Author.Needs.{needs}
-use mathlib.Core.Path.{_≡_, sym, _∙_}
+use mathlib.Core.Path.{sym, _∙_}
 use native.Mathlib.Omega.{arith}
 use denote.Ref.{now}
 use lib.Seq.{length-take-le}

@@ -1,6 +1,6 @@
 -- `sdp_solver::open::open` meets its contract: by the number, and by `open_accepted`. Assumes nothing.
 use borrow.Author.Needs.{needs}
-use mathlib.Core.Path.{_≡_, refl, sym, _∙_}
+use mathlib.Core.Path.{refl, sym, _∙_}
 use Rattle.sdp_solver.proofs.open.open.Statement.{statement}
 use Rattle.sdp_solver.proofs.open.open.Tie as tie
 

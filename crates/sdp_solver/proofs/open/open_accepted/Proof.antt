@@ -1,7 +1,7 @@
 -- `sdp_solver::open::open_accepted` meets its contract, by what its parts ensure. Assumes nothing.
 use borrow.Author.Needs.{needs}
 use Prim.Native.Nat.{_+_, _*_, _≤_}
-use mathlib.Core.Path.{_≡_, refl, sym, ap}
+use mathlib.Core.Path.{refl, sym, ap}
 use native.Mathlib.Nat.{le-trans}
 use native.Mathlib.Omega.{arith}
 use denote.Ref.{now}

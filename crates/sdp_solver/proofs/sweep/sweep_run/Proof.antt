@@ -1,6 +1,6 @@
 -- `sdp_solver::sweep::sweep_run` meets its contract. By the number, and by what `sweep_accepted` ensures. Assumes nothing.
 use borrow.Author.Needs.{needs}
-use mathlib.Core.Path.{_≡_, refl, sym, _∙_}
+use mathlib.Core.Path.{refl, sym, _∙_}
 use native.Mathlib.Omega.{arith}
 use denote.Ref.{now}
 use lib.ListN.{length}

@@ -1,7 +1,7 @@
 -- `sdp_solver::sweep::sweep_work` meets its contract. The arrays are cut to the factor's rows. Assumes nothing.
 use borrow.Author.Needs.{needs}
 use Prim.Native.Nat.{_*_, _≤_}
-use mathlib.Core.Path.{_≡_, sym}
+use mathlib.Core.Path.{sym}
 use native.Mathlib.Nat.{mul-le-mul}
 use native.Mathlib.Omega.{arith}
 use lib.ListN.{length}

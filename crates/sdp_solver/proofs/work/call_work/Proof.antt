@@ -1,15 +1,13 @@
 -- `sdp_solver::work::call_work` meets its contract. The sign table is cut from the front of the slices that it was written to. Assumes nothing.
 use borrow.Author.Needs.{needs}
-use Prim.Native.Nat.{ℕ, suc, _+_, _≤_}
-use mathlib.Core.Path.{_≡_, sym, _∙_, ap}
+use Prim.Native.Nat.{_≤_}
+use mathlib.Core.Path.{sym}
 use native.Mathlib.Omega.{arith}
 use denote.Ref.{now}
-use lib.ListN.{length}
 use lib.Seq.{length-take-le}
 use Rattle.laws.specs.Lists.{elemZ}
 use Rattle.tables.specs.Limits.{mostSignEntries}
-use Rattle.tables.specs.Table.{Table, tableOf}
-use Rattle.prepared_table.specs.Work.{workRows, workCols, workValues, workStarts}
+use Rattle.tables.specs.Table.{tableOf}
 use Rattle.sign_table.proofs.Sizes.{hall-convertible}
 use Rattle.sign_table.proofs.Theorems.{house-sign-table}
 use Rattle.run_sweep.specs.Work.{workOf, callWork}
