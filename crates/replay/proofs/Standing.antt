@@ -1,0 +1,26 @@
+-- One more place of a comparison.
+use Prim.Native.Nat.{ℕ, _+_, _*_, _<_, _≤_}
+use mathlib.Core.Path.{_≡_, sym, subst}
+use mathlib.Core.Logic.{_⊎_, inl, inr}
+use native.Mathlib.Omega.{arith}
+use native.Mathlib.Numerals.{add-one}
+use native.Mathlib.Nat.{eq-or-lt-of-le, suc-mul}
+
+-- what holds below k and at k holds below k + 1
+pub more : (P : ℕ → Type 0) (k : ℕ) → ((j : ℕ) → j < k → P j) → P k → (j : ℕ) → j < k + 1 → P j
+more P k below here j l =
+    let up : j ≤ k = omega arith in
+    go (eq-or-lt-of-le up)
+  where
+    go : (j ≡ k) ⊎ (j < k) → P j
+    go (inl same) = subst P (sym same) here
+    go (inr less) = below j less
+
+-- the place of the next
+pub next-at : (from step k : ℕ) {at : ℕ} → at ≡ from + k * step → at + step ≡ from + (k + 1) * step
+next-at from step k e =
+    let s : (k + 1) * step ≡ k * step + step = rw add-one (suc-mul k step) in
+    omega arith
+
+pub once : (from k : ℕ) → from + k * 1 ≡ from + k
+once from k = omega arith
