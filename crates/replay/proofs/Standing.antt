@@ -2,9 +2,15 @@
 use Prim.Native.Nat.{ℕ, _+_, _*_, _<_, _≤_}
 use mathlib.Core.Path.{_≡_, sym, subst}
 use mathlib.Core.Logic.{_⊎_, inl, inr}
+use mathlib.Core.List.{List}
 use native.Mathlib.Omega.{arith}
 use native.Mathlib.Numerals.{add-one}
 use native.Mathlib.Nat.{eq-or-lt-of-le, suc-mul}
+use Rattle.table_calls.specs.declared.Eighths.{Eighths}
+use Rattle.table_calls.specs.declared.Eighths.the-variants as E
+use Rattle.table_calls.specs.declared.Bound.{Bound}
+use Rattle.table_calls.specs.declared.Bound.the-variants as B
+use Rattle.replay.specs.Same.{Expected, StandEighths, StandBound}
 
 -- what holds below k and at k holds below k + 1
 pub more : (P : ℕ → Type 0) (k : ℕ) → ((j : ℕ) → j < k → P j) → P k → (j : ℕ) → j < k + 1 → P j
@@ -24,3 +30,12 @@ next-at from step k e =
 
 pub once : (from k : ℕ) → from + k * 1 ≡ from + k
 once from k = omega arith
+
+-- what stands is a value or a refusal
+pub eighths-expected : (numbers : List ℕ) (place : ℕ) (answer : Eighths) → StandEighths numbers place answer → Expected numbers place
+eighths-expected numbers place (E.Value v) s = inl (s .0)
+eighths-expected numbers place (E.Refused number) s = inr (s .0)
+
+pub bound-expected : (numbers : List ℕ) (place : ℕ) (answer : Bound) → StandBound numbers place answer → Expected numbers place
+bound-expected numbers place (B.Value x) s = inl (s .0)
+bound-expected numbers place (B.Refused number) s = inr (s .0)

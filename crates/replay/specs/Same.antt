@@ -9,6 +9,10 @@ use lib.IntN.{ℤ}
 use lib.Ieee
 use lib.Ieee.{Float}
 use Rattle.laws.specs.Lists.{elem, elemZ}
+use Rattle.table_calls.specs.declared.Eighths.{Eighths}
+use Rattle.table_calls.specs.declared.Eighths.the-variants as E
+use Rattle.table_calls.specs.declared.Bound.{Bound}
+use Rattle.table_calls.specs.declared.Bound.the-variants as B
 use Rattle.ieee.specs.Floats.{bitsOf, bitsOfSigned, zero64, at}
 
 -- of the numbers from `from` on, every `step`th is the word of its place: w 0, .., w (count - 1)
@@ -42,3 +46,22 @@ StandEntries numbers place len rows cols values =
     × Stand numbers (place + 2) 3 len (elem rows)
     × Stand numbers (place + 3) 3 len (elem cols)
     × Stand numbers (place + 4) 3 len (λ k. bitsOfSigned (elemZ values k))
+
+-- 0 and a value in eighths, by its bits; or the refusal
+abbrev pub StandEighths : List ℕ → ℕ → Eighths → Type 0
+StandEighths numbers place (E.Value v) = (elem numbers place ≡ 0) × (elem numbers (place + 1) ≡ bitsOfSigned v)
+StandEighths numbers place (E.Refused number) = StandRefused numbers place number
+
+-- 0 and a bound; or the refusal
+abbrev pub StandBound : List ℕ → ℕ → Bound → Type 0
+StandBound numbers place (B.Value x) = (elem numbers place ≡ 0) × SameDouble (elem numbers (place + 1)) x
+StandBound numbers place (B.Refused number) = StandRefused numbers place number
+
+-- 0, the objective, the rounds, then the m signs
+abbrev pub StandSearch : List ℕ → ℕ → ℕ → List ℕ → ℤ → ℕ → Type 0
+StandSearch numbers place m signs objective rounds =
+    (elem numbers place ≡ 0)
+    × (elem numbers (place + 1) ≡ bitsOfSigned objective)
+    × (elem numbers (place + 2) ≡ rounds)
+    × (m ≤ length signs)
+    × Stand numbers (place + 3) 1 m (elem signs)

@@ -3,7 +3,7 @@ ghost use Prim.Native.Nat.{_≤_};
 ghost use mathlib.Core.Path.{_≡_};
 ghost use mathlib.Core.Bool.{true};
 ghost use Rattle.laws.specs.Lists.{elem};
-ghost use Rattle.replay.specs.Same.{Expected, StandRefused, StandEntries};
+ghost use Rattle.replay.specs.Same.{Expected, StandRefused, StandEntries, StandEighths, StandBound, StandSearch};
 ghost use Rattle.replay.specs.Names.{isTable};
 use super::text::Case;
 use super::typed::read_bytes;
@@ -76,7 +76,7 @@ fn accepted(numbers: &[u64], at: usize) -> bool
 
 fn same_eighths(numbers: &[u64], at: usize, answer: Eighths) -> bool
     requires { ⌜ at ≤ 65536 ⌝ }
-    ensures { λ r. ⌜ (r ≡ true → Expected (now (numbers .entry)) at) ⌝ }
+    ensures { λ r. ⌜ (r ≡ true → StandEighths (now (numbers .entry)) at answer) ⌝ }
 {
     match answer {
         Eighths::Value(v) => {
@@ -91,7 +91,7 @@ fn same_eighths(numbers: &[u64], at: usize, answer: Eighths) -> bool
 
 fn same_bound(numbers: &[u64], at: usize, answer: Bound) -> bool
     requires { ⌜ at ≤ 65536 ⌝ }
-    ensures { λ r. ⌜ (r ≡ true → Expected (now (numbers .entry)) at) ⌝ }
+    ensures { λ r. ⌜ (r ≡ true → StandBound (now (numbers .entry)) at answer) ⌝ }
 {
     match answer {
         Bound::Value(x) => {
@@ -303,7 +303,7 @@ fn same_search(
     rounds: u64,
 ) -> bool
     requires { ⌜ at ≤ 16384 ⌝ }
-    ensures { λ r. ⌜ (r ≡ true → Expected (now (numbers .entry)) at) ⌝ }
+    ensures { λ r. ⌜ (r ≡ true → StandSearch (now (numbers .entry)) at m (now (signs .entry)) objective rounds) ⌝ }
 {
     if 256 < m {
         return false;
