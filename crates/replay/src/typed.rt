@@ -1,10 +1,10 @@
 // The numbers of a case as the functions take them, and their results compared with what is expected.
-ghost use Prim.Native.Nat.{_≤_};
+ghost use Prim.Native.Nat.{_+_, _*_, _%_, _≤_};
 ghost use mathlib.Core.Path.{_≡_};
 ghost use mathlib.Core.Bool.{true};
 ghost use lib.ListN.{length};
-ghost use Rattle.laws.specs.Lists.{elem, elemZ};
-ghost use Rattle.ieee.specs.Floats.{bitsOfSigned};
+ghost use Rattle.laws.specs.Lists.{elem, elemZ, fill};
+ghost use Rattle.ieee.specs.Floats.{bitsOfSigned, signedOf, doubleOf};
 ghost use Rattle.replay.specs.Same.{Stand, SameDouble, StandDoubles};
 use ieee::bits::bits_of;
 use ieee::bits::bits_of_signed;
@@ -28,7 +28,7 @@ pub fn small(x: u64) -> usize
 // Every `step`th number from `from` on, as indices.
 pub fn read_indices(numbers: &[u64], from: usize, step: usize, count: usize, out: &mut [u16])
     requires { ⌜ (from ≤ 65536) × (step ≤ 4) × (count ≤ 16384) ⌝ }
-    ensures { λ _. ⌜ length (now (out .exit)) ≡ length (now (out .entry)) ⌝ }
+    ensures { λ _. ⌜ (length (now (out .exit)) ≡ length (now (out .entry))) × (now (out .exit) ≡ fill (λ k. elem (now (numbers .entry)) (from + k * step) % 65536) count (now (out .entry))) ⌝ }
 {
     let mut k = 0;
     let mut at = from;
@@ -44,7 +44,7 @@ pub fn read_indices(numbers: &[u64], from: usize, step: usize, count: usize, out
 
 pub fn read_signed(numbers: &[u64], from: usize, step: usize, count: usize, out: &mut [i64])
     requires { ⌜ (from ≤ 65536) × (step ≤ 4) × (count ≤ 16384) ⌝ }
-    ensures { λ _. ⌜ length (now (out .exit)) ≡ length (now (out .entry)) ⌝ }
+    ensures { λ _. ⌜ (length (now (out .exit)) ≡ length (now (out .entry))) × (now (out .exit) ≡ fill (λ k. signedOf (elem (now (numbers .entry)) (from + k * step))) count (now (out .entry))) ⌝ }
 {
     let mut k = 0;
     let mut at = from;
@@ -60,7 +60,7 @@ pub fn read_signed(numbers: &[u64], from: usize, step: usize, count: usize, out:
 
 pub fn read_bytes(numbers: &[u64], from: usize, count: usize, out: &mut [u8])
     requires { ⌜ (from ≤ 65536) × (count ≤ 16384) ⌝ }
-    ensures { λ _. ⌜ length (now (out .exit)) ≡ length (now (out .entry)) ⌝ }
+    ensures { λ _. ⌜ (length (now (out .exit)) ≡ length (now (out .entry))) × (now (out .exit) ≡ fill (λ k. elem (now (numbers .entry)) (from + k) % 256) count (now (out .entry))) ⌝ }
 {
     let mut k = 0;
     while k < count {
@@ -74,7 +74,7 @@ pub fn read_bytes(numbers: &[u64], from: usize, count: usize, out: &mut [u8])
 
 pub fn read_doubles(numbers: &[u64], from: usize, count: usize, out: &mut [f64])
     requires { ⌜ (from ≤ 65536) × (count ≤ 16384) ⌝ }
-    ensures { λ _. ⌜ length (now (out .exit)) ≡ length (now (out .entry)) ⌝ }
+    ensures { λ _. ⌜ (length (now (out .exit)) ≡ length (now (out .entry))) × (now (out .exit) ≡ fill (λ k. doubleOf (elem (now (numbers .entry)) (from + k))) count (now (out .entry))) ⌝ }
 {
     let mut k = 0;
     while k < count {
