@@ -154,7 +154,9 @@ fn run_piece(buffer: &mut [u8], end: usize, numbers: &mut [u64], t: Tally) -> Pr
 }
 
 // Runs the list of standard input, read in pieces of the buffer's length, 1,000 at most.
-pub fn run_list(buffer: &mut [u8], numbers: &mut [u64]) {
+pub fn run_list(buffer: &mut [u8], numbers: &mut [u64])
+    ensures { λ _. ⌜ (length (now (buffer .exit)) ≡ length (now (buffer .entry))) × (length (now (numbers .exit)) ≡ length (now (numbers .entry))) ⌝ }
+{
     let mut p = Progress {
         tally: Tally {
             name: 0,

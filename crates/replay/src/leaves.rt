@@ -1,4 +1,8 @@
 // Functions of one number.
+ghost use mathlib.Core.Path.{_≡_};
+ghost use mathlib.Core.Bool.{true};
+ghost use Rattle.laws.specs.Lists.{elem};
+ghost use Rattle.replay.specs.Names.{leafValue};
 use super::text::Case;
 
 // The names of the groups, as their bytes.
@@ -11,7 +15,9 @@ const BITS: u64 = 0x62697473;
 const RANK: u64 = 0x72616e6b;
 
 // The value of the function `name` at x.
-fn value_of(name: u64, x: u64) -> u64 {
+fn value_of(name: u64, x: u64) -> u64
+    ensures { λ r. ⌜ r ≡ leafValue name x ⌝ }
+{
     if name == SQRT {
         return ieee::bits::bits_of(ieee::sqrt(ieee::bits::double_of(x)));
     }
@@ -28,7 +34,9 @@ fn value_of(name: u64, x: u64) -> u64 {
 }
 
 // Whether the case's function has the expected value.
-pub fn same_leaf(c: Case, numbers: &[u64]) -> bool {
+pub fn same_leaf(c: Case, numbers: &[u64]) -> bool
+    ensures { λ r. ⌜ (r ≡ true → (c .given ≡ 1) × (c .count ≡ 2) × (leafValue (c .name) (elem (now (numbers .entry)) 0) ≡ elem (now (numbers .entry)) 1)) ⌝ }
+{
     if numbers.len() < 2 {
         return false;
     }

@@ -1,8 +1,11 @@
 // Cases on the numbers of the reduced pair, with slices of any length lent. A slice is its length and its numbers; where a function only writes,
 // its length.
-ghost use Prim.Native.Nat.{_≤_};
+ghost use Prim.Native.Nat.{_≤_, _<_};
 ghost use mathlib.Core.Path.{_≡_};
+ghost use mathlib.Core.Bool.{true};
 ghost use lib.ListN.{length};
+ghost use Rattle.laws.specs.Lists.{elem};
+ghost use Rattle.replay.specs.Names.{isLent};
 use super::reduced_cases::front;
 use super::reduced_cases::front_doubles;
 use super::text::Case;
@@ -19,7 +22,9 @@ const SUBMATRIX_LENT: u64 = 0x7375626c656e74;
 
 const LIFT_LENT: u64 = 0x6c6966746c656e74;
 
-pub fn is_lent(name: u64) -> bool {
+pub fn is_lent(name: u64) -> bool
+    ensures { λ r. ⌜ r ≡ isLent name ⌝ }
+{
     if name == SUBMATRIX_LENT {
         return true;
     }
@@ -159,7 +164,9 @@ fn lift_lent(numbers: &[u64]) -> u8 {
     )
 }
 
-pub fn same_lent(c: Case, numbers: &[u64]) -> bool {
+pub fn same_lent(c: Case, numbers: &[u64]) -> bool
+    ensures { λ r. ⌜ (r ≡ true → elem (now (numbers .entry)) (c .given) < 256) ⌝ }
+{
     if c.name == SUBMATRIX_LENT {
         return submatrix_lent(numbers) as u64 == word(numbers, c.given);
     }

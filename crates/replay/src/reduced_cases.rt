@@ -1,4 +1,9 @@
 // Cases on the reduced pair. A slice is its length and its numbers.
+ghost use mathlib.Core.Path.{_≡_};
+ghost use mathlib.Core.Bool.{true};
+ghost use lib.ListN.{take};
+ghost use Rattle.replay.specs.Same.{Expected};
+ghost use Rattle.replay.specs.Names.{isReduced};
 use super::table_cases::refused;
 use super::table_cases::same_entries;
 use super::text::Case;
@@ -17,7 +22,9 @@ const SUBMATRIX: u64 = 0x7375626d6174;
 
 const LIFT: u64 = 0x6c696674;
 
-pub fn is_reduced(name: u64) -> bool {
+pub fn is_reduced(name: u64) -> bool
+    ensures { λ r. ⌜ r ≡ isReduced name ⌝ }
+{
     if name == SUBMATRIX {
         return true;
     }
@@ -25,14 +32,18 @@ pub fn is_reduced(name: u64) -> bool {
 }
 
 // The first n indices.
-pub fn front<'a>(xs: &'a [u16], n: usize) -> &'a [u16] {
+pub fn front<'a>(xs: &'a [u16], n: usize) -> &'a [u16]
+    ensures { λ r. ⌜ now r ≡ take n (now (xs .entry)) ⌝ }
+{
     if n < xs.len() {
         return &xs[0..n];
     }
     xs
 }
 
-pub fn front_doubles<'a>(xs: &'a [f64], n: usize) -> &'a [f64] {
+pub fn front_doubles<'a>(xs: &'a [f64], n: usize) -> &'a [f64]
+    ensures { λ r. ⌜ now r ≡ take n (now (xs .entry)) ⌝ }
+{
     if n < xs.len() {
         return &xs[0..n];
     }
@@ -50,7 +61,9 @@ fn submatrix_on(
     values: &[i64],
     map: &[u16],
     fixed: &[u16],
-) -> bool {
+) -> bool
+    ensures { λ r. ⌜ (r ≡ true → Expected (now (numbers .entry)) (c .given)) ⌝ }
+{
     let mut to_rows = [0u16; 4608];
     let mut to_cols = [0u16; 4608];
     let mut to_values = [0i64; 4608];
@@ -76,7 +89,9 @@ fn submatrix_on(
     }
 }
 
-fn submatrix_case(c: Case, numbers: &[u64]) -> bool {
+fn submatrix_case(c: Case, numbers: &[u64]) -> bool
+    ensures { λ r. ⌜ (r ≡ true → Expected (now (numbers .entry)) (c .given)) ⌝ }
+{
     let mut rows = [0u16; 4608];
     let mut cols = [0u16; 4608];
     let mut values = [0i64; 4608];
@@ -115,7 +130,9 @@ fn lift_on(
     fixed: &[u16],
     fixed_values: &[f64],
     solution: &[f64],
-) -> bool {
+) -> bool
+    ensures { λ r. ⌜ (r ≡ true → Expected (now (numbers .entry)) (c .given)) ⌝ }
+{
     let mut lifted = [0.0f64; 1536];
     let number = lift_solution(size, map, fixed, fixed_values, solution, &mut lifted);
     let at = c.given;
@@ -132,7 +149,9 @@ fn lift_on(
 }
 
 // Size, map, fixed indices, fixed values, solution.
-fn lift_case(c: Case, numbers: &[u64]) -> bool {
+fn lift_case(c: Case, numbers: &[u64]) -> bool
+    ensures { λ r. ⌜ (r ≡ true → Expected (now (numbers .entry)) (c .given)) ⌝ }
+{
     let mut map = [0u16; 1536];
     let mut fixed = [0u16; 1536];
     let mut fixed_values = [0.0f64; 1536];
@@ -162,7 +181,9 @@ fn lift_case(c: Case, numbers: &[u64]) -> bool {
     )
 }
 
-pub fn same_reduced(c: Case, numbers: &[u64]) -> bool {
+pub fn same_reduced(c: Case, numbers: &[u64]) -> bool
+    ensures { λ r. ⌜ (r ≡ true → Expected (now (numbers .entry)) (c .given)) ⌝ }
+{
     if c.name == SUBMATRIX {
         return submatrix_case(c, numbers);
     }

@@ -1,5 +1,10 @@
 // Cases on a table: size, entry count, then row, column and value of each entry.
 ghost use Prim.Native.Nat.{_≤_};
+ghost use mathlib.Core.Path.{_≡_};
+ghost use mathlib.Core.Bool.{true};
+ghost use Rattle.laws.specs.Lists.{elem};
+ghost use Rattle.replay.specs.Same.{Expected, StandRefused, StandEntries, StandEighths, StandBound, StandSearch};
+ghost use Rattle.replay.specs.Names.{isTable};
 use super::text::Case;
 use super::typed::read_bytes;
 use super::typed::read_indices;
@@ -30,7 +35,9 @@ const TABLE: u64 = 0x7461626c65;
 const BEAM: u64 = 0x6265616d;
 
 // Whether a name is one of a table's groups.
-pub fn is_table(name: u64) -> bool {
+pub fn is_table(name: u64) -> bool
+    ensures { λ r. ⌜ r ≡ isTable name ⌝ }
+{
     if name == OBJECTIVE {
         return true;
     }
@@ -52,6 +59,7 @@ pub fn is_table(name: u64) -> bool {
 // A refusal is expected as FF and its number, a value as 0 and the value.
 pub fn refused(numbers: &[u64], at: usize, number: u8) -> bool
     requires { ⌜ at ≤ 65536 ⌝ }
+    ensures { λ r. ⌜ (r ≡ true → StandRefused (now (numbers .entry)) at number) ⌝ }
 {
     if word(numbers, at) != 255 {
         return false;
@@ -60,12 +68,15 @@ pub fn refused(numbers: &[u64], at: usize, number: u8) -> bool
 }
 
 // Whether a value is expected.
-fn accepted(numbers: &[u64], at: usize) -> bool {
+fn accepted(numbers: &[u64], at: usize) -> bool
+    ensures { λ r. ⌜ (r ≡ true → elem (now (numbers .entry)) at ≡ 0) ⌝ }
+{
     word(numbers, at) == 0
 }
 
 fn same_eighths(numbers: &[u64], at: usize, answer: Eighths) -> bool
     requires { ⌜ at ≤ 65536 ⌝ }
+    ensures { λ r. ⌜ (r ≡ true → StandEighths (now (numbers .entry)) at answer) ⌝ }
 {
     match answer {
         Eighths::Value(v) => {
@@ -80,6 +91,7 @@ fn same_eighths(numbers: &[u64], at: usize, answer: Eighths) -> bool
 
 fn same_bound(numbers: &[u64], at: usize, answer: Bound) -> bool
     requires { ⌜ at ≤ 65536 ⌝ }
+    ensures { λ r. ⌜ (r ≡ true → StandBound (now (numbers .entry)) at answer) ⌝ }
 {
     match answer {
         Bound::Value(x) => {
@@ -103,6 +115,7 @@ fn objective_case(
     values: &[i64],
 ) -> bool
     requires { ⌜ count ≤ 16384 ⌝ }
+    ensures { λ r. ⌜ (r ≡ true → Expected (now (numbers .entry)) (c .given)) ⌝ }
 {
     let mut signs = [0u8; 256];
     read_bytes(
@@ -133,6 +146,7 @@ fn cost_case(
     values: &[i64],
 ) -> bool
     requires { ⌜ count ≤ 16384 ⌝ }
+    ensures { λ r. ⌜ (r ≡ true → Expected (now (numbers .entry)) (c .given)) ⌝ }
 {
     let mut costs = [0i64; 256];
     let mut b = [0u8; 256];
@@ -165,6 +179,7 @@ fn table_case(
     values: &[i64],
 ) -> bool
     requires { ⌜ count ≤ 16384 ⌝ }
+    ensures { λ r. ⌜ (r ≡ true → Expected (now (numbers .entry)) (c .given)) ⌝ }
 {
     let mut costs = [0i64; 256];
     read_signed(
@@ -208,6 +223,7 @@ pub fn same_entries(
     values: &[i64],
 ) -> bool
     requires { ⌜ at ≤ 16384 ⌝ }
+    ensures { λ r. ⌜ (r ≡ true → StandEntries (now (numbers .entry)) at len (now (rows .entry)) (now (cols .entry)) (now (values .entry))) ⌝ }
 {
     if 16384 < len {
         return false;
@@ -238,6 +254,7 @@ fn beam_case(
     values: &[i64],
 ) -> bool
     requires { ⌜ count ≤ 16384 ⌝ }
+    ensures { λ r. ⌜ (r ≡ true → Expected (now (numbers .entry)) (c .given)) ⌝ }
 {
     let mut start = [0u8; 256];
     let mut out = [0u8; 256];
@@ -286,6 +303,7 @@ fn same_search(
     rounds: u64,
 ) -> bool
     requires { ⌜ at ≤ 16384 ⌝ }
+    ensures { λ r. ⌜ (r ≡ true → StandSearch (now (numbers .entry)) at m (now (signs .entry)) objective rounds) ⌝ }
 {
     if 256 < m {
         return false;
@@ -303,7 +321,9 @@ fn same_search(
 }
 
 // Whether the case's call answers what is expected.
-pub fn same_table(c: Case, numbers: &[u64]) -> bool {
+pub fn same_table(c: Case, numbers: &[u64]) -> bool
+    ensures { λ r. ⌜ (r ≡ true → Expected (now (numbers .entry)) (c .given)) ⌝ }
+{
     let mut rows = [0u16; 4608];
     let mut cols = [0u16; 4608];
     let mut values = [0i64; 4608];
@@ -325,6 +345,7 @@ fn on_table(
     values: &[i64],
 ) -> bool
     requires { ⌜ count ≤ 16384 ⌝ }
+    ensures { λ r. ⌜ (r ≡ true → Expected (now (numbers .entry)) (c .given)) ⌝ }
 {
     if c.name == OBJECTIVE {
         return objective_case(c, numbers, size, count, rows, cols, values);
@@ -349,7 +370,9 @@ fn bound_case(
     rows: &[u16],
     cols: &[u16],
     values: &[i64],
-) -> bool {
+) -> bool
+    ensures { λ r. ⌜ (r ≡ true → Expected (now (numbers .entry)) (c .given)) ⌝ }
+{
     let at = c.given;
     if 65536 < at {
         return false;

@@ -137,7 +137,9 @@ fn read_word(line: &[u8], numbers: &mut [u64], c: Case) -> Case
 }
 
 // The case of a line; its numbers go to `numbers`.
-pub fn read_case(line: &[u8], numbers: &mut [u64]) -> Case {
+pub fn read_case(line: &[u8], numbers: &mut [u64]) -> Case
+    ensures { λ r. ⌜ (r .at ≡ length (now (line .entry))) × (length (now (numbers .exit)) ≡ length (now (numbers .entry))) ⌝ }
+{
     let mut c = Case {
         name: 0,
         given: 0,

@@ -1,14 +1,20 @@
 // The numbers of a case as the functions take them, and their results compared with what is expected.
-ghost use Prim.Native.Nat.{_≤_};
+ghost use Prim.Native.Nat.{_+_, _*_, _%_, _≤_};
 ghost use mathlib.Core.Path.{_≡_};
+ghost use mathlib.Core.Bool.{true};
 ghost use lib.ListN.{length};
+ghost use Rattle.laws.specs.Lists.{elem, elemZ, fill};
+ghost use Rattle.ieee.specs.Floats.{bitsOfSigned, signedOf, doubleOf};
+ghost use Rattle.replay.specs.Same.{Stand, SameDouble, StandDoubles};
 use ieee::bits::bits_of;
 use ieee::bits::bits_of_signed;
 use ieee::bits::double_of;
 use ieee::bits::signed_of;
 
 // The number at `at`, 0 past the end.
-pub fn word(numbers: &[u64], at: usize) -> u64 {
+pub fn word(numbers: &[u64], at: usize) -> u64
+    ensures { λ r. ⌜ r ≡ elem (now (numbers .entry)) at ⌝ }
+{
     if at < numbers.len() { numbers[at] } else { 0 }
 }
 
@@ -22,7 +28,7 @@ pub fn small(x: u64) -> usize
 // Every `step`th number from `from` on, as indices.
 pub fn read_indices(numbers: &[u64], from: usize, step: usize, count: usize, out: &mut [u16])
     requires { ⌜ (from ≤ 65536) × (step ≤ 4) × (count ≤ 16384) ⌝ }
-    ensures { λ _. ⌜ length (now (out .exit)) ≡ length (now (out .entry)) ⌝ }
+    ensures { λ _. ⌜ (length (now (out .exit)) ≡ length (now (out .entry))) × (now (out .exit) ≡ fill (λ k. elem (now (numbers .entry)) (from + k * step) % 65536) count (now (out .entry))) ⌝ }
 {
     let mut k = 0;
     let mut at = from;
@@ -38,7 +44,7 @@ pub fn read_indices(numbers: &[u64], from: usize, step: usize, count: usize, out
 
 pub fn read_signed(numbers: &[u64], from: usize, step: usize, count: usize, out: &mut [i64])
     requires { ⌜ (from ≤ 65536) × (step ≤ 4) × (count ≤ 16384) ⌝ }
-    ensures { λ _. ⌜ length (now (out .exit)) ≡ length (now (out .entry)) ⌝ }
+    ensures { λ _. ⌜ (length (now (out .exit)) ≡ length (now (out .entry))) × (now (out .exit) ≡ fill (λ k. signedOf (elem (now (numbers .entry)) (from + k * step))) count (now (out .entry))) ⌝ }
 {
     let mut k = 0;
     let mut at = from;
@@ -54,7 +60,7 @@ pub fn read_signed(numbers: &[u64], from: usize, step: usize, count: usize, out:
 
 pub fn read_bytes(numbers: &[u64], from: usize, count: usize, out: &mut [u8])
     requires { ⌜ (from ≤ 65536) × (count ≤ 16384) ⌝ }
-    ensures { λ _. ⌜ length (now (out .exit)) ≡ length (now (out .entry)) ⌝ }
+    ensures { λ _. ⌜ (length (now (out .exit)) ≡ length (now (out .entry))) × (now (out .exit) ≡ fill (λ k. elem (now (numbers .entry)) (from + k) % 256) count (now (out .entry))) ⌝ }
 {
     let mut k = 0;
     while k < count {
@@ -68,7 +74,7 @@ pub fn read_bytes(numbers: &[u64], from: usize, count: usize, out: &mut [u8])
 
 pub fn read_doubles(numbers: &[u64], from: usize, count: usize, out: &mut [f64])
     requires { ⌜ (from ≤ 65536) × (count ≤ 16384) ⌝ }
-    ensures { λ _. ⌜ length (now (out .exit)) ≡ length (now (out .entry)) ⌝ }
+    ensures { λ _. ⌜ (length (now (out .exit)) ≡ length (now (out .entry))) × (now (out .exit) ≡ fill (λ k. doubleOf (elem (now (numbers .entry)) (from + k))) count (now (out .entry))) ⌝ }
 {
     let mut k = 0;
     while k < count {
@@ -95,6 +101,7 @@ fn wide_byte(x: u8) -> u64
 // Whether the first `count` of xs are every `step`th number from `from` on.
 pub fn same_indices(numbers: &[u64], from: usize, step: usize, count: usize, xs: &[u16]) -> bool
     requires { ⌜ (from ≤ 65536) × (step ≤ 4) × (count ≤ 16384) ⌝ }
+    ensures { λ r. ⌜ (r ≡ true → (count ≤ length (now (xs .entry))) × Stand (now (numbers .entry)) from step count (elem (now (xs .entry)))) ⌝ }
 {
     let mut k = 0;
     let mut at = from;
@@ -113,6 +120,7 @@ pub fn same_indices(numbers: &[u64], from: usize, step: usize, count: usize, xs:
 
 pub fn same_signed(numbers: &[u64], from: usize, step: usize, count: usize, xs: &[i64]) -> bool
     requires { ⌜ (from ≤ 65536) × (step ≤ 4) × (count ≤ 16384) ⌝ }
+    ensures { λ r. ⌜ (r ≡ true → (count ≤ length (now (xs .entry))) × Stand (now (numbers .entry)) from step count (λ k. bitsOfSigned (elemZ (now (xs .entry)) k))) ⌝ }
 {
     let mut k = 0;
     let mut at = from;
@@ -131,6 +139,7 @@ pub fn same_signed(numbers: &[u64], from: usize, step: usize, count: usize, xs: 
 
 pub fn same_bytes(numbers: &[u64], from: usize, count: usize, xs: &[u8]) -> bool
     requires { ⌜ (from ≤ 65536) × (count ≤ 16384) ⌝ }
+    ensures { λ r. ⌜ (r ≡ true → (count ≤ length (now (xs .entry))) × Stand (now (numbers .entry)) from 1 count (elem (now (xs .entry)))) ⌝ }
 {
     let mut k = 0;
     while k < count {
@@ -146,7 +155,9 @@ pub fn same_bytes(numbers: &[u64], from: usize, count: usize, xs: &[u8]) -> bool
 }
 
 // Doubles compare by their bits, zeros of either sign as equal; every NaN has the same bits.
-pub fn same_double(expected: u64, x: f64) -> bool {
+pub fn same_double(expected: u64, x: f64) -> bool
+    ensures { λ r. ⌜ (r ≡ true → SameDouble expected x) ⌝ }
+{
     if bits_of(x) == expected {
         return true;
     }
@@ -158,6 +169,7 @@ pub fn same_double(expected: u64, x: f64) -> bool {
 
 pub fn same_doubles(numbers: &[u64], from: usize, count: usize, xs: &[f64]) -> bool
     requires { ⌜ (from ≤ 65536) × (count ≤ 16384) ⌝ }
+    ensures { λ r. ⌜ (r ≡ true → (count ≤ length (now (xs .entry))) × StandDoubles (now (numbers .entry)) from count (now (xs .entry))) ⌝ }
 {
     let mut k = 0;
     while k < count {

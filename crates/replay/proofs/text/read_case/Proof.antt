@@ -1,6 +1,7 @@
 use Prim.Native.Nat.{_≤_, _-_}
 use mathlib.Core.Path.{_≡_}
 use lib.ListN.{length}
+use native.Mathlib.Omega.{arith}
 use borrow.Author.Needs.{needs}
 use Rattle.replay.proofs.text.read_case.Statement.{statement}
 use Rattle.replay.proofs.text.read_case.Tie as tie
@@ -10,6 +11,9 @@ Inv-loop line numbers₀ c₀ numbers c = (c .at ≤ length line) × (length num
 
 abbrev μ-loop : tie.MeasureT-loop
 μ-loop line numbers₀ c₀ numbers c = length line - c .at
+
+returns : tie.Need-returns Inv-loop μ-loop
+returns c = (omega arith, c .before .before .loop .inv .1)
 
 pub read-case-spec : {M : Type 1} → statement M
 read-case-spec =
@@ -22,4 +26,4 @@ read-case-spec =
     (λ c. search needs)
     (λ c. search needs)
     (λ c. search needs)
-    (λ c. search needs))
+    returns)

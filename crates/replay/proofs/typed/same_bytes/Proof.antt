@@ -1,13 +1,34 @@
+use Prim.Native.Nat.{ℕ, _≤_, _-_, _+_, _*_}
+use mathlib.Core.Path.{_≡_, sym, ap, _∙_}
+use lib.ListN.{length}
+use native.Mathlib.Omega.{arith}
 use borrow.Author.Needs.{needs}
-use Prim.Native.Nat.{_≤_, _-_}
+use Rattle.laws.specs.Lists.{elem}
+use Rattle.replay.specs.Same.{Stand}
+use Rattle.replay.proofs.Standing.{more, once}
 use Rattle.replay.proofs.typed.same_bytes.Statement.{statement}
 use Rattle.replay.proofs.typed.same_bytes.Tie as tie
 
 abbrev Inv-loop : tie.InvT-loop
-Inv-loop numbers from count xs k₀ k = k ≤ count
+Inv-loop numbers from count xs k₀ k = (k ≤ count) × (k ≤ length xs) × Stand numbers from 1 k (elem xs)
 
 abbrev μ-loop : tie.MeasureT-loop
 μ-loop numbers from count xs k₀ k = count - k
+
+loop-holds : tie.Need-loop-holds Inv-loop μ-loop
+loop-holds c = (omega arith, omega arith, λ j l. absurd (omega arith))
+
+returns : tie.Need-returns Inv-loop μ-loop
+returns c = λ h. absurd (let z : _≡_ {A = ℕ} 0 1 = cc in omega arith)
+
+returns-2 : tie.Need-returns-2 Inv-loop μ-loop
+returns-2 c = λ h. absurd (let z : _≡_ {A = ℕ} 0 1 = cc in omega arith)
+
+loop-again : tie.Need-loop-again Inv-loop μ-loop
+loop-again c = (omega arith, omega arith, more _ _ (c .before .before .before .before .before .before .loop .inv .2) (ap (elem (c .before .before .before .before .before .before .before .before .before .args .numbers .now)) (once _ _) ∙ sym (c .before .before .before .word .ensures) ∙ c .if2 .left ∙ c .before .wide-byte .ensures))
+
+returns-3 : tie.Need-returns-3 Inv-loop μ-loop
+returns-3 c = λ h. (omega arith, λ j l. c .before .loop .inv .2 j (omega arith))
 
 pub same-bytes-spec : {M : Type 1} → statement M
 same-bytes-spec =
@@ -15,14 +36,14 @@ same-bytes-spec =
     (tie.spec
     Inv-loop
     μ-loop
-    (λ c. search needs)
-    (λ c. search needs)
-    (λ c. search needs)
-    (λ c κs. search needs)
+    loop-holds
+    returns
     (λ c. search needs)
     (λ c κs. search needs)
     (λ c. search needs)
+    (λ c κs. search needs)
+    returns-2
     (λ c. search needs)
     (λ c. search needs)
-    (λ c. search needs)
-    (λ c. search needs))
+    loop-again
+    returns-3)
