@@ -13,8 +13,8 @@ if [ "${1:-}" != --full ]; then
 fi
 oracle=target/oracle/release/oracle
 if [ ! -x "$oracle" ]; then
-    echo "no oracle is built (oracle/README.md): passed over"
-    exit 0
+    echo "no oracle is built (oracle/README.md): not run"
+    exit 77
 fi
 set -o pipefail
 {

@@ -7,8 +7,8 @@ here=$(cd "$(dirname "$0")" && pwd)
 repository=$(dirname "$here")
 source=${MIXINGCUT_SRC:-$repository/../shared/docs/src}
 if [ ! -d "$source" ]; then
-    echo "oracle: skipped, the folder with MixingCut's six files is absent: $source"
-    exit 0
+    echo "oracle: not run, the folder with MixingCut's six files is absent: $source"
+    exit 77
 fi
 
 export CARGO_TARGET_DIR="${CARGO_TARGET_DIR:-$repository/target/oracle}"

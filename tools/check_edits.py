@@ -1,9 +1,10 @@
 #!/usr/bin/env python3
-"""Says why each must-fail edit was refused, from the logs that `rt ci` or `rt must-fail` leaves under target/must-fail.
+"""Says why each edit of crates/*/must-fail and crates/*/edits was refused, from the logs that `rt ci` and tools/try_edits.py leave under
+target/must-fail.
 
   tools/check_edits.py [--list]
 
-An edit counts only where a fact fails: something that the edited crate has to prove and that doesn't hold. Where the proof as it stands no longer
+An edit counts only where a fact fails: something that the edited crate has to prove and that doesn't hold (controls, which must be proved, aside). Where the proof as it stands no longer
 fits the code (a step that has another name now, a name that isn't there), the refusal shows nothing. The exit status is 0 where every edit of the
 repository has a log and every log's first complaint is a fact that fails. --list prints the complaints.
 """
@@ -43,12 +44,14 @@ def complaint(log):
 
 def main():
     tally, bad, listed = collections.Counter(), [], "--list" in sys.argv[1:]
-    edits = sorted(glob.glob(os.path.join(TOP, "crates", "*", "must-fail", "*.edit")))
-    for edit in edits:
-        crate, label = edit.split(os.sep)[-3], os.path.basename(edit)[: -len(".edit")]
+    found = [edit for folder in ("must-fail", "edits") for edit in glob.glob(os.path.join(TOP, "crates", "*", folder, "*.edit"))]
+    named = sorted((edit.split(os.sep)[-3], os.path.basename(edit)[: -len(".edit")]) for edit in found)
+    edits = [(crate, label) for crate, label in named if not label.startswith("control_")]
+    bad += [f"{crate}/{label}: stands in must-fail and in edits" for (crate, label), count in collections.Counter(named).items() if count > 1]
+    for crate, label in edits:
         path = os.path.join(TOP, "target", "must-fail", crate, label, ".log")
         if not os.path.exists(path):
-            bad.append(f"{crate}/{label}: no log; run rt ci first")
+            bad.append(f"{crate}/{label}: no log; run rt ci and tools/try_edits.py first")
             continue
         said = complaint(open(path, errors="replace").read())
         why = next((kind for kind, words in FACTS.items() if re.search(words, said)), None)

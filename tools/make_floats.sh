@@ -5,8 +5,8 @@ set -eu
 cd "$(dirname "$0")/.."
 oracle=target/oracle/release/oracle
 if [ "${1:-}" = --check ] && [ ! -x "$oracle" ]; then
-    echo "no oracle is built (oracle/README.md): passed over"
-    exit 0
+    echo "no oracle is built (oracle/README.md): not run"
+    exit 77
 fi
 made=$(mktemp)
 trap 'rm -f "$made"' EXIT

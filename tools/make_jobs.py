@@ -291,8 +291,8 @@ def stored():
 def main():
     check = "--check" in sys.argv
     if check and not os.path.exists(PROGRAM):
-        print("no oracle is built (oracle/README.md): passed over")
-        return
+        print("no oracle is built (oracle/README.md): not run")
+        sys.exit(77)
     text, counts = stored()
     if not check:
         open(LIST, "w").write(text)

@@ -312,8 +312,8 @@ def stored():
 
 def main():
     if "--check" in sys.argv and not os.path.exists(PROGRAM):
-        print("no oracle is built (oracle/README.md): passed over")
-        return
+        print("no oracle is built (oracle/README.md): not run")
+        sys.exit(77)
     for name, text in stored().items():
         path = os.path.join(TOP, "crates", "replay", name)
         if "--check" not in sys.argv:

@@ -507,8 +507,8 @@ def stored():
 def main():
     arguments = sys.argv[1:]
     if arguments == ["--check"] and not os.access(PROGRAM, os.X_OK):
-        print("no oracle is built (oracle/README.md): passed over")
-        return
+        print("no oracle is built (oracle/README.md): not run")
+        sys.exit(77)
     if arguments[:1] == ["--random"]:
         count, seed = map(int, arguments[1:])
         rng = random.Random(f"random runs {seed}")
