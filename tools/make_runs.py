@@ -28,6 +28,9 @@ WORKSPACE = 16384
 LIMIT = 2**40
 ORDER = [31, 32, 33, 13, 14, 15, 16, 17, 18, 19]
 NAN, INF, MINUS_INF = 0x7FF8000000000000, 0x7FF0000000000000, 0xFFF0000000000000
+# Quiet and signalling, of both signs, with several payloads.
+NANS = [0x7FF0000000000001, 0xFFF8000000000000, 0x7FF8DEADBEEF0001, 0xFFF0000000000002, 0x7FF8000000000000, 0x7FF4000000000000, 0xFFFFFFFFFFFFFFFF,
+        0xFFF7FFFFFFFFFFFF, 0x7FFFFFFFFFFFFFFF]
 bits = gen.bits
 
 
@@ -255,38 +258,58 @@ def apart(a, b):
     return not (changed[0] & changed[1])
 
 
-def faulty(call, kinds):
-    singles = [(f,) for f in kinds]
-    for faults in singles + [p for p in itertools.combinations(kinds, 2) if apart(*p)]:
-        yield first_number(faults), at_once(call, faults)
+def single(kinds):
+    return [(f,) for f in kinds]
+
+
+def in_pairs(kinds):
+    return single(kinds) + [p for p in itertools.combinations(kinds, 2) if apart(*p)]
+
+
+def open_faults(t, settings, faults):
+    """Lines, each with the number that 01 gives it."""
+    return [(open_line(s, s), first_number(f)) for f in faults for s in [at_once({**t, **settings}, f)]]
+
+
+def record_faults(call, record, faults, line):
+    """Lines, each with the number that 01 gives it, or None where it sets the record."""
+    standing = record_line(record)
+    lines = [(standing, None)]
+    for f in faults:
+        s = at_once({**call, **record}, f)
+        if record_line(s) != standing:
+            standing = record_line(s)
+            lines.append((standing, None))
+        lines.append((line(s), first_number(f)))
+    return lines + [(record_line(record), None)]
+
+
+def faulty_sweep(s):
+    return sweep_line(s, 2, s["lent"])
+
+
+def faulty_finish(s):
+    return finish_line(s, {**s, "factor": s["lent"]})
 
 
 def fault_runs(rng):
-    """Lists of lines, each with the number that 01 gives it, or None."""
     t, settings, record = base(rng)
-    good = open_line(t, settings)
-    lines = [("new", None), (good, 0)]
-    for number, s in faulty({**t, **settings}, OPEN_FAULTS):
-        lines.append((open_line(s, s), number))
-    yield lines + [(good, 0)]
-    lines = [("new", None), (record_line(record), None)]
-    standing = lines[-1][0]
-    for number, s in faulty({**t, **record}, SWEEP_FAULTS):
-        if record_line(s) != standing:
-            standing = record_line(s)
-            lines.append((standing, None))
-        lines.append((sweep_line(s, 2, s["lent"]), number))
-    yield lines + [(record_line(record), None), (sweep_line(t, 2, 6), 0)]
-    record = {**record, "stage": 1}
-    finish = finish_of(rng, 3, 2)
-    lines = [("new", None), (record_line(record), None)]
-    standing = lines[-1][0]
-    for number, s in faulty({**t, **finish, **record}, FINISH_FAULTS):
-        if record_line(s) != standing:
-            standing = record_line(s)
-            lines.append((standing, None))
-        lines.append((finish_line(s, {**s, "factor": s["lent"]}), number))
-    yield lines + [(record_line(record), None), (finish_line(t, finish), 0)]
+    good = (open_line(t, settings), 0)
+    yield [("new", None), good, *open_faults(t, settings, in_pairs(OPEN_FAULTS)), good]
+    yield [("new", None), *record_faults(t, record, in_pairs(SWEEP_FAULTS), faulty_sweep), (sweep_line(t, 2, 6), 0)]
+    stopped, finish = {**record, "stage": 1}, finish_of(rng, 3, 2)
+    yield [("new", None), *record_faults({**t, **finish}, stopped, in_pairs(FINISH_FAULTS), faulty_finish), (finish_line(t, finish), 0)]
+
+
+def nan_runs(rng):
+    """Each fault alone over a record and a factor of NaNs, which a refused call must leave; then accepted calls."""
+    t, settings, record = base(rng)
+    record.update(last=NANS[0], objective=NANS[1], stationarity=NANS[2], factor=NANS[3:])
+    stopped, finish = {**record, "stage": 1}, finish_of(rng, 3, 2)
+    yield [("new", None), (record_line(record), None), *open_faults(t, settings, single(OPEN_FAULTS)), (open_line(t, {**settings, "factor": 9}), 0)]
+    yield [("new", None), *record_faults(t, record, single(SWEEP_FAULTS), faulty_sweep), (sweep_line(t, 2, 9), 0)]
+    yield [("new", None), *record_faults({**t, **finish}, stopped, single(FINISH_FAULTS), faulty_finish),
+           (finish_line(t, finish_of(rng, 3, 2, more=5)), 0)]
 
 
 def edge_runs(rng):
@@ -490,18 +513,26 @@ def hold_whole(job, result, factor):
     assert last.get("factor", last["start_factor"]) == factor, (job, factor)
 
 
+def judged(scripts):
+    """The answers of lines with their numbers."""
+    pairs = [pair for script in scripts for pair in script]
+    answers = Answered([line for line, _ in pairs])
+    for (line, wanted), number in zip(pairs, answers.numbers, strict=True):
+        assert wanted is None or wanted == number, (wanted, number, line)
+    return answers
+
+
 def stored():
     rng = random.Random("runs 1")
     wholes = answered(list(whole_runs(rng)))
-    faults = [pair for script in itertools.chain(fault_runs(rng), edge_runs(rng)) for pair in script]
-    judged = Answered([line for line, _ in faults])
-    for (line, wanted), number in zip(faults, judged.numbers, strict=True):
-        assert wanted is None or wanted == number, (wanted, number, line)
+    faults = judged([*fault_runs(rng), *edge_runs(rng)])
     rest = Answered([line for script in settings_runs(rng) for line in script])
     short = [pair for pair in random_runs(rng, 190) if sum(map(len, pair[0])) < 10000]
     others = answered(short + [(script, None) for script in large_runs(rng)])
-    assert wholes.seen | judged.seen | rest.seen | others.seen == ALL
-    return wholes.out + judged.out + rest.out + others.out
+    assert wholes.seen | faults.seen | rest.seen | others.seen == ALL
+    rng = random.Random("runs 2")
+    nans = judged(nan_runs(rng))
+    return [*wholes.out, *faults.out, *rest.out, *others.out, "# refused calls over NaNs", *nans.out]
 
 
 def main():
