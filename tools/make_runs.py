@@ -6,10 +6,11 @@
   tools/make_runs.py --random COUNT SEED   prints that many random scripts instead
 
 The lines are those of oracle/README.md, "run", without leading zeros; `~` stands for the table of the call before. After ` = `: the
-number; `.` where record and factor are as they were, else both; a finish's result. A workspace below the size that a finish asks is judged here (31): the oracle has none.
+number; `.` where record and factor are as they were, else both; a finish's result. A line that starts with `#` is a heading. A workspace below the size that
+a finish asks is judged here (31): the oracle has none.
 
 Held here too: 01's first number of every pair of faults; one call of `solve_maxcut_sdp` for every whole run; and that every number, rule,
-start, rank and status occurs.
+start, rank and status occurs; and that some long run tells each wrong schedule of tools/long_runs.py.
 """
 import itertools
 import os
@@ -21,6 +22,7 @@ sys.dont_write_bytecode = True
 TOP = os.path.dirname(os.path.dirname(os.path.abspath(__file__)))
 sys.path.insert(0, os.path.join(TOP, "oracle"))
 import gen  # noqa: E402
+import long_runs  # noqa: E402
 
 PROGRAM = os.path.join(TOP, "target", "oracle", "release", "oracle")
 STORED = os.path.join(TOP, "host", "runs.txt")
@@ -93,19 +95,26 @@ def whole(rng, rank, rule, start):
         "start_numbers": gen.factor(rng, m, r) if start < 2 else gen.numbers(rng, gen.start_count(2, most, m, r)),
         "draw_count": draws, "draws": [x for _ in range(draws) for x in gen.numbers(rng, r)],
     }
-    t, more = table(n, h, c), rng.choice([0, 0, 3])
-    lines = ["new", open_line(t, {
-        "rank": rank, "rule": rule, "number": job["number"], "most": most, "minimum": minimum,
-        "objective": job["objective_tolerance"], "stationarity": job["stationarity_tolerance"], "start": start,
-        "numbers": job["start_numbers"] + [NAN] * more, "factor": m * r + more})]
-    left = most
-    for k in rng.choice([[], [1], [0, 2], [19, 1]]):
-        lines.append(sweep_line(t, k, m * r + more))
-        left -= k
+    more = rng.choice([0, 0, 3])
+    sweeps = [(k, more) for k in rng.choice([[], [1], [0, 2], [19, 1]])]
+    left = most - sum(k for k, _ in sweeps)
     if left > 0:
-        lines.append(sweep_line(t, rng.choice([left, left, 2**32 - 1]), m * r))
+        sweeps.append((rng.choice([left, left, 2**32 - 1]), 0))
+    return script_of(job, sweeps, more)
+
+
+def script_of(job, sweeps, more):
+    """A job as a script, and its record. A sweep call is its k and by how much its factor is longer; `more` is that of all other slices."""
+    n, m, most = job["n"], job["n"] + 1, job["most"]
+    r = job["rank"] or gen.default_rank(m)
+    t = table(n, job["entries"], job["c"])
+    lines = ["new", open_line(t, {
+        "rank": job["rank"], "rule": job["rule"], "number": job["number"], "most": most, "minimum": job["minimum"],
+        "objective": job["objective_tolerance"], "stationarity": job["stationarity_tolerance"], "start": job["start"],
+        "numbers": job["start_numbers"] + [NAN] * more, "factor": m * r + more})]
+    lines += [sweep_line(t, k, m * r + longer) for k, longer in sweeps]
     lines.append(finish_line(t, {
-        "width": job["width"], "draw_count": draws, "draws": job["draws"] + [NAN] * more, "factor": m * r + more,
+        "width": job["width"], "draw_count": job["draw_count"], "draws": job["draws"] + [NAN] * more, "factor": m * r + more,
         "b": n + more, "dual": m + more, "workspace": WORKSPACE + more}))
     return lines, gen.record(job).hex().upper()
 
@@ -420,6 +429,30 @@ def large_runs(rng):
         yield lines + [finish_line(t, finish_of(rng, 128, r, 16, 3))]
 
 
+# ---- more than 1,000 sweeps -------------------------------------------------------------------------
+
+# Where sweep calls end: beside the checks, and where one would be due if sweeps were counted modulo 256.
+ENDS = [1, 255, 256, 259, 260, 276, 512, 988, 999, 1000, 1002]
+
+
+def long_script(case):
+    """Calls up to the stop, one that may go on past it, and one after it."""
+    ends = [0, *[end for end in ENDS if end < case.stop[1]]]
+    sweeps = [(b - a, 0) for a, b in zip(ends, ends[1:])]
+    return script_of(case.job, [*sweeps, (2**32 - 1, 2), (1, 2)], 2)
+
+
+def long_answers():
+    """The answered lines of tools/long_runs.py's cases, each script under what it is."""
+    found = list(long_runs.cases())
+    answers = answered([long_script(case) for case in found])
+    for case, result in zip(found, filter(None, answers.results), strict=True):
+        assert [int(result[k], 16) for k in (0, 3, 4)] == [*case.stop[:2], case.relaxed_objective()], case.text
+    long_runs.telling(found)
+    texts = iter([f"# {case.text}" for case in found])
+    return [x for line in answers.out for x in ([next(texts)] if line == "new" else []) + [line]]
+
+
 # ---- the oracle's answers ---------------------------------------------------------------------
 
 
@@ -532,7 +565,7 @@ def stored():
     assert wholes.seen | faults.seen | rest.seen | others.seen == ALL
     rng = random.Random("runs 2")
     nans = judged(nan_runs(rng))
-    return [*wholes.out, *faults.out, *rest.out, *others.out, "# refused calls over NaNs", *nans.out]
+    return [*wholes.out, *faults.out, *rest.out, *others.out, "# refused calls over NaNs", *nans.out, "# more than 1,000 sweeps", *long_answers()]
 
 
 def main():
