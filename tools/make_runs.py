@@ -442,6 +442,24 @@ def long_script(case):
     return script_of(case.job, [*sweeps, (2**32 - 1, 2), (1, 2)], 2)
 
 
+def counted_runs(rng):
+    """A record that stands before a round count of sweeps, then one sweep a call: its last objective tells which sweeps are checked."""
+    t, _, record = base(rng)
+    most = 2**32 - 1
+    for count in (2**8, 1000, 2**10, 10**4, 2**16, 10**6, 2**24, 2**31, most - 23):
+        start = {**record, "rule": 4, "number": bits(0.99), "sweeps": count - 6, "stationarity": bits(-1.0), "minimum": 0, "most": most}
+        yield [("new", None), (record_line(start), None)] + [(sweep_line(t, 1, 6), 0)] * 29
+
+
+def counted_answers(rng):
+    answers = judged(counted_runs(rng))
+    for (line, before), (_, after) in itertools.pairwise(zip(answers.out, answers.states)):
+        if before and after and line != "new":
+            sweeps, most = int(after[4], 16), int(after[9], 16)
+            assert (after[5] != before[5]) == long_runs.due(sweeps, 0, most), sweeps
+    return answers.out
+
+
 def long_answers():
     """The answered lines of tools/long_runs.py's cases, each script under what it is."""
     found = list(long_runs.cases())
@@ -480,7 +498,7 @@ class Answered:
     """The lines with their answers, and what was seen."""
 
     def __init__(self, lines):
-        self.out, self.numbers, self.results, self.factors, self.seen = [], [], [], [], set()
+        self.out, self.numbers, self.results, self.states, self.seen = [], [], [], [], set()
         before, last = [], None
         for line, full in zip(lines, oracle("run", lines), strict=True):
             given, said = full.split(" = ")
@@ -503,7 +521,7 @@ class Answered:
                 name, shortest(words), "=", shortest([number, *kept, *result])])))
             self.numbers.append(int(number, 16))
             self.results.append(result)
-            self.factors.append(state[13:])
+            self.states.append(state)
             before = state
 
     def see(self, name, number, words, result):
@@ -530,7 +548,7 @@ def answered(scripts):
     answers = Answered(lines)
     for end, (_, job) in zip(ends, scripts):
         if job:
-            hold_whole(job, answers.results[end], answers.factors[end])
+            hold_whole(job, answers.results[end], answers.states[end][13:])
     return answers
 
 
@@ -564,8 +582,8 @@ def stored():
     others = answered(short + [(script, None) for script in large_runs(rng)])
     assert wholes.seen | faults.seen | rest.seen | others.seen == ALL
     rng = random.Random("runs 2")
-    nans = judged(nan_runs(rng))
-    return [*wholes.out, *faults.out, *rest.out, *others.out, "# refused calls over NaNs", *nans.out, "# more than 1,000 sweeps", *long_answers()]
+    return [*wholes.out, *faults.out, *rest.out, *others.out, "# refused calls over NaNs", *judged(nan_runs(rng)).out,
+            "# round counts of sweeps", *counted_answers(rng), "# more than 1,000 sweeps", *long_answers()]
 
 
 def main():
