@@ -71,12 +71,12 @@ class Path:
         return residual <= tolerance * norm
 
     def residual_at(self, sweep):
-        """A stationarity tolerance that the sweep meets by a last bit, and the sweep before it doesn't."""
+        """A stationarity tolerance that the sweep meets by a last bit, and none before it meets."""
         _, residual, norm = self.met[sweep - 1]
         tolerance = residual / norm
         if not self.settles(sweep, tolerance):
             tolerance = math.nextafter(tolerance, math.inf)
-        assert self.settles(sweep, tolerance) and not self.settles(sweep - 1, tolerance)
+        assert [k for k in range(1, sweep + 1) if self.settles(k, tolerance)] == [sweep]
         return tolerance
 
     def change_at(self, sweep):

@@ -453,8 +453,8 @@ def counted_runs(rng):
 
 def counted_answers(rng):
     answers = judged(counted_runs(rng))
-    for (line, before), (_, after) in itertools.pairwise(zip(answers.out, answers.states)):
-        if before and after and line != "new":
+    for before, after in itertools.pairwise(answers.states):
+        if before and after:
             sweeps, most = int(after[4], 16), int(after[9], 16)
             assert (after[5] != before[5]) == long_runs.due(sweeps, 0, most), sweeps
     return answers.out
