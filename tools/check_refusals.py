@@ -4,12 +4,12 @@
   tools/check_refusals.py [TREE]    a sentence for each fault in TREE/crates; status 1 where there is one
 
 The logic knows one NaN, so no contract can say that a NaN's bits stay; the text of the code can. A call is a function that is lent a `&mut [f64]`,
-has no `requires`, and answers something else than a double. Of each such slice this is held:
+has no `requires`, and answers something else than a double. Its length aside, a call either hands such a slice on whole, once, to a call that is held to
+the same, or:
 
-- up to the last `return` only its length is taken, so that a refusal that is returned there finds it as it was;
+- it doesn't use it up to the last `return`, so that a refusal that is returned there finds it as it was;
 - behind that there is no branch and the answer is an accepted one, so that no other refusal is given;
-- a call without `return` hands the slice on whole, once, to a call that is held to the same;
-- an accepted call writes it through parts `&mut slice[..end]`, itself or in the function that it hands the whole slice on to (IN_PLACE aside).
+- there it is written through parts `&mut slice[..end]`, by the call or by the function that it hands the whole slice on to (IN_PLACE aside).
 
 It tries itself too: each call with a statement put at its start that touches the slice must be found at fault.
 """
@@ -165,30 +165,39 @@ def behind_refusals(f):
 
 
 def refusal_faults(functions, f):
+    held = [name for name in f.lent() if not handed_on(functions, f, name)]
+    found = [x for name in held for x in slice_faults(functions, f, name)]
+    return found + (answer_faults(f) if held else [])
+
+
+def handed_on(functions, f, name):
+    """Whether all that is done with the slice, its length aside, is to lend it whole to one other call."""
+    uses = [at for at in uses_of(f.body, name) if kind_of(f.body, at, name) != "length"]
+    if len(uses) != 1 or kind_of(f.body, uses[0], name) != "whole":
+        return not uses
+    callee, _, lent_as = lent_to(functions, f, uses[0])
+    return callee is not None and lent_as == LENT and callee.is_call()
+
+
+def slice_faults(functions, f, name):
+    end = behind_refusals(f)
+    before = [at for at in uses_of(f.body[:end], name) if kind_of(f.body, at, name) != "length"]
+    return [f.fault(at, f"uses {name} before its last refusal") for at in before] + tail_faults(functions, f, name, end)
+
+
+def answer_faults(f):
+    """What lets a call refuse behind its last `return`."""
     end = behind_refusals(f)
     if end == 0:
-        return [x for name in f.lent() for x in handed_on_faults(functions, f, name)]
+        return [f.fault(0, "has no refusal of its own and does more with a slice than hand it on to one call")]
     found = []
-    for name in f.lent():
-        for at in uses_of(f.body[:end], name):
-            if kind_of(f.body, at, name) != "length":
-                found.append(f.fault(at, f"uses {name} before its last refusal"))
     branch = re.search(r"\b(if|match|while|for|loop)\b", f.body[end:])
     if branch:
         found.append(f.fault(end + branch.start(), "branches behind its last refusal"))
     answer = f.body[end:-1].split(";")[-1].strip()
     if not re.match(r"0$|\w+::(?!Refused\b)\w+\(|\w+ \{.*\bnumber: 0\b", answer, flags=re.S):
         found.append(f.fault(end, "answers what need not be accepted behind its last refusal"))
-    return found + [x for name in f.lent() for x in tail_faults(functions, f, name, end)]
-
-
-def handed_on_faults(functions, f, name):
-    uses = [at for at in uses_of(f.body, name) if kind_of(f.body, at, name) != "length"]
-    for at in uses:
-        callee, _, kind = lent_to(functions, f, at) if kind_of(f.body, at, name) == "whole" else (None, "", "")
-        if len(uses) > 1 or callee is None or kind != LENT or not callee.is_call():
-            return [f.fault(at, f"has no refusal of its own and does more with {name} than hand it on to one call")]
-    return []
+    return found
 
 
 def tail_faults(functions, f, name, start=0):
