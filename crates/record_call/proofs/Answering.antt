@@ -12,6 +12,7 @@ use Rattle.laws.proofs.Refusal.{first-here, first-skip, first-found, first-next
 use Rattle.laws.proofs.Any.{any-here, any-skip, any-not, any-none}
 use Rattle.run_contract.specs.declared.FinishResult.{FinishResult}
 use Rattle.run_contract.specs.Calls.{finishResult}
+use Rattle.run_contract.specs.PlainRun.{recordOf}
 use Rattle.job_record.specs.Number.{jobNumber}
 use Rattle.answer_record.specs.Answer.{answerBytes, refusalBytes}
 use Rattle.answer_record.specs.declared.answer.Answer.{Answer}
@@ -23,13 +24,13 @@ use Rattle.record_call.proofs.Promise.{accepted-bytes, choice-size, n-i
 -- ---- an accepted job
 
 module _ (s : List ℕ) (e : jobNumber s ≡ 0) where
-  rank-of : jobResult s .rank ≡ stopped s .run .rank
+  rank-of : jobResult s .rank ≡ recordOf (stopped s) .rank
   unfolding jobResult finishResult
   rank-of = refl
 
   pub bytes-hold : (x : FinishResult) → x ≡ jobResult s → (x .rank < 256) × (x .n < 256)
   bytes-hold x is =
-      let rank : x .rank ≡ stopped s .run .rank = ap (λ (y : FinishResult). y .rank) is ∙ rank-of in
+      let rank : x .rank ≡ recordOf (stopped s) .rank = ap (λ (y : FinishResult). y .rank) is ∙ rank-of in
       let n : x .n ≡ jobCosts s .n = ap (λ (y : FinishResult). y .n) is ∙ n-is s e in
       (omega (arith, stops s e .sound .rank-is, rank-few s e), omega (arith, few s e))
 
@@ -70,6 +71,7 @@ module _ (job workspace answer : List ℕ) where
         numbered = sym (first-here 30 _ _ t);
         written = rw t;
         refused = λ _. refl;
+        kept = refl;
         promised = λ z. absurd (omega (arith, z));
       }
 
@@ -86,6 +88,7 @@ module _ (job workspace answer : List ℕ) where
         numbered = sym (first-skip 31 _ _ t ∙ first-found (jobNumber job) [] (λ z. some (is ∙ z)) ∙ sym is);
         written = rw t (e ∙ ap (λ (x : List ℕ). over x answer) (sym (refusal number some) ∙ ap (λ (k : ℕ). bytesBy k job) is));
         refused = λ _. refl;
+        kept = refl;
         promised = λ z. absurd (some z);
       }
 
@@ -99,14 +102,15 @@ module _ (job workspace answer : List ℕ) where
   unfolding answerAfter
   answer-left answer′ t is e = rw (t, accepted-bytes job is) e
 
-  pub answers-accepted : (workspace′ answer′ : List ℕ) → tooShort (length workspace) (length answer) ≡ false → jobNumber job ≡ 0
+  pub answers-accepted : (workspace′ answer′ : List ℕ) → drop leastWorkspace workspace′ ≡ drop leastWorkspace workspace → tooShort (length workspace) (length answer) ≡ false → jobNumber job ≡ 0
       → answer′ ≡ over (answerBytes (fieldsOf (jobResult job)) (jobChoice job)) answer → Answers job workspace answer 0 workspace′ answer′
-  answers-accepted workspace′ answer′ t is e =
+  answers-accepted workspace′ answer′ tail t is e =
       let none = number-none t is in
       let left = answer-left answer′ t is e in
       record {
         numbered = sym none;
         written = left;
         refused = λ z. absurd (z refl);
+        kept = tail;
         promised = λ _ some. rw left (promise job (length workspace) answer none some);
       }

@@ -31,6 +31,7 @@ use Rattle.finalize.proofs.Demand3.{demand3}
 use Rattle.laws.proofs.Refusal.{clear, first-head, first-rest}
 use Rattle.run_record.specs.CostTable.{quadratic, linear}
 use Rattle.run_contract.specs.Calls.{finishResult}
+use Rattle.run_contract.specs.PlainRun.{recordOf}
 use Rattle.run_contract.proofs.Lengths.{length-choice}
 use Rattle.job_record.specs.Number.{jobNumber}
 use Rattle.job_record.specs.Fields.{wagons, entryCount, row, column, value}
@@ -127,8 +128,8 @@ module _ (s : List ℕ) (e : jobNumber s ≡ 0) where
   accepted-bytes = rw e
 
   pub choice-size : length (jobChoice s) ≡ jobCosts s .n
-  unfolding jobChoice
-  choice-size = length-choice (jobCosts s .n) (quadratic (jobCosts s)) (linear (jobCosts s)) (stopped s .run .rank) (stopped s .factor) (jobDraws s) (jobOf s .«draw_count») (jobOf s .width)
+  unfolding jobChoice recordOf
+  choice-size = length-choice (jobCosts s .n) (quadratic (jobCosts s)) (linear (jobCosts s)) (stopped s .rank) (stopped s .factor) (jobDraws s) (jobOf s .«draw_count») (jobOf s .width)
 
   pub n-is : jobResult s .n ≡ jobCosts s .n
   unfolding jobResult finishResult
@@ -140,11 +141,11 @@ module _ (s : List ℕ) (e : jobNumber s ≡ 0) where
       ∙ take-all (jobResult s .n) (jobChoice s) (omega (arith, n-is, choice-size))
 
   promise-of : 1 ≤ jobOf s .width → (out : List ℕ) → Promised s (over (answerBytes (fieldsOf (jobResult s)) (jobChoice s)) out)
-  unfolding jobResult finishResult jobChoice
+  unfolding jobResult finishResult jobChoice recordOf
   promise-of some out =
       let a = fieldsOf (jobResult s) in
       let b = jobChoice s in
-      let rank = stopped s .run .rank in
+      let rank = stopped s .rank in
       let factor = stopped s .factor in
       let draws = jobDraws s in
       let drawCount = jobOf s .«draw_count» in

@@ -2,6 +2,8 @@ use borrow.Author.Needs.{needs}
 use Rattle.record_call.proofs.answer_record.Statement.{statement}
 use Rattle.record_call.proofs.answer_record.Tie as tie
 use mathlib.Core.Path.{sym, _∙_}
+use lib.Seq.{drop-at, length-take-le}
+use native.Mathlib.Omega.{arith}
 use Rattle.record_call.proofs.Answering.{short-answer, short-workspace, roomy, answers-short, answers-refused, answers-accepted}
 
 returns : tie.Need-returns
@@ -14,7 +16,7 @@ returns-3 : tie.Need-returns-3
 returns-3 c = answers-refused (c .before .before .before .before .before .before .before .before .before .before .before .args .job .now) (c .before .before .before .before .before .before .before .before .before .before .before .args .workspace .now) (c .before .before .before .before .before .before .before .before .before .before .before .args .answer .now) _ _ (roomy (c .before .before .before .before .before .before .before .before .before .before .before .args .job .now) (c .before .before .before .before .before .before .before .before .before .before .before .args .workspace .now) (c .before .before .before .before .before .before .before .before .before .before .before .args .answer .now) (c .before .before .before .before .before .before .before .if1 .left) (c .before .before .before .before .before .before .if2 .left)) (c .before .before .before .before .before .job-number .ensures) (c .before .before .before .before .if3 .taken) (c .before .before .write-refusal .ensures)
 
 returns-4 : tie.Need-returns-4
-returns-4 c = answers-accepted (c .before .before .before .before .before .before .before .before .before .before .before .before .before .before .args .job .now) (c .before .before .before .before .before .before .before .before .before .before .before .before .before .before .args .workspace .now) (c .before .before .before .before .before .before .before .before .before .before .before .before .before .before .args .answer .now) _ _ (roomy (c .before .before .before .before .before .before .before .before .before .before .before .before .before .before .args .job .now) (c .before .before .before .before .before .before .before .before .before .before .before .before .before .before .args .workspace .now) (c .before .before .before .before .before .before .before .before .before .before .before .before .before .before .args .answer .now) (c .before .before .before .before .before .before .before .before .before .before .if1 .left) (c .before .before .before .before .before .before .before .before .before .if2 .left)) (sym (c .before .before .before .before .before .before .before .before .job-number .ensures) ∙ c .before .before .before .before .before .before .before .if3 .left) (c .before .before .before .before .answer-job .ensures)
+returns-4 c = answers-accepted (c .before .before .before .before .before .before .before .before .before .before .before .before .before .before .args .job .now) (c .before .before .before .before .before .before .before .before .before .before .before .before .before .before .args .workspace .now) (c .before .before .before .before .before .before .before .before .before .before .before .before .before .before .args .answer .now) _ _ (drop-at (c .before .before .before .before .answer-job .last .1 .0) _ 16384 (omega (arith, c .before .before .before .before .answer-job .kept, length-take-le 16384 (c .before .before .before .before .before .before .before .before .before .before .before .before .before .before .args .workspace .now) (c .before .before .before .before .before .before .before .before .before .if2 .left)))) (roomy (c .before .before .before .before .before .before .before .before .before .before .before .before .before .before .args .job .now) (c .before .before .before .before .before .before .before .before .before .before .before .before .before .before .args .workspace .now) (c .before .before .before .before .before .before .before .before .before .before .before .before .before .before .args .answer .now) (c .before .before .before .before .before .before .before .before .before .before .if1 .left) (c .before .before .before .before .before .before .before .before .before .if2 .left)) (sym (c .before .before .before .before .before .before .before .before .job-number .ensures) ∙ c .before .before .before .before .before .before .before .if3 .left) (c .before .before .before .before .answer-job .ensures)
 
 pub answer-record-spec : {M : Type 1} → statement M
 answer-record-spec =
@@ -26,6 +28,9 @@ answer-record-spec =
     (λ c κs. search needs)
     (λ c. search needs)
     returns-3
+    (λ c. search needs)
+    (λ c. search needs)
+    (λ c. search needs)
     (λ c κs. search needs)
     (λ c. search needs)
     (λ c. search needs)
