@@ -40,9 +40,9 @@ use Rattle.local_search.specs.SignSearch as SignSearch
 use Rattle.sign_search.specs.Search as Search
 use Rattle.run_sweep.specs.Work as Work
 use Rattle.run_sweep.specs.Work.{signsOf}
-use Rattle.run_sweep.specs.Sweep as Sweep
 use Rattle.finalize.specs.Finalize as Finalize
 use Rattle.run_contract.specs.Calls as Calls
+use Rattle.run_contract.specs.PlainRun as PlainRun
 use Rattle.job_reader.specs.Bytes as Bytes
 use Rattle.job_reader.specs.Encode as Encode
 use Rattle.job_record.specs.Number as Number
@@ -105,7 +105,7 @@ unfolding example empty third
     Number.jobNumber Number.headNumbers Number.entriesNumbers Number.costsNumbers Number.runNumbers Number.settingsNumbers Number.drawsNumbers Number.frameNumber Number.versionNumber
     Number.bounded Number.entryNumber Number.momentumNumber Meant.rankMeant Start.startLength Values.settingsOf Values.drawsOf Values.jobOf
     Refusal.orElse Refusal.first Refusal.firstOf Refusal.anyOf Check.before Check.badEntry Check.unmirrored Sum.total Rank.rootFrom Rank.leastRoot Rank.defaultRank
-    Calls.startFactor Calls.firstStage Calls.openRun Calls.finishResult Sweep.sweepsUpTo
+    Calls.startFactor Calls.finishResult PlainRun.plainOpen PlainRun.plainSweeps PlainRun.recordOf
     Initialize.withSigns Initialize.startSigns Objective.objOf Oracle.workObjective Vectors.multiplied Vectors.projected
     Finalize.floorEighths Finalize.floatBound Finalize.diagonalTotal Finalize.roundedCost Finalize.searchedChoice Finalize.searchedCost Finalize.searchedRounds
     Finalize.choiceOf Finalize.roundedSigns Finalize.searched
