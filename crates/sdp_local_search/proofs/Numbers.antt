@@ -14,7 +14,8 @@ use Rattle.laws.proofs.Refusal.{first-head, first-rest, clear}
 use Rattle.tables.specs.Table.{Table, tableOf, Lent}
 use Rattle.tables.specs.Check.{Accepted}
 use Rattle.tables.proofs.Checks.{table-accepted}
-use Rattle.sign_search.specs.Contracts.{Sound, Room}
+use Rattle.run_limits.specs.Limits.{searchWorkspace}
+use Rattle.sign_search.specs.Contracts.{Sound}
 use Rattle.sign_search.proofs.Theorems.{accepted-mirrors}
 use Rattle.sign_search.proofs.TurnLaws.{rising-climbs}
 use Rattle.sdp_local_search.specs.BeamSearch.{Limits, baseLimits, searchShort, searchRefusal}
@@ -74,26 +75,30 @@ module _ (most : Limits) (m width : ℕ) (tooShort : Bool) (t : Table) (e : sear
   unfolding searchRefusal
   narrow = ltb-false (most .width) width (clear _ 18 (first-head _ _ (first-rest _ _ (first-rest _ _ e))))
 
--- what the search then asks
-module _ (m count : ℕ) (rows cols : List ℕ) (values : List ℤ) (width start out workspace : ℕ)
-    (e : searchRefusal baseLimits m width (searchShort baseLimits m count (length rows) (length cols) (length values) start out workspace) (tableOf count rows cols values) ≡ 0) where
-  ok : Accepted 128 4478 4398046511104 m (tableOf count rows cols values)
-  ok = accepted-table baseLimits m width _ (tableOf count rows cols values) e
-
-  long : Long baseLimits m count (length rows) (length cols) (length values) start out workspace
-  long = slices-long baseLimits m count (length rows) (length cols) (length values) start out workspace (not-short baseLimits m width _ (tableOf count rows cols values) e)
-
-  pub call-lent : Lent count rows cols values
-  call-lent = record { rows-there = long .rows-long (ok .entries); cols-there = long .cols-long (ok .entries); values-there = long .values-long (ok .entries) }
-
-  pub call-sound : Sound m (tableOf count rows cols values)
-  call-sound = record { mirrors = accepted-mirrors ok; climbs = rising-climbs (tableOf count rows cols values) (ok .rising); small = ok .magnitude }
-
-  pub call-room : Room 128 m width workspace
-  call-room = record { signs-few = ok .signs; width-few = narrow baseLimits m width _ (tableOf count rows cols values) e; level-room = omega (arith, long .workspace-long) }
-
+-- what the search then asks, of a call with slices of these lengths
+pub record Ready (m count : ℕ) (rows cols : List ℕ) (values : List ℤ) (width start out workspace : ℕ) : Type 0 where
+  pub lent : Lent count rows cols values
+  pub sound : Sound m (tableOf count rows cols values)
+  pub signs-few : m ≤ 128
+  pub width-few : width ≤ 128
   pub start-there : m ≤ start
-  start-there = long .start-long (ok .signs)
-
   pub out-there : m ≤ out
-  out-there = long .out-long (ok .signs)
+  pub workspace-there : searchWorkspace ≤ workspace
+
+pub call-ready : (m count : ℕ) (rows cols : List ℕ) (values : List ℤ) (width start out workspace : ℕ)
+    → searchRefusal baseLimits m width (searchShort baseLimits m count (length rows) (length cols) (length values) start out workspace) (tableOf count rows cols values) ≡ 0
+    → Ready m count rows cols values width start out workspace
+call-ready m count rows cols values width start out workspace e =
+    let t = tableOf count rows cols values in
+    let tooShort = searchShort baseLimits m count (length rows) (length cols) (length values) start out workspace in
+    let ok = accepted-table baseLimits m width tooShort t e in
+    let long = slices-long baseLimits m count (length rows) (length cols) (length values) start out workspace (not-short baseLimits m width tooShort t e) in
+    record {
+      lent = record { rows-there = long .rows-long (ok .entries); cols-there = long .cols-long (ok .entries); values-there = long .values-long (ok .entries) };
+      sound = record { mirrors = accepted-mirrors ok; climbs = rising-climbs t (ok .rising); small = ok .magnitude };
+      signs-few = ok .signs;
+      width-few = narrow baseLimits m width tooShort t e;
+      start-there = long .start-long (ok .signs);
+      out-there = long .out-long (ok .signs);
+      workspace-there = long .workspace-long;
+    }

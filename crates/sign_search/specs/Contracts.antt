@@ -6,6 +6,7 @@ use mathlib.Core.Path.{_≡_}
 use lib.Dec.{eqb}
 use lib.IntN.{ℤ, pos, natAbs, _+ℤ_, _*ℤ_}
 use lib.ListN.{length, getD, set}
+use Rattle.laws.specs.Lists.{fill}
 use Rattle.laws.specs.Sum.{sum, total, only}
 use Rattle.tables.specs.Table.{Table, InRange, magnitudeOf, signAt}
 use Rattle.tables.specs.Flip.{flipTerm}
@@ -49,6 +50,10 @@ pub record Summed (t : Table) (x : List ℕ) (k row : ℕ) (held : ℤ) (changes
 pub record Changes (t : Table) (x : List ℕ) (changes : List ℤ) : Type 0 where
   pub many : length x ≤ length changes
   pub are : (i : ℕ) → i < length x → getD changes i (pos 0) ≡ changeIn t x i
+
+-- the same laid down from the front of a list, whose tail stays
+unfoldable pub changesOver : Table → List ℕ → List ℤ → List ℤ
+changesOver t x changes = fill (changeIn t x) (length x) changes
 
 -- ---- the changes after a flip
 

@@ -4,7 +4,7 @@ use crate::moves::move_to;
 use local_search::children::expand_parent;
 use local_search::children::first_level;
 use local_search::level::copy_objectives;
-use local_search::rows::copy_signs;
+use local_search::rows::copy_row;
 ghost use mathlib.Core.Path.{_≡_};
 ghost use mathlib.Core.List.{[]};
 ghost use lib.ListN.{length, take};
@@ -134,6 +134,6 @@ pub fn advance(
     );
     let bytes = kept * m;
     copy_objectives(objectives, next_objectives, kept);
-    copy_signs(signs, next_signs, bytes);
+    copy_row(&mut signs[0..bytes], &next_signs[0..bytes]);
     kept
 }

@@ -8,12 +8,12 @@ use Rattle.search_host.proofs.host_beam_search.Tie as tie
 returns : tie.Need-returns
 returns c =
     let b = c .before .before .before .before .before .before .beam-search .ensures in
-    record { numbered = sym (ap numberOf (c .enum-told .given .1)) ∙ b .numbered; refused = b .refused; accepted = λ z. b .accepted z .writes }
+    record { numbered = sym (ap numberOf (c .enum-told .given .1)) ∙ b .numbered; refused = b .refused; writes = b .writes; kept = b .kept }
 
 returns-2 : tie.Need-returns-2
 returns-2 c =
     let b = c .before .before .before .before .before .before .before .beam-search .ensures in
-    record { numbered = sym (ap numberOf (c .before .found .given .1)) ∙ b .numbered; refused = b .refused; accepted = λ z. b .accepted z .writes }
+    record { numbered = sym (ap numberOf (c .before .found .given .1)) ∙ b .numbered; refused = b .refused; writes = b .writes; kept = b .kept }
 
 pub host-beam-search-spec : {M : Type 1} → statement M
 host-beam-search-spec =

@@ -1,6 +1,6 @@
 use borrow.Author.Needs.{needs}
-use Rattle.sdp_local_search.proofs.signs.copy_signs.Statement.{statement}
-use Rattle.sdp_local_search.proofs.signs.copy_signs.Tie as tie
+use Rattle.sdp_local_search.proofs.signs.read_signs.Statement.{statement}
+use Rattle.sdp_local_search.proofs.signs.read_signs.Tie as tie
 use Prim.Native.Nat.{_≤_, _-_}
 use mathlib.Core.Path.{_≡_, refl, _∙_}
 use native.Mathlib.Omega.{arith}
@@ -44,8 +44,8 @@ returns c =
     let all : l .i ≡ length (now (a .kept)) = omega arith in
     l .inv .1 ∙ ap (λ (n : ℕ). over (tabulate (λ j. signByte (elem (now (a .start)) j)) n) (now (a .kept))) all ∙ tabulate-all (λ j. signByte (elem (now (a .start)) j)) (length (now (a .kept))) (now (a .kept)) refl
 
-pub copy-signs-spec : {M : Type 1} → statement M
-copy-signs-spec =
+pub read-signs-spec : {M : Type 1} → statement M
+read-signs-spec =
     tie.close
     (tie.spec
     Inv-loop
