@@ -3,6 +3,7 @@
 --     rounded-first   the rounded choice is that of the first draw of least cost
 --     search-ends     the search's levels end with an empty one, and the search is over exactly these
 --     unsearched      with width 0 the rounded choice stands, rounds 0
+--     differ-one, differ-all   any choice that differs in one wagon and no other is meant, and any that differs in all
 -- Assumes nothing.
 use Prim.Native.Nat.{ℕ, zero, suc, _-_, _*_, _≤_, _<_}
 use native.Mathlib.Decide.{ℕ-discrete}
@@ -222,3 +223,12 @@ module _ {most capacity limit n : ℕ} {h : Table} {c : ℕ → ℤ} (hall : Hal
         rounded-is = finish .rounded-is ∙ rounded-costs;
         rounds-few = rw (finish .rounded-is, finish .cost-is, finish .rounds-are) rounds-down;
       }
+
+-- ---- whatever differs in one wagon is meant, and whatever differs in all
+
+pub differ-one : (n : ℕ) (b b′ : List ℕ) (i : ℕ) → i < n → (choiceAt b i ≡ choiceAt b′ i → ⊥)
+    → ((j : ℕ) → j < n → (j ≡ i → ⊥) → choiceAt b j ≡ choiceAt b′ j) → DifferInOne n b b′
+differ-one n b b′ i l d o = record { wagon = i; is-one = l; differs = d; others = o }
+
+pub differ-all : (n : ℕ) (b b′ : List ℕ) → ((j : ℕ) → j < n → choiceAt b j ≡ choiceAt b′ j → ⊥) → DifferInAll n b b′
+differ-all n b b′ d = record { differ = d }

@@ -104,6 +104,7 @@ module _ (run : Run) (t : CostTable) (width drawCount : ℕ) (draws factor : Lis
           numbered = sym e;
           refused = λ n. absurd (n refl);
           accepted = λ z. (refl, refl, refl);
+          kept = refl;
           demand-3 = λ x is w. subst Kept (ap (resultOr result) is) (keeps-demand (good .hall) w);
         },
       )
@@ -115,6 +116,7 @@ module _ (run : Run) (t : CostTable) (width drawCount : ℕ) (draws factor : Lis
       numbered = sym e;
       refused = λ n. (refl, refl, refl);
       accepted = λ z. absurd (omega arith);
+      kept = refl;
       demand-3 = λ x is w. let no : _≡_ {A = ℕ} 1 0 = ap Kind is in absurd (omega arith);
     },
   )

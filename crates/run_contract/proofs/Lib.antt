@@ -4,4 +4,8 @@ pub mod Follows
 pub mod Opening
 pub mod OnLists
 pub mod Chains
+pub mod Allowed
+pub mod Refused
+pub mod Tails
+pub mod Granted
 pub mod Examples
