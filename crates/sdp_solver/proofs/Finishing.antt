@@ -1,5 +1,5 @@
 -- An accepted finish's answer, put together from the figures that `finalize` gave. Assumes nothing.
-use Prim.Native.Nat.{ℕ, suc, _+_, _*_, _≤_}
+use Prim.Native.Nat.{ℕ, suc, _+_, _*_}
 use mathlib.Core.List.{List, _++_}
 use mathlib.Core.Path.{_≡_, refl, sym, ap, _∙_, subst}
 use native.Mathlib.Numerals.{add-one}
@@ -20,11 +20,6 @@ use Rattle.run_contract.specs.declared.Finished.{Finished}
 use Rattle.run_contract.specs.declared.Finished.the-variants.{Result, Refused}
 use Rattle.run_contract.specs.Calls.{used, finishLengths, finishResult, Finishes}
 use Rattle.run_contract.proofs.Accepting.{Finishable, finish-accepted}
-
--- a workspace whose front alone was lent on keeps its tail
-pub tail-kept : (workspace front : List ℕ) → searchWorkspace ≤ length workspace → length front ≡ length (take searchWorkspace workspace)
-    → drop searchWorkspace (front ++ drop searchWorkspace workspace) ≡ drop searchWorkspace workspace
-tail-kept workspace front long e = drop-at front (drop searchWorkspace workspace) searchWorkspace (e ∙ length-take-le searchWorkspace workspace long)
 
 abbrev resultOr : FinishResult → Finished → FinishResult
 resultOr other (Result x) = x
@@ -60,14 +55,15 @@ module _ (run : Run) (t : CostTable) (width drawCount : ℕ) (draws factor : Lis
   unfolding finishResult
   result-is = let g = figures in rw (g .diagonal-is, g .bound-is, g .floor-is, g .rounded-is, g .cost-is, g .rounds-are)
 
-  pub finishes : {workspace′ : List ℕ} → drop searchWorkspace workspace′ ≡ drop searchWorkspace workspace
-      → Finishes run t width drawCount draws factor b dual workspace (Result madeResult) b′ dual′ workspace′
-  finishes tail =
+  -- of the workspace the front alone was lent on
+  pub finishes : (front : List ℕ) → length front ≡ length (take searchWorkspace workspace)
+      → Finishes run t width drawCount draws factor b dual workspace (Result madeResult) b′ dual′ (front ++ drop searchWorkspace workspace)
+  finishes front e =
       record {
         numbered = sym ok;
         refused = λ n. absurd (n refl);
         accepted = λ z. (ap (λ (x : FinishResult). Result x) result-is, figures .choice-is, figures .multipliers-are);
-        kept = tail;
+        kept = drop-at front (drop searchWorkspace workspace) searchWorkspace (e ∙ length-take-le searchWorkspace workspace (accepted .fits .space-room));
         demand-3 = λ x e w.
             subst (λ (x : FinishResult). Demand3 (t .n) (quadratic t) (linear t) (run .rank) (take (used run) factor) draws drawCount width b′ (x .floor) (x .«rounded_cost») (x .cost) (x .rounds))
             (ap (resultOr madeResult) e) (demand3 (accepted .hall) (run .rank) _ _ _ _ w figures);

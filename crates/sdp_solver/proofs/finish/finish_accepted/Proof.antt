@@ -9,7 +9,7 @@ use Rattle.run_limits.specs.Limits.{searchWorkspace}
 use Rattle.run_record.specs.CostTable.{CostTable, costTable}
 use Rattle.run_contract.specs.Calls.{finishLengths}
 use Rattle.run_contract.proofs.Accepting.{Finishable, finish-accepted}
-use Rattle.sdp_solver.proofs.Finishing.{finishes, tail-kept}
+use Rattle.sdp_solver.proofs.Finishing.{finishes}
 use Rattle.sdp_solver.proofs.finish.finish_accepted.Statement.{statement}
 use Rattle.sdp_solver.proofs.finish.finish_accepted.Tie as tie
 
@@ -35,7 +35,7 @@ returns c =
     let f = c .before .before .before .before .before .before .before .before .before .finalize in
     rw (held (f .result .floor) (told .1 .1 .0 .1), held (f .result .«rounded_cost») (told .1 .1 .1 .0 .1), held (f .result .cost) (told .1 .1 .1 .1 .0 .1))
     (finishes (a .run) (table s) (a .width) (a .draw-count) (now (a .draws)) (now (a .factor)) (now (a .b)) (now (a .dual-variables)) (now (a .workspace)) (s .pre) (f .ensures)
-    (tail-kept (now (a .workspace)) (f .last .1 .1 .1 .1 .1 .1 .1 .1 .1 .1 .1 .1 .1 .0) (good s .fits .space-room) (f .kept .1 .1 .1 .1 .1 .1 .1 .1 .1 .1 .1 .1 .1 .0)))
+    (f .last .1 .1 .1 .1 .1 .1 .1 .1 .1 .1 .1 .1 .1 .0) (f .kept .1 .1 .1 .1 .1 .1 .1 .1 .1 .1 .1 .1 .1 .0))
 
 pub finish-accepted-spec : {M : Type 1} → statement M
 finish-accepted-spec =
