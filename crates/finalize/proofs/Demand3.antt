@@ -41,6 +41,15 @@ use Rattle.finalize.specs.Finalize.{choiceOf, drawnChoice, costOf, floor
 use Rattle.finalize.specs.Demand3.{DifferInOne, DifferInAll, Demand3}
 use Rattle.finalize.specs.Contracts.{Finalizes}
 
+-- ---- whatever differs in one wagon is meant, and whatever differs in all
+
+pub differ-one : (n : ℕ) (b b′ : List ℕ) (i : ℕ) → i < n → (choiceAt b i ≡ choiceAt b′ i → ⊥)
+    → ((j : ℕ) → j < n → (j ≡ i → ⊥) → choiceAt b j ≡ choiceAt b′ j) → DifferInOne n b b′
+differ-one n b b′ i l d o = record { wagon = i; is-one = l; differs = d; others = o }
+
+pub differ-all : (n : ℕ) (b b′ : List ℕ) → ((j : ℕ) → j < n → choiceAt b j ≡ choiceAt b′ j → ⊥) → DifferInAll n b b′
+differ-all n b b′ d = record { differ = d }
+
 -- ---- choices
 
 decoded-byte : (n : ℕ) (signs : List ℕ) (i : ℕ) → (decodedByte n signs i ≤ 1) × (bit (decodedByte n signs i) ≡ decoded n signs i)
@@ -223,12 +232,3 @@ module _ {most capacity limit n : ℕ} {h : Table} {c : ℕ → ℤ} (hall : Hal
         rounded-is = finish .rounded-is ∙ rounded-costs;
         rounds-few = rw (finish .rounded-is, finish .cost-is, finish .rounds-are) rounds-down;
       }
-
--- ---- whatever differs in one wagon is meant, and whatever differs in all
-
-pub differ-one : (n : ℕ) (b b′ : List ℕ) (i : ℕ) → i < n → (choiceAt b i ≡ choiceAt b′ i → ⊥)
-    → ((j : ℕ) → j < n → (j ≡ i → ⊥) → choiceAt b j ≡ choiceAt b′ j) → DifferInOne n b b′
-differ-one n b b′ i l d o = record { wagon = i; is-one = l; differs = d; others = o }
-
-pub differ-all : (n : ℕ) (b b′ : List ℕ) → ((j : ℕ) → j < n → choiceAt b j ≡ choiceAt b′ j → ⊥) → DifferInAll n b b′
-differ-all n b b′ d = record { differ = d }

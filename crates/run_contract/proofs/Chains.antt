@@ -54,7 +54,8 @@ sweep-has run t k factor zero e =
 sweep-has run t k factor (suc m) e =
     (run, factor, record { numbered = sym e; refused = λ n. (refl, refl); accepted = λ z. absurd (omega arith) })
 
-abbrev resultOr : FinishResult → Finished → FinishResult
+-- the result that an answer holds, or another
+abbrev pub resultOr : FinishResult → Finished → FinishResult
 resultOr other (F.Result x) = x
 resultOr other (F.Refused number) = other
 

@@ -16,14 +16,10 @@ use Rattle.finalize.specs.Contracts.{Finalizes}
 use Rattle.finalize.specs.Demand3.{Demand3}
 use Rattle.finalize.proofs.Demand3.{demand3}
 use Rattle.run_contract.specs.declared.FinishResult.{FinishResult}
-use Rattle.run_contract.specs.declared.Finished.{Finished}
-use Rattle.run_contract.specs.declared.Finished.the-variants.{Result, Refused}
+use Rattle.run_contract.specs.declared.Finished.the-variants.{Result}
 use Rattle.run_contract.specs.Calls.{used, finishLengths, finishResult, Finishes}
 use Rattle.run_contract.proofs.Accepting.{Finishable, finish-accepted}
-
-abbrev resultOr : FinishResult → Finished → FinishResult
-resultOr other (Result x) = x
-resultOr other (Refused number) = other
+use Rattle.run_contract.proofs.Chains.{resultOr}
 
 module _ (run : Run) (t : CostTable) (width drawCount : ℕ) (draws factor : List Float) (b : List ℕ) (dual : List Float) (workspace : List ℕ) {b′ : List ℕ} {dual′ : List Float}
     {diagonal bound : Float} {floor rounded cost : ℤ} {rounds : ℕ}
