@@ -178,9 +178,9 @@ module _ {n : ℕ} {h : Table} {c : ℕ → ℤ} {entries : ℕ} {rows cols : Li
       }
 
 module _ {n rank width drawCount draws factor b multipliers workspace : ℕ} (fits : Fits n rank width drawCount draws factor b multipliers workspace) where
-  -- a factor that is cut to its rows
-  pub cut-fits : {part : ℕ} → part ≡ suc n * rank → Fits n rank width drawCount draws part b multipliers workspace
-  cut-fits e =
+  -- a factor that is cut to its rows, a workspace to what is asked
+  pub cut-fits : {part space : ℕ} → suc n * rank ≤ part → searchWorkspace ≤ space → Fits n rank width drawCount draws part b multipliers space
+  cut-fits rows long =
       record {
         rank-some = fits .rank-some;
         rank-few = fits .rank-few;
@@ -188,10 +188,10 @@ module _ {n rank width drawCount draws factor b multipliers workspace : ℕ} (fi
         draws-some = fits .draws-some;
         draws-few = fits .draws-few;
         draws-room = fits .draws-room;
-        factor-room = omega (arith, e);
+        factor-room = rows;
         b-room = fits .b-room;
         multipliers-room = fits .multipliers-room;
-        space-room = fits .space-room;
+        space-room = long;
       }
 
   pub search-fits : SearchFits n rank width drawCount draws factor b workspace

@@ -3,6 +3,7 @@
 --     rounded-first   the rounded choice is that of the first draw of least cost
 --     search-ends     the search's levels end with an empty one, and the search is over exactly these
 --     unsearched      with width 0 the rounded choice stands, rounds 0
+--     differ-one, differ-all   any choice that differs in one wagon and no other is meant, and any that differs in all
 -- Assumes nothing.
 use Prim.Native.Nat.{ℕ, zero, suc, _-_, _*_, _≤_, _<_}
 use native.Mathlib.Decide.{ℕ-discrete}
@@ -39,6 +40,15 @@ use Rattle.sign_search.proofs.HallTheorems.{hall-mirrors, signs-cost, one-wagon
 use Rattle.finalize.specs.Finalize.{choiceOf, drawnChoice, costOf, floorEighths, roundedSigns, roundedChoice, roundedCost, searched, searchedChoice, searchedCost, searchedRounds}
 use Rattle.finalize.specs.Demand3.{DifferInOne, DifferInAll, Demand3}
 use Rattle.finalize.specs.Contracts.{Finalizes}
+
+-- ---- whatever differs in one wagon is meant, and whatever differs in all
+
+pub differ-one : (n : ℕ) (b b′ : List ℕ) (i : ℕ) → i < n → (choiceAt b i ≡ choiceAt b′ i → ⊥)
+    → ((j : ℕ) → j < n → (j ≡ i → ⊥) → choiceAt b j ≡ choiceAt b′ j) → DifferInOne n b b′
+differ-one n b b′ i l d o = record { wagon = i; is-one = l; differs = d; others = o }
+
+pub differ-all : (n : ℕ) (b b′ : List ℕ) → ((j : ℕ) → j < n → choiceAt b j ≡ choiceAt b′ j → ⊥) → DifferInAll n b b′
+differ-all n b b′ d = record { differ = d }
 
 -- ---- choices
 

@@ -19,7 +19,7 @@ pub struct Chosen {
     pub rounds: u64,
 }
 
-// The same with room for a direction of rank numbers and twice n + 1 signs.
+// `choose`, with room for a direction of rank numbers and twice n + 1 signs.
 fn search_from(
     n: usize,
     entries: usize,

@@ -1,7 +1,11 @@
 pub mod Accepting
+pub mod Allowed
+pub mod Assured
+pub mod Refused
 pub mod Lengths
 pub mod Follows
 pub mod Opening
 pub mod OnLists
 pub mod Chains
+pub mod Tails
 pub mod Examples

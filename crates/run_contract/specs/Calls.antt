@@ -5,7 +5,7 @@ use mathlib.Core.Bool.{cond}
 use mathlib.Core.List.{List}
 use lib.Dec.{eqb}
 use lib.Ieee.{Float}
-use lib.ListN.{length, take}
+use lib.ListN.{length, take, drop}
 use Rattle.laws.specs.Lists.{over}
 use Rattle.ieee.specs.Floats.{_+ᶠ_}
 use Rattle.step_rules.specs.Rule.{ruleOf}
@@ -15,6 +15,7 @@ use Rattle.run_record.specs.declared.Stage.{Stage}
 use Rattle.run_record.specs.declared.Stage.the-variants.{Open, Stopped}
 use Rattle.run_record.specs.declared.Run.{Run}
 use Rattle.run_record.specs.CostTable.{CostTable, quadratic, linear}
+use Rattle.run_limits.specs.Limits.{searchWorkspace}
 use Rattle.run_limits.specs.Rank.{rankMeant}
 use Rattle.run_limits.specs.Start.{isSigns, drawsFollow}
 use Rattle.run_record.specs.Numbers.{openNumber, sweepNumber, FinishLengths, finishNumber}
@@ -160,6 +161,8 @@ pub record Finishes (run : Run) (t : CostTable) (width drawCount : ℕ) (draws f
       → (answer ≡ F.Result (finishResult run t width drawCount draws (take (used run) factor)))
       × (b′ ≡ over (finishChoice run t width drawCount draws (take (used run) factor)) b)
       × (dual′ ≡ over (finishMultipliers run t (take (used run) factor)) dual)
+  -- a longer workspace keeps its tail; what lies before is any after an accepted finish
+  pub kept : drop searchWorkspace workspace′ ≡ drop searchWorkspace workspace
   -- demand 3
   pub demand-3 : (x : FinishResult) → answer ≡ F.Result x → 1 ≤ width
       → Demand3 (t .n) (quadratic t) (linear t) (run .rank) (take (used run) factor) draws drawCount width b′ (x .floor) (x .«rounded_cost») (x .cost) (x .rounds)

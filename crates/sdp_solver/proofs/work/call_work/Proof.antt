@@ -21,7 +21,7 @@ built : (c : tie.After-sign-values2) → let a = c .before .before .before .befo
 built c =
     let a = c .before .before .before .before .before .before .before .before .before .before .before .before .before .before .before .before .args in let s = c .before .before .before .sign-matrix in
     cut (a .n) (tableOf (a .count) (now (a .rows)) (now (a .cols)) (now (a .values))) (elemZ (now (a .c))) (s .result) (c .before .before .before .before .before .before .before .before .before .before .before .before .before .before .before .before .pre .0 .hall) (s .ensures .0) (s .ensures .1)
-    (c .before .before .before .before .before .before .before .before .before .indices .ensures, s .kept .1 .1 .1 .1 .1 .1 .0) (c .before .before .before .before .before .before .before .before .indices2 .ensures, s .kept .1 .1 .1 .1 .1 .1 .1 .0) (c .before .before .before .before .before .before .before .eighths .ensures, s .kept .1 .1 .1 .1 .1 .1 .1 .1 .0)
+    (c .before .before .before .before .before .before .before .before .before .indices .ensures .1, s .kept .1 .1 .1 .1 .1 .1 .0) (c .before .before .before .before .before .before .before .before .indices2 .ensures .1, s .kept .1 .1 .1 .1 .1 .1 .1 .0) (c .before .before .before .before .before .before .before .eighths .ensures .1, s .kept .1 .1 .1 .1 .1 .1 .1 .1 .0)
 
 -- it has at most as many entries as the slices have room for
 entries-few : (c : tie.After-sign-values2) → c .before .before .before .sign-matrix .result ≤ mostSignEntries
@@ -34,9 +34,9 @@ sign-matrix-requires c κs =
       u .costs,
       hall-convertible (omega arith) (omega arith) (u .hall),
       record {
-        rows-room = omega (arith, c .before .before .before .before .before .indices .ensures, u .hall .entries, u .hall .wagons);
-        cols-room = omega (arith, c .before .before .before .before .indices2 .ensures, u .hall .entries, u .hall .wagons);
-        values-room = omega (arith, c .before .before .before .eighths .ensures, u .hall .entries, u .hall .wagons);
+        rows-room = omega (arith, c .before .before .before .before .before .indices .ensures .1, u .hall .entries, u .hall .wagons);
+        cols-room = omega (arith, c .before .before .before .before .indices2 .ensures .1, u .hall .entries, u .hall .wagons);
+        values-room = omega (arith, c .before .before .before .eighths .ensures .1, u .hall .entries, u .hall .wagons);
       },
     )
 
