@@ -1,5 +1,6 @@
 pub mod Accepting
 pub mod Lengths
+pub mod Scheduled
 pub mod Follows
 pub mod Opening
 pub mod OnLists
