@@ -1,4 +1,5 @@
 pub mod Accepting
+pub mod Answered
 pub mod Lengths
 pub mod Scheduled
 pub mod Follows
