@@ -2,10 +2,4 @@ pub mod Accepting
 pub mod Allowed
 pub mod Assured
 pub mod Refused
-pub mod Lengths
-pub mod Follows
-pub mod Opening
-pub mod OnLists
-pub mod Chains
-pub mod Tails
-pub mod Examples
+pub mod Answered
