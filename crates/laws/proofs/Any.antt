@@ -53,6 +53,10 @@ pub or-left : (a b : Bool) → (a || b) ≡ false → a ≡ false
 or-left true b e = e
 or-left false b e = refl
 
+pub or-right : (a b : Bool) → (a || b) ≡ false → b ≡ false
+or-right true b e = never (sym e)
+or-right false b e = e
+
 pub and-left : (a b : Bool) → a ≡ true → (a && b) ≡ false → b ≡ false
 and-left a b e f = rw e at f
 
