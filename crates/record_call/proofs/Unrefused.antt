@@ -9,7 +9,7 @@ use lib.Ieee.{Float}
 use borrow.Author.Tests.{le-ltb, eq-eqb, ne-eqb, eqb-true}
 use Rattle.laws.specs.Refusal.{short}
 use Rattle.laws.proofs.Refusal.{first-end, first-next, first-skip}
-use Rattle.laws.proofs.Any.{any-none, any-not, or-none}
+use Rattle.laws.proofs.Any.{any-none, any-not, or-none, and-right}
 use Rattle.tables.specs.Check.{shortTable}
 use Rattle.run_record.specs.declared.Run.{Run}
 use Rattle.run_record.specs.CostTable.{CostTable}
@@ -77,10 +77,6 @@ open-passes t rank rule number most start numbers factor there table ns fs ranke
 open-not : (a b : Bool) → a ≡ true → (not a && b) ≡ false
 open-not a b e = rw e
 
-fails : (a b : Bool) → b ≡ false → (a && b) ≡ false
-fails true b e = e
-fails false b e = refl
-
 module _ (run : Run) (n : ℕ) (size : run .size ≡ n + 1) (some : 1 ≤ run .rank) (few : run .rank ≤ mostRank) where
   zero-not : eqb (run .rank) 0 ≡ false
   zero-not = ne-eqb (run .rank) 0 (λ e. omega (arith, e))
@@ -99,8 +95,8 @@ module _ (run : Run) (n : ℕ) (size : run .size ≡ n + 1) (some : 1 ≤ run .r
   unfolding recordRefused
   open-record l s =
       any-not _ _ same-size (any-not _ _ zero-not (any-not _ _ (le-ltb mostRank (run .rank) few) (any-not _ _ (le-ltb (run .most) (run .sweeps) (omega arith))
-      (any-not _ _ (fails (not (isStopped (run .stage))) (eqb (run .sweeps) (run .most)) (ne-eqb (run .sweeps) (run .most) (λ e. omega (arith, e)))) (any-not _ _ (le-ltb 2 (run .status) (omega arith))
-      (any-not _ _ (fails (not (isStopped (run .stage))) (not (eqb (run .status) 0)) (ap not (eq-eqb (run .status) 0 s))) any-none))))))
+      (any-not _ _ (and-right (not (isStopped (run .stage))) (eqb (run .sweeps) (run .most)) (ne-eqb (run .sweeps) (run .most) (λ e. omega (arith, e)))) (any-not _ _ (le-ltb 2 (run .status) (omega arith))
+      (any-not _ _ (and-right (not (isStopped (run .stage))) (not (eqb (run .status) 0)) (ap not (eq-eqb (run .status) 0 s))) any-none))))))
 
 -- ---- sweep and finish
 

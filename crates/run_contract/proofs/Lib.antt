@@ -3,3 +3,11 @@ pub mod Allowed
 pub mod Assured
 pub mod Refused
 pub mod Answered
+pub mod Lengths
+pub mod Scheduled
+pub mod Follows
+pub mod Opening
+pub mod OnLists
+pub mod Chains
+pub mod Tails
+pub mod Examples

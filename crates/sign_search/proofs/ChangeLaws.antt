@@ -19,22 +19,15 @@ use Rattle.laws.specs.Rows.{mapFirst}
 use Rattle.laws.specs.Sum.{sum, total, only}
 use Rattle.tables.specs.Table.{Table, sign, signAt}
 use Rattle.tables.specs.Flip.{flipShare, flipTerm}
-use Rattle.laws.proofs.Integer.{parts, differences, ring, times-one, abs-add, abs-mul, fits-abs}
+use Rattle.laws.proofs.Integer.{parts, differences, ring, times-one, abs-add, abs-mul, abs-cond, fits-abs}
 use Rattle.laws.proofs.MapFirst.{getD-mapFirst, length-fill}
-use Rattle.laws.proofs.Sums.{sum-more, sum-bounded, total-le}
+use Rattle.laws.proofs.Sums.{only-zero, sum-more, sum-bounded, total-le}
 use Rattle.tables.proofs.Shares.{abs-sign, sign-vector}
 use Rattle.tables.proofs.Flips.{flip-entries}
 use Rattle.sign_search.specs.Search.{changeIn}
 use Rattle.sign_search.specs.Contracts.{Usable, Cleared, RowTurned, Summed, Changes, changesOver}
 
 -- ---- one entry
-
-only-zero : (a b : ℕ) → only a b (pos 0) ≡ pos 0
-only-zero a b = go (eqb a b)
-  where
-    go : (t : Bool) → cond t (pos 0) (pos 0) ≡ pos 0
-    go true = refl
-    go false = refl
 
 module _ (i a j : ℕ) (x y v : ℤ) where
   flip-elsewhere : (i ≡ a → ⊥) → flipShare i a j x y v ≡ pos 0
@@ -48,10 +41,6 @@ module _ (i a j : ℕ) (x y v : ℤ) where
   flip-other : i ≡ a → (i ≡ j → ⊥) → flipShare i a j x y v ≡ negsuc 3 *ℤ v *ℤ x *ℤ y
   unfolding flipShare
   flip-other e d = rw (eq-eqb i a e, ne-eqb i j d)
-
-abs-cond : (b : Bool) (x y : ℤ) (n : ℕ) → natAbs x ≤ n → natAbs y ≤ n → natAbs (cond b x y) ≤ n
-abs-cond true x y n h k = h
-abs-cond false x y n h k = k
 
 pub abs-flip : (i a j s t : ℕ) (v : ℤ) → natAbs (flipShare i a j (sign s) (sign t) v) ≤ 4 * natAbs v
 unfolding flipShare

@@ -9,7 +9,7 @@ use lib.Dec.{ltb, lit<, lit≤}
 use lib.ListN.{length, drop, length-map}
 use lib.Seq.{sets, sets-eq}
 use lib.IntN.{ℤ}
-use Rattle.laws.specs.Refusal.{_if_, orElse, first, short}
+use Rattle.laws.specs.Refusal.{_if_, first, short}
 use Rattle.laws.proofs.Refusal.{clear, first-head, first-rest}
 use Rattle.laws.proofs.Any.{any-head, any-rest, any-not, any-none}
 use Rattle.tables.specs.Limits.{mostWagons, mostEntries, mostMagnitude, mostSigns, mostSignEntries, mostSignMagnitude}
@@ -46,11 +46,6 @@ short-refused n l e = rw e
 pub short-open : {t : Bool} (n l : ℕ) → t ≡ false → short t n l ≡ ltb l n
 unfolding short
 short-open n l e = rw e
-
-pub first-last : (k : ℕ) → first (k ∷ []) ≡ k
-unfolding first orElse
-first-last zero = refl
-first-last (suc k) = refl
 
 -- 31 first, then the others
 pub after-short : {s s′ : Bool} (k : ℕ) {r : ℕ} → s ≡ s′ → r ≡ first (31 if s ∷ k ∷ []) → r ≡ first (31 if s′ ∷ k ∷ [])

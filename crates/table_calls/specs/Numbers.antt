@@ -11,11 +11,9 @@ use Rattle.laws.specs.Refusal.{_if_, first, anyOf, short}
 use Rattle.tables.specs.Limits.{mostWagons, mostEntries, mostMagnitude, mostSigns, mostSignEntries, mostSignMagnitude}
 use Rattle.tables.specs.Table.{tableOf}
 use Rattle.tables.specs.Check.{badSize, shortTable, hallNumber, tableNumber}
+unfoldable pub use Rattle.tables.specs.Check.{badSigns}
 
--- 13 of m, and of n
-unfoldable pub badSigns : ℕ → Bool
-badSigns m = anyOf (ltb m 1 ∷ ltb mostSigns m ∷ [])
-
+-- 13 of n
 abbrev pub badWagons : ℕ → Bool
 badWagons n = ltb mostWagons n
 

@@ -15,17 +15,7 @@ ghost use lib.ListN.{length};
 ghost use Rattle.laws.specs.Refusal.{_if_, first};
 ghost use Rattle.tables.specs.Limits.{mostWagons, mostEntries, mostSignEntries};
 ghost use Rattle.tables.specs.Table.{Lent};
-ghost use Rattle.table_calls.specs.Numbers.{badSigns, signTableNumber, houseNumber};
-
-// 13 of m.
-pub fn bad_signs(m: usize) -> bool
-    ensures { λ r. ⌜ r ≡ badSigns m ⌝ }
-{
-    if m < 1 {
-        return true;
-    }
-    MOST_SIGNS < m
-}
+ghost use Rattle.table_calls.specs.Numbers.{signTableNumber, houseNumber};
 
 // The number of a call on a sign table.
 pub fn checked_table(

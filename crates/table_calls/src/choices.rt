@@ -1,5 +1,5 @@
 // The choice that signs decode to.
-use crate::checked::bad_signs;
+use tables::check::bad_signs;
 use tables::check::too_short;
 use tables::objective;
 ghost use mathlib.Core.Path.{_≡_};

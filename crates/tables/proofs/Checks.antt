@@ -19,13 +19,10 @@ use Rattle.laws.specs.Sum.{total}
 use Rattle.laws.specs.Lists.{anyBelow}
 use Rattle.laws.specs.Refusal.{_if_, first, short}
 use Rattle.laws.proofs.Refusal.{clear, first-head, first-rest, first-skip, first-end}
-use Rattle.laws.proofs.Any.{any-head, any-rest, any-not, any-none, below-none, below-only, below-true, below-false, below-at}
+use Rattle.laws.proofs.Any.{never, any-head, any-rest, any-not, any-none, and-true, below-none, below-only, below-true, below-false, below-at}
 use Rattle.tables.specs.Table.{Table, Lent, InRange, Before, Rising, Mirrored}
 use Rattle.tables.specs.Check.{badSize, before, badEntry, badOrder, placeOf, Placed, eqZ, isMirror, unmirrored, hallNumber, tableNumber, shortTable, Hall, Accepted}
 use Rattle.tables.proofs.Mirrors.{rises}
-
-unequal : false ≡ true → ⊥
-unequal e = let z : _≡_ {A = ℕ} 0 1 = cc in omega arith
 
 -- ---- values
 
@@ -139,8 +136,8 @@ before-true i j k l e = go (decLt i k) (ℕ-discrete i k) (decLt j l)
     go : Dec (i < k) → Dec (i ≡ k) → Dec (j < l) → Before i j k l
     go (yes h) d f = inl h
     go (no h) (yes d) (yes f) = inr (d, f)
-    go (no h) (yes d) (no f) = absurd (unequal (sym (rw (le-ltb i k (omega arith), eq-eqb i k d) (le-ltb j l (omega arith))) ∙ e))
-    go (no h) (no d) f = absurd (unequal (rw (le-ltb i k (omega arith), ne-eqb i k d) at e))
+    go (no h) (yes d) (no f) = never (sym (rw (le-ltb i k (omega arith), eq-eqb i k d) (le-ltb j l (omega arith))) ∙ e)
+    go (no h) (no d) f = never (rw (le-ltb i k (omega arith), ne-eqb i k d) at e)
 
 before-is : (i j k l : ℕ) → Before i j k l → before i j k l ≡ true
 unfolding before
@@ -153,14 +150,6 @@ entry-after k b h = rw (lt-ltb 0 k h)
 
 pub entry-first : (k : ℕ) (b : Bool) → k ≤ 0 → (ltb 0 k && b) ≡ false
 entry-first k b h = rw (le-ltb 0 k h)
-
--- a loop over the entries that has found nothing
-pub below-next : (p : ℕ → Bool) (k : ℕ) → anyBelow k p ≡ false → p k ≡ false → anyBelow (k + 1) p ≡ false
-unfolding anyBelow
-below-next p k e f = rw (add-one, f) e
-
-pub below-end : (p : ℕ → Bool) (k n : ℕ) → anyBelow k p ≡ false → k ≤ n → n ≤ k → false ≡ anyBelow n p
-below-end p k n e up down = let same : n ≡ k = omega arith in rw same (sym e)
 
 module _ (m : ℕ) (t : Table) where
   -- what is known of entry k
@@ -205,10 +194,6 @@ placed {t = t} small r ri =
     }
 
 -- ---- 15: mirrored
-
-and-true : (a b : Bool) → (a && b) ≡ true → (a ≡ true) × (b ≡ true)
-and-true true b e = (refl, e)
-and-true false b e = absurd (unequal e)
 
 pub mirror-mirrored : (t : Table) → unmirrored t ≡ false → Mirrored t
 unfolding unmirrored
@@ -304,6 +289,10 @@ pub long-enough : {refused : Bool} {needed lent : ℕ} → short refused needed 
 unfolding short
 long-enough {refused} {needed} {lent} ok e = ltb-false _ _ (rw e at ok)
 
+pub long-passes : {refused : Bool} {needed lent : ℕ} → refused ≡ false → needed ≤ lent → short refused needed lent ≡ false
+unfolding short
+long-passes e h = rw e (le-ltb _ _ h)
+
 pub table-lent : {mostEntries count : ℕ} {rows cols : List ℕ} {values : List ℤ} → shortTable mostEntries count (length rows) (length cols) (length values) ≡ false
     → count ≤ mostEntries → Lent count rows cols values
 unfolding shortTable
@@ -315,3 +304,10 @@ table-lent {mostEntries} {count} ok h =
       cols-there = long-enough (any-head _ _ later) few;
       values-there = long-enough (any-head _ _ (any-rest _ _ later)) few;
     }
+
+pub lent-table : {mostEntries count : ℕ} {rows cols : List ℕ} {values : List ℤ} → count ≤ mostEntries → Lent count rows cols values
+    → shortTable mostEntries count (length rows) (length cols) (length values) ≡ false
+unfolding shortTable
+lent-table {mostEntries} {count} h l =
+    let few : ltb mostEntries count ≡ false = le-ltb mostEntries count h in
+    any-not _ _ (long-passes few (l .rows-there)) (any-not _ _ (long-passes few (l .cols-there)) (any-not _ _ (long-passes few (l .values-there)) any-none))

@@ -8,11 +8,16 @@ use lib.IntN.{ℤ, pos, negsuc, natAbs}
 use Rattle.laws.specs.Sum.{total}
 use Rattle.laws.specs.Lists.{anyBelow}
 use Rattle.laws.specs.Refusal.{_if_, first, anyOf, short}
+use Rattle.tables.specs.Limits.{mostSigns}
 use Rattle.tables.specs.Table.{Table, InRange, Rising, Mirrored, magnitudeOf}
 
 -- 13: n, m or the entry count out of its limits
 unfoldable pub badSize : ℕ → ℕ → ℕ → ℕ → ℕ → Bool
 badSize least most mostEntries size count = anyOf (ltb size least ∷ ltb most size ∷ ltb mostEntries count ∷ [])
+
+-- 13 of m alone
+unfoldable pub badSigns : ℕ → Bool
+badSigns m = anyOf (ltb m 1 ∷ ltb mostSigns m ∷ [])
 
 -- (i, j) stands before (k, l): by row, then by column
 unfoldable pub before : ℕ → ℕ → ℕ → ℕ → Bool

@@ -1,10 +1,10 @@
--- `table_calls::checked::bad_signs` meets its contract.
-use Rattle.table_calls.proofs.checked.bad_signs.Statement.{statement}
-use Rattle.table_calls.proofs.checked.bad_signs.Tie as tie
+-- `tables::check::bad_signs` meets its contract.
+use Rattle.tables.proofs.check.bad_signs.Statement.{statement}
+use Rattle.tables.proofs.check.bad_signs.Tie as tie
 use mathlib.Core.Path.{sym, _∙_}
 use borrow.Author.Tests.{lt-ltb, le-ltb}
 use Rattle.laws.proofs.Any.{any-here, any-skip, any-last}
-use Rattle.table_calls.specs.Numbers.{badSigns}
+use Rattle.tables.specs.Check.{badSigns}
 
 returns : tie.Need-returns
 unfolding badSigns
