@@ -26,7 +26,7 @@ isDue sweeps minimum most = eqb sweeps 1 || eqb sweeps minimum || eqb sweeps mos
 
 -- ---- the stop tests
 
--- `coordinate_momentum` of 000: `Some` of a number for the fourth and the fifth rule, else `None`
+-- `coordinate_momentum` of 000: `Some` of a number for rules 3 and 4, else `None`
 abbrev pub coordinateMomentum : StepRule → Option Float
 coordinateMomentum (Grad alpha) = none
 coordinateMomentum (GradAdv alpha) = none

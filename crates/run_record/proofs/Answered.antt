@@ -149,9 +149,9 @@ rule-decided rule number = reads to from (either (less 4 rule) (both (equal rule
     from (rule-above l) = inl l
     from (no-momentum e n) = inr (e, n)
 
--- a rule that isn't the fourth has no momentum
-not-fourth : (rule : StepRule) → ruleNumber rule < 4 → Decides false (BadMomentum rule)
-not-fourth rule l = record { shows = λ e. absurd (false≢true e); shown = λ b. absurd (omega (arith, l, ap ruleNumber (b .fourth))) }
+-- a rule other than 4 has no momentum
+other-rule : (rule : StepRule) → ruleNumber rule < 4 → Decides false (BadMomentum rule)
+other-rule rule l = record { shows = λ e. absurd (false≢true e); shown = λ b. absurd (omega (arith, l, ap ruleNumber (b .rule-four))) }
 
 abbrev numberIn : Float → StepRule → Float
 numberIn other (Grad step) = other
@@ -161,14 +161,14 @@ numberIn other CoordNoStep = other
 numberIn other (CoordMomentum beta) = beta
 
 pub record-momentum-decided : (rule : StepRule) → Decides (badMomentum rule) (BadMomentum rule)
-record-momentum-decided (Grad step) = not-fourth (Grad step) (omega arith)
-record-momentum-decided (GradAdv step) = not-fourth (GradAdv step) (omega arith)
-record-momentum-decided (Coord step) = not-fourth (Coord step) (omega arith)
-record-momentum-decided CoordNoStep = not-fourth CoordNoStep (omega arith)
+record-momentum-decided (Grad step) = other-rule (Grad step) (omega arith)
+record-momentum-decided (GradAdv step) = other-rule (GradAdv step) (omega arith)
+record-momentum-decided (Coord step) = other-rule (Coord step) (omega arith)
+record-momentum-decided CoordNoStep = other-rule CoordNoStep (omega arith)
 record-momentum-decided (CoordMomentum beta) =
     reads
-    (λ n. record { beta = beta; fourth = refl; no-momentum-there = n })
-    (λ b m. b .no-momentum-there (subst Momentum (ap (numberIn beta) (b .fourth)) m))
+    (λ n. record { beta = beta; rule-four = refl; no-momentum-there = n })
+    (λ b m. b .no-momentum-there (subst Momentum (ap (numberIn beta) (b .rule-four)) m))
     (neither (momentum-decided beta))
 
 draws-decided : (drawCount : ℕ) → Decides (drawsRefused drawCount) ((drawCount ≡ 0) ⊎ (mostDraws < drawCount))
@@ -451,14 +451,14 @@ unfolding openNumber
 open-answered t rank rule number most start numbers factor =
     answered
     (then-if 30 (open-short-decided t rank most start numbers factor)
-    (table-then t (then-if 16 (rank-decided rank start) (then-if 17 (rule-decided rule number) (then-if 18 (less 2 start) ends)))) .first-is) refl
+    (table-then t (then-if 16 (rank-decided rank start) (then-if 17 (rule-decided rule number) (then-if 18 (less 2 start) ends)))) .first-is) refl refl
 
 pub sweep-answered : (run : Run) (t : CostTable) (factor : ℕ) → Answered (sweepNumber run t factor) (sweepClauses run t factor)
 unfolding sweepNumber
 sweep-answered run t factor =
     answered
     (then-if 30 (sweep-short-decided run t factor) (then-if 31 (stopped-decided (run .stage)) (then-if 32 (record-decided run (t .n))
-    (table-then t (then-if 17 (record-momentum-decided (run .rule)) ends)))) .first-is) refl
+    (table-then t (then-if 17 (record-momentum-decided (run .rule)) ends)))) .first-is) refl refl
 
 pub finish-answered : (run : Run) (t : CostTable) (width drawCount : ℕ) (lent : FinishLengths)
     → Answered (finishNumber run t width drawCount lent) (finishClauses run t width drawCount lent)
@@ -466,7 +466,7 @@ unfolding finishNumber
 finish-answered run t width drawCount lent =
     answered
     (then-if 30 (finish-short-decided run t drawCount lent) (then-if 31 (open-decided (run .stage)) (then-if 32 (record-decided run (t .n))
-    (table-then t (then-if 17 (record-momentum-decided (run .rule)) (then-if 18 (width-decided width drawCount) ends))))) .first-is) refl
+    (table-then t (then-if 17 (record-momentum-decided (run .rule)) (then-if 18 (width-decided width drawCount) ends))))) .first-is) refl refl
 
 -- number by number
 

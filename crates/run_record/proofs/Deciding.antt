@@ -186,8 +186,29 @@ is-first k (c ∷ rest) p n = by (eqb k (c .number)) refl p n (is-first k rest)
     by true e p n more = here p (eqb-true k (c .number) e)
     by false e p n more = later (n .0) (more p (n .1))
 
-pub answered : {k : ℕ} {clauses : List Clause} → FirstOf k clauses → distinct clauses ≡ true → Answered k clauses
-answered {k} {clauses} f d = record { holds = own-holds f d; first = none-before f; only = λ j p n. first-only f (is-first j clauses p n) }
+-- where none holds, 0 is
+is-zero : {k : ℕ} {clauses : List Clause} → FirstOf k clauses → isAmong 0 clauses ≡ false → NoneBefore 0 clauses → k ≡ 0
+is-zero (no-more e) z n = e
+is-zero {k} (here {c} {rest} p e) z n = by (eqb 0 (c .number)) z n
+  where
+    by : (b : Bool) → (b || isAmong 0 rest) ≡ false → cond b (Unit {0}) ((c .condition → ⊥) × NoneBefore 0 rest) → k ≡ 0
+    by true z n = absurd (false≢true (sym z))
+    by false z n = absurd (n .0 p)
+is-zero {k} (later {c} {rest} m more) z n = by (eqb 0 (c .number)) z n (is-zero more)
+  where
+    by : (b : Bool) → (b || isAmong 0 rest) ≡ false → cond b (Unit {0}) ((c .condition → ⊥) × NoneBefore 0 rest)
+        → (isAmong 0 rest ≡ false → NoneBefore 0 rest → k ≡ 0) → k ≡ 0
+    by true z n rest′ = absurd (false≢true (sym z))
+    by false z n rest′ = rest′ z (n .1)
+
+pub answered : {k : ℕ} {clauses : List Clause} → FirstOf k clauses → distinct clauses ≡ true → isAmong 0 clauses ≡ false → Answered k clauses
+answered {k} {clauses} f d z =
+    record {
+      holds = own-holds f d;
+      first = none-before f;
+      only = λ j p n. first-only f (is-first j clauses p n);
+      none = is-zero f z;
+    }
 
 -- of one number
 pub of-number : {number : ℕ} {clauses : List Clause} (k : ℕ) → Answered number clauses → number ≡ suc k → Holds (suc k) clauses

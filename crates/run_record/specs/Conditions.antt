@@ -47,8 +47,9 @@ pub record Answered (number : ℕ) (clauses : List Clause) : Type 0 where
   -- "No number is answered where its own condition .. doesn't hold", nor where the condition of one before it holds; 0 only where none holds
   pub holds : (number ≡ 0 → ⊥) → Holds number clauses
   pub first : NoneBefore number clauses
-  -- and where a number's condition holds, and that of none before it, it is the answer
+  -- and where a number's condition holds, and that of none before it, it is the answer; where none holds, 0 is
   pub only : (k : ℕ) → Holds k clauses → NoneBefore k clauses → number ≡ k
+  pub none : NoneBefore 0 clauses → number ≡ 0
 
 -- ---- the table: 13 to 16
 
@@ -108,7 +109,7 @@ pub data BadRule (rule : ℕ) (number : Float) : Type 0 where
 -- "a bad momentum in the record is 18"
 pub record BadMomentum (rule : StepRule) : Type 0 where
   pub beta : Float
-  pub fourth : rule ≡ CoordMomentum beta
+  pub rule-four : rule ≡ CoordMomentum beta
   pub no-momentum-there : Momentum beta → ⊥
 
 -- "W .. or draws not 1 to 1,000"
