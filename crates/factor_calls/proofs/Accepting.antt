@@ -14,6 +14,8 @@ use Rattle.laws.proofs.Refusal.{clear, first-head, first-rest}
 use Rattle.laws.proofs.Any.{any-head, any-rest, any-not, any-none}
 use Rattle.tables.specs.Limits.{mostSigns, mostSignEntries, mostSignMagnitude}
 use Rattle.tables.specs.Table.{Table, Lent, tableOf}
+use Rattle.laws.proofs.Made.{length-tabulate}
+use Rattle.maxcut_oracle.specs.Whole.{numerator, wholeMultipliers}
 use Rattle.rounding.specs.Rounding.{leastDraw, roundedSol}
 use Rattle.rounding.proofs.Least.{length-signsOf}
 use Rattle.tables.specs.Check.{Accepted}
@@ -28,6 +30,11 @@ use Rattle.factor_calls.specs.Numbers.{badRank, badDraws, factorRefused,
 pub length-roundedSol : (factor : List Float) (rank m : ℕ) (draws : List Float) (t : Table) (count : ℕ) → length (roundedSol factor rank m draws t count) ≡ m
 unfolding roundedSol
 length-roundedSol factor rank m draws t count = length-signsOf factor rank m draws (leastDraw factor rank m draws t count)
+
+-- the multipliers are m
+pub length-multipliers : (t : Table) (m rank : ℕ) (factor : List Float) → length (wholeMultipliers t m rank factor) ≡ m
+unfolding wholeMultipliers
+length-multipliers t m rank factor = length-tabulate (numerator t rank factor) m
 
 -- a length that rests on a refused number isn't tested, and any other is
 pub factor-untested : (m rank lent : ℕ) → factorRefused m rank ≡ true → false ≡ factorShort m rank lent

@@ -13,7 +13,7 @@ pub record Rounds (number : ℕ) (objective : ℤ) (signs out : List ℕ) (answe
   pub answers : answer ≡ eighthsAnswer number objective
   pub signs-are : out′ ≡ kept number out (over signs out)
 
--- `dual_variables`: the number, and the multipliers in the first places of `out`, which a refusal leaves
+-- `dual_variables`: the number, and the multipliers in the first places of `out`, which a refusal leaves; a longer slice keeps its tail
 pub record Multiplies (number : ℕ) (multipliers out : List Float) (answer : ℕ) (out′ : List Float) : Type 0 where
   pub answers : answer ≡ number
   pub multipliers-are : out′ ≡ kept number out (over multipliers out)
