@@ -2,7 +2,7 @@
 use run_limits::MOST_DRAWS;
 use run_limits::MOST_RANK;
 use run_limits::rank_meant;
-use table_calls::checked::bad_signs;
+use tables::check::bad_signs;
 use tables::check::short_table;
 use tables::check::table_number;
 use tables::check::too_short;

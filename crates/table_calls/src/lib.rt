@@ -1,5 +1,5 @@
 // The calls on tables given directly. None has a `requires`: what can't be used is refused by its number, and a refusal writes nothing.
-pub mod checked;
+mod checked;
 pub mod choices;
 pub mod halls;
 pub mod sign_tables;
