@@ -8,7 +8,7 @@ use Rattle.laws.proofs.Following.{first-append}
 use Rattle.job_record.specs.Fields.{wagons, entryCount, settingsAfter}
 use Rattle.job_record.specs.Number.{headNumbers, entriesNumbers, costsNumbers, runNumbers, jobNumber}
 
-or-join : (a b c : ℕ) → orElse a (orElse b c) ≡ orElse (orElse a b) c
+pub or-join : (a b c : ℕ) → orElse a (orElse b c) ≡ orElse (orElse a b) c
 unfolding orElse
 or-join zero b c = refl
 or-join (suc a) b c = refl
