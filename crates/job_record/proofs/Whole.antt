@@ -1,5 +1,5 @@
 -- The number of a record, from the numbers of its sections; and what holds where it is 0.
-use Prim.Native.Nat.{ℕ, zero, suc, _+_}
+use Prim.Native.Nat.{ℕ, zero, suc}
 use mathlib.Core.Path.{_≡_, refl, sym, ap, _∙_}
 use mathlib.Core.List.{List, _++_}
 use Rattle.laws.specs.Refusal.{first, orElse}

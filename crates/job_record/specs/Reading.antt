@@ -1,5 +1,5 @@
 -- The fields of head and settings as a reader takes them, one after the other: each stands where the one before it ends. A field past the
--- end leaves the reader where it is.
+-- end leaves the reader where it is. The contracts of inner functions cite these; what a job's number and values are is in Number and Values.
 use Prim.Native.Nat.{ℕ, _+_}
 use mathlib.Core.Bool.{Bool, true, false, _&&_, _||_, not}
 use mathlib.Core.List.{List, [], _∷_, _++_}
@@ -63,7 +63,7 @@ settingsValues f =
       next = f .next;
     }
 
--- the same numbers as in Number, from the fields that were read: 11 where one is past the end, k where its value is wrong
+-- the numbers of Number, from the fields that were read: 11 where one is past the end, k where its value is wrong
 abbrev pub isShort : Field → Bool
 isShort (Value v next) = false
 isShort Short = true

@@ -1,11 +1,7 @@
 use borrow.Author.Needs.{needs}
 use Rattle.job_record.proofs.job.accepted_head.Statement.{statement}
 use Rattle.job_record.proofs.job.accepted_head.Tie as tie
-use mathlib.Core.Path.{ap, _∙_}
-use Rattle.job_record.specs.declared.reading.HeadValues.{HeadValues}
-use Rattle.job_record.specs.Reading.{headValues}
 use Rattle.job_record.proofs.Accepted.{fields}
-use Rattle.job_record.proofs.FieldByField.{head-there}
 use Rattle.job_record.proofs.FieldByField.{head-values-are}
 
 returns : tie.Need-returns

@@ -1,7 +1,7 @@
 use borrow.Author.Needs.{needs}
 use Rattle.job_record.proofs.job.accepted_settings.Statement.{statement}
 use Rattle.job_record.proofs.job.accepted_settings.Tie as tie
-use Prim.Native.Nat.{_+_, _<_, _^_}
+use Prim.Native.Nat.{_+_}
 use mathlib.Core.Path.{_≡_, ap, _∙_}
 use native.Mathlib.Omega.{arith}
 use Rattle.job_record.specs.Reading.{settingsFrom, settingsValues}

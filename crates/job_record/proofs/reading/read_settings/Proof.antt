@@ -39,7 +39,7 @@ use denote.Triple.Spec.{Meets, tripleOf}
 use denote.Triple.Table.{entered, cited}
 use denote.Triple.Walked.{says, Stays, stay-none, stay-none-slice, walkOf, goes-none, goes-none-slice, Walks, ends-at, walked, walk-meets}
 use denote.Exit.{yes}
-use Rattle.job_reader.specs.Bytes.{fieldAt, after, afterAll}
+use Rattle.job_reader.specs.Bytes.{fieldAt, after}
 use Rattle.job_reader.specs.declared.Field.{Field}
 use Rattle.job_reader.proofs.JobReader as T
 use Rattle.job_reader.proofs.JobReader.Laws as T′

@@ -1,9 +1,9 @@
 use borrow.Author.Needs.{needs}
 use Rattle.job_record.proofs.settings.run_number.Statement.{statement}
 use Rattle.job_record.proofs.settings.run_number.Tie as tie
-use mathlib.Core.Path.{_≡_, sym, ap, _∙_}
+use mathlib.Core.Path.{sym, _∙_}
 use native.Mathlib.Omega.{arith}
-use Prim.Native.Nat.{ℕ, _+_, _*_}
+use Prim.Native.Nat.{_+_}
 use Rattle.laws.proofs.Refusal.{stop, pass}
 use Rattle.laws.proofs.Following.{first-append}
 use Rattle.job_record.specs.Number.{runNumbers, settingsNumbers, drawsNumbers}
