@@ -17,12 +17,11 @@ use Rattle.ieee.specs.Floats.{doubleOf, bitsOf, signedOf, bitsOfSigned}
 use Rattle.job_reader.specs.Bytes.{bigEndian, signedAt, doubleAt}
 use Rattle.job_reader.specs.Encode.{bytesOf}
 use Rattle.job_reader.proofs.Encode.{length-bytesOf, read-front, read-bytes, read-signed, read-double}
-use Rattle.run_limits.specs.Rank.{rankMeant}
-use Rattle.run_limits.specs.Start.{startLength}
 use Rattle.job_record.specs.Fields.{wagons, entryCount, row, column, value}
 use Rattle.job_record.specs.Values.{settingsOf, drawsOf, jobOf, jobCost, jobStart, jobDraw}
 use Rattle.job_record.specs.declared.job.Job.{Job}
 use Rattle.job_encoding.specs.Encode.{Entry, Values, each, entryBytes, signedBytes, doubleBytes, settingsBytes, bodyBytes, headBytes, jobBytes}
+use Rattle.job_encoding.specs.Allowed.{noEntry, entryOf, costOf, Held}
 use Rattle.job_encoding.proofs.Each.{past, length-each, read-each}
 
 -- ---- parts of one size
@@ -46,29 +45,6 @@ settings-size v = simp (length-append, length-bytesOf)
 pub head-size : (rest n count : ℕ) → length (headBytes rest n count) ≡ 8
 unfolding headBytes
 head-size rest n count = simp (length-append, length-bytesOf)
-
--- the values are of the fields' types
-pub record Held (v : Values) : Type 0 where
-  pub n : length (v .c) < 2 ^ 8
-  pub count : length (v .entries) < 2 ^ 16
-  pub rows : (k : ℕ) (d : Entry) → k < length (v .entries) → getD (v .entries) k d .row < 2 ^ 8
-  pub columns : (k : ℕ) (d : Entry) → k < length (v .entries) → getD (v .entries) k d .column < 2 ^ 8
-  pub values : (k : ℕ) (d : Entry) → k < length (v .entries) → SFits w64 (getD (v .entries) k d .value)
-  pub costs : (i : ℕ) → i < length (v .c) → SFits w64 (getD (v .c) i (pos 0))
-  pub rank : v .rank < 2 ^ 8
-  pub rule : v .rule < 2 ^ 8
-  pub ruleNumber : T (fits binary64 (v .ruleNumber))
-  pub most : v .most < 2 ^ 32
-  pub minimum : v .minimum < 2 ^ 32
-  pub objective : T (fits binary64 (v .objectiveTolerance))
-  pub stationarity : T (fits binary64 (v .stationarityTolerance))
-  pub width : v .width < 2 ^ 8
-  pub start : v .start < 2 ^ 8
-  pub numbers : (i : ℕ) → i < length (v .startNumbers) → T (fits binary64 (getD (v .startNumbers) i nan))
-  pub drawn : v .drawCount < 2 ^ 16
-  pub draws : (i : ℕ) → i < length (v .draws) → T (fits binary64 (getD (v .draws) i nan))
-  -- a start has as many doubles as its kind asks
-  pub started : length (v .startNumbers) ≡ startLength (v .start) (length (v .c) + 1) (rankMeant (length (v .c) + 1) (v .rank)) (v .most)
 
 module _ (v : Values) where
   abbrev s : List ℕ
@@ -155,23 +131,23 @@ module _ (v : Values) (held : Held v) where
   unfolding jobBytes
   count-back = head-count _ _ _ (bodyBytes v) (held .count)
 
-  entry-at : (d : Entry) (k p w : ℕ) → k < length (v .entries) → p + w ≤ 10 → bigEndian (jobBytes v) (8 + k * 10 + p) w ≡ bigEndian (entryBytes (getD (v .entries) k d)) p w
-  entry-at d k p w l h =
+  entry-at : (k p w : ℕ) → k < length (v .entries) → p + w ≤ 10 → bigEndian (jobBytes v) (8 + k * 10 + p) w ≡ bigEndian (entryBytes (entryOf v k)) p w
+  entry-at k p w l h =
       let e : 8 + k * 10 + p ≡ 8 + (k * 10 + p) = omega arith in
-      ap (λ (q : ℕ). bigEndian (jobBytes v) q w) e ∙ at-entries v (k * 10 + p) w ∙ read-each entryBytes 10 entry-size (v .entries) (costing v) d k p w l h
+      ap (λ (q : ℕ). bigEndian (jobBytes v) q w) e ∙ at-entries v (k * 10 + p) w ∙ read-each entryBytes 10 entry-size (v .entries) (costing v) noEntry k p w l h
 
-  pub row-back : (k : ℕ) (d : Entry) → k < length (v .entries) → row (jobBytes v) k ≡ getD (v .entries) k d .row
-  row-back k d l =
+  pub row-back : (k : ℕ) → k < length (v .entries) → row (jobBytes v) k ≡ entryOf v k .row
+  row-back k l =
       let e : 8 + k * 10 ≡ 8 + k * 10 + 0 = omega arith in
-      ap (λ (q : ℕ). bigEndian (jobBytes v) q 1) e ∙ entry-at d k 0 1 l (omega arith) ∙ entry-row _ (held .rows k d l)
+      ap (λ (q : ℕ). bigEndian (jobBytes v) q 1) e ∙ entry-at k 0 1 l (omega arith) ∙ entry-row _ (held .rows k l)
 
-  pub column-back : (k : ℕ) (d : Entry) → k < length (v .entries) → column (jobBytes v) k ≡ getD (v .entries) k d .column
-  column-back k d l = entry-at d k 1 1 l (omega arith) ∙ entry-column _ (held .columns k d l)
+  pub column-back : (k : ℕ) → k < length (v .entries) → column (jobBytes v) k ≡ entryOf v k .column
+  column-back k l = entry-at k 1 1 l (omega arith) ∙ entry-column _ (held .columns k l)
 
-  pub value-back : (k : ℕ) (d : Entry) → k < length (v .entries) → value (jobBytes v) k ≡ getD (v .entries) k d .value
-  value-back k d l = ap signedOf (entry-at d k 2 8 l (omega arith)) ∙ entry-value _ (held .values k d l)
+  pub value-back : (k : ℕ) → k < length (v .entries) → value (jobBytes v) k ≡ entryOf v k .value
+  value-back k l = ap signedOf (entry-at k 2 8 l (omega arith)) ∙ entry-value _ (held .values k l)
 
-  pub cost-back : (i : ℕ) → i < length (v .c) → jobCost (jobBytes v) i ≡ getD (v .c) i (pos 0)
+  pub cost-back : (i : ℕ) → i < length (v .c) → jobCost (jobBytes v) i ≡ costOf v i
   cost-back i l =
       let e : i * 8 ≡ i * 8 + 0 = omega arith in
       ap (λ (q : ℕ). signedAt (jobBytes v) (8 + q * 10 + i * 8)) count-back

@@ -8,12 +8,15 @@ use Rattle.tables.specs.Limits.{mostWagons, mostEntries}
 use Rattle.job_record.specs.Limits.{mostBytes, mostDrawn}
 use Rattle.job_record.specs.Fields.{wagons, entryCount, entryAt, rankAt, mostAt, startAt, settingsAfter}
 use Rattle.job_record.specs.Number.{jobNumber}
+use Rattle.job_record.specs.declared.reading.SettingsValues.{SettingsValues}
+use Rattle.job_record.specs.Reading.{settingsFrom, settingsValues}
 use Rattle.job_record.specs.Values.{settingsOf, drawsOf, jobRank, jobStartCount, jobDrawn}
 use Rattle.run_limits.specs.Limits.{mostStart}
 use Rattle.run_limits.proofs.Ranks.{meant-low}
 use Rattle.run_limits.proofs.Starts.{start-low}
 use Rattle.job_record.proofs.Sections.{Settings, Draws, head, run}
 use Rattle.job_record.proofs.Whole.{passed}
+use Rattle.job_record.proofs.FieldByField.{SettingsThere, settings-values-are}
 
 pub record Fields (s : List ℕ) : Type 0 where
   pub small : length s ≤ mostBytes
@@ -52,3 +55,7 @@ start-fits s e =
 
 pub drawn-fits : (s : List ℕ) → jobNumber s ≡ 0 → jobDrawn s ≤ mostDrawn
 drawn-fits s e = let f = fields s e in omega (arith, f .draws-end, f .small)
+
+-- its settings, as they were read
+pub settings-held : (s : List ℕ) → jobNumber s ≡ 0 → (v : SettingsValues) → v ≡ settingsValues (settingsFrom s (settingsOf s)) → SettingsThere s (settingsOf s) v
+settings-held s z v e = settings-values-are s (settingsOf s) refl e (fields s z .settings .there)
