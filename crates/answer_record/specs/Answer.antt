@@ -44,8 +44,8 @@ unfoldable pub refusalBytes : ℕ → List ℕ
 refusalBytes number = bytesOf 4 2 ++ bytesOf 1 1 ++ bytesOf 1 number
 
 -- what a reader of answers finds: the fields, and b
-unfoldable pub answerOf : List ℕ → Answer
-answerOf s =
+unfoldable pub fieldsRead : List ℕ → Answer
+fieldsRead s =
     record {
       status = bigEndian s 5 1;
       rank = bigEndian s 6 1;
@@ -59,8 +59,8 @@ answerOf s =
       rounds = bigEndian s 52 8;
     }
 
-abbrev pub choiceOf : List ℕ → List ℕ
-choiceOf s = take (bigEndian s 7 1) (drop 60 s)
+abbrev pub choiceRead : List ℕ → List ℕ
+choiceRead s = take (bigEndian s 7 1) (drop 60 s)
 
 -- the fields fit their bytes; those of every accepted job do (`held` of record_call)
 pub record Held (a : Answer) : Type 0 where

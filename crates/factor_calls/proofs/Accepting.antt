@@ -70,7 +70,7 @@ draws-good m rank k e =
       ltb-false mostDraws k (any-head _ _ (any-rest _ _ (any-head _ _ e))),
     )
 
-pub record Usable (m count : ℕ) (rows cols : List ℕ) (values : List ℤ) (rank factor k draws out : ℕ) : Type 0 where
+pub record RoundedUsable (m count : ℕ) (rows cols : List ℕ) (values : List ℤ) (rank factor k draws out : ℕ) : Type 0 where
   pub lent : Lent count rows cols values
   pub table : Accepted mostSigns mostSignEntries mostSignMagnitude m (tableOf count rows cols values)
   pub rank-low : rank ≤ mostRank
@@ -85,7 +85,7 @@ module _ (m count : ℕ) (rows cols : List ℕ) (values : List ℤ) (rank factor
   unfolding roundedShort
   rounded-lent s h = table-lent (any-head _ _ s) h
 
-  pub rounded-accepted : roundedNumber m count rows cols values rank factor k draws out ≡ 0 → Usable m count rows cols values rank factor k draws out
+  pub rounded-accepted : roundedNumber m count rows cols values rank factor k draws out ≡ 0 → RoundedUsable m count rows cols values rank factor k draws out
   unfolding roundedNumber roundedShort factorShort factorRefused drawsShort drawsRefused badDraws
   rounded-accepted ok =
       let later = first-rest _ _ ok in

@@ -26,7 +26,7 @@ use Rattle.table_calls.specs.declared.Eighths.{Eighths}
 use Rattle.table_calls.specs.declared.Eighths.the-variants as E
 use Rattle.table_calls.proofs.Accepting.{accepted-is}
 use Rattle.factor_calls.specs.Numbers.{roundedNumber, dualNumber}
-use Rattle.factor_calls.specs.Answers.{Rounds, Multiplies}
+use Rattle.factor_calls.specs.Answers.{RoundsFactor, Multiplies}
 use Rattle.factor_calls.specs.Draws.{FirstOfLeast}
 use Rattle.factor_calls.proofs.Accepting.{rounded-accepted, length-multipliers}
 
@@ -40,7 +40,7 @@ more a b h = go (ltZ a b) refl
 
 -- an accepted call of `compute_rounded_sol`
 module _ (m count : ℕ) (rows cols : List ℕ) (values : List ℤ) (rank : ℕ) (factor : List Float) (k : ℕ) (draws : List Float) (out : List ℕ) {answer : Eighths} {out′ : List ℕ} where
-  pub rounds-first-of-least : Rounds (roundedNumber m count rows cols values rank (length factor) k (length draws) (length out))
+  pub rounds-first-of-least : RoundsFactor (roundedNumber m count rows cols values rank (length factor) k (length draws) (length out))
       (roundedObjective factor (rankMeant m rank) m draws (tableOf count rows cols values) k)
       (roundedSol factor (rankMeant m rank) m draws (tableOf count rows cols values) k) out answer out′
       → roundedNumber m count rows cols values rank (length factor) k (length draws) (length out) ≡ 0

@@ -20,7 +20,7 @@ ghost use Rattle.run_limits.specs.Rank.{rankMeant};
 ghost use Rattle.rounding.specs.Rounding.{roundedSol, roundedObjective};
 ghost use Rattle.maxcut_oracle.specs.Whole.{wholeMultipliers};
 ghost use Rattle.factor_calls.specs.Numbers.{roundedNumber, dualNumber};
-ghost use Rattle.factor_calls.specs.Answers.{Rounds, Multiplies};
+ghost use Rattle.factor_calls.specs.Answers.{RoundsFactor, Multiplies};
 
 // Room for a direction, or for a row's sums.
 fn direction_room() -> [f64; MOST_RANK]
@@ -87,7 +87,7 @@ pub fn compute_rounded_sol(
     draws: &[f64],
     out: &mut [u8],
 ) -> Eighths
-    ensures { λ r. ⌜ Rounds (roundedNumber m count (now (rows .entry)) (now (cols .entry)) (now (values .entry)) rank (length (now (factor .entry))) «draw_count» (length (now (draws .entry))) (length (now (out .entry))))
+    ensures { λ r. ⌜ RoundsFactor (roundedNumber m count (now (rows .entry)) (now (cols .entry)) (now (values .entry)) rank (length (now (factor .entry))) «draw_count» (length (now (draws .entry))) (length (now (out .entry))))
         (roundedObjective (now (factor .entry)) (rankMeant m rank) m (now (draws .entry)) (tableOf count (now (rows .entry)) (now (cols .entry)) (now (values .entry))) «draw_count»)
         (roundedSol (now (factor .entry)) (rankMeant m rank) m (now (draws .entry)) (tableOf count (now (rows .entry)) (now (cols .entry)) (now (values .entry))) «draw_count»)
         (now (out .entry)) r (now (out .exit)) ⌝ }

@@ -6,7 +6,7 @@ ghost use Prim.Native.Nat.{_*_, _≤_, _<_};
 ghost use lib.ListN.{length, drop};
 ghost use Rattle.laws.specs.Lists.{over};
 ghost use Rattle.tables.specs.Table.{tableOf, Lent, InRange};
-ghost use Rattle.table_calls.specs.Answer.{kept, eighthsAnswer};
+ghost use Rattle.table_calls.specs.Answer.{keptIfRefused, eighthsAnswer};
 ghost use Rattle.prepared_table.specs.Work.{workRows, workCols, workValues, workStarts, diagonalOf, diagonalSum};
 ghost use Rattle.rounding.specs.Rounding.{roundedSols, roundedSol, roundedObjective};
 ghost use Rattle.maxcut_oracle.specs.Whole.{wholeMultipliers};
@@ -117,7 +117,7 @@ pub extern "C" fn host_rounded_number(
 ) -> u8
     ensures { λ r. ⌜ r ≡ numberOf (eighthsAnswer (roundedNumber m count (now (rows .entry)) (now (cols .entry)) (now (values .entry)) rank (length (now (factor .entry))) «draw_count» (length (now (draws .entry))) (length (now (out .entry))))
         (roundedObjective (now (factor .entry)) (rankMeant m rank) m (now (draws .entry)) (tableOf count (now (rows .entry)) (now (cols .entry)) (now (values .entry))) «draw_count»)) ⌝ }
-    ensures { λ _. ⌜ now (out .exit) ≡ kept (roundedNumber m count (now (rows .entry)) (now (cols .entry)) (now (values .entry)) rank (length (now (factor .entry))) «draw_count» (length (now (draws .entry))) (length (now (out .entry)))) (now (out .entry))
+    ensures { λ _. ⌜ now (out .exit) ≡ keptIfRefused (roundedNumber m count (now (rows .entry)) (now (cols .entry)) (now (values .entry)) rank (length (now (factor .entry))) «draw_count» (length (now (draws .entry))) (length (now (out .entry)))) (now (out .entry))
         (over (roundedSol (now (factor .entry)) (rankMeant m rank) m (now (draws .entry)) (tableOf count (now (rows .entry)) (now (cols .entry)) (now (values .entry))) «draw_count») (now (out .entry))) ⌝ }
 {
     number_of(factor_calls::compute_rounded_sol(
@@ -150,7 +150,7 @@ pub extern "C" fn host_rounded_objective(
 ) -> i64
     ensures { λ r. ⌜ r ≡ valueOf (eighthsAnswer (roundedNumber m count (now (rows .entry)) (now (cols .entry)) (now (values .entry)) rank (length (now (factor .entry))) «draw_count» (length (now (draws .entry))) (length (now (out .entry))))
         (roundedObjective (now (factor .entry)) (rankMeant m rank) m (now (draws .entry)) (tableOf count (now (rows .entry)) (now (cols .entry)) (now (values .entry))) «draw_count»)) ⌝ }
-    ensures { λ _. ⌜ now (out .exit) ≡ kept (roundedNumber m count (now (rows .entry)) (now (cols .entry)) (now (values .entry)) rank (length (now (factor .entry))) «draw_count» (length (now (draws .entry))) (length (now (out .entry)))) (now (out .entry))
+    ensures { λ _. ⌜ now (out .exit) ≡ keptIfRefused (roundedNumber m count (now (rows .entry)) (now (cols .entry)) (now (values .entry)) rank (length (now (factor .entry))) «draw_count» (length (now (draws .entry))) (length (now (out .entry)))) (now (out .entry))
         (over (roundedSol (now (factor .entry)) (rankMeant m rank) m (now (draws .entry)) (tableOf count (now (rows .entry)) (now (cols .entry)) (now (values .entry))) «draw_count») (now (out .entry))) ⌝ }
 {
     value_of(factor_calls::compute_rounded_sol(

@@ -19,7 +19,7 @@ use Rattle.run_limits.specs.Start.{startLength}
 use Rattle.job_reader.specs.Encode.{bytesOf}
 use Rattle.job_record.proofs.Examples.{example}
 use Rattle.job_encoding.specs.Encode.{each, entryBytes, signedBytes, doubleBytes, settingsBytes, bodyBytes, headBytes, jobBytes}
-use Rattle.job_encoding.specs.Allowed.{Held, Allowed}
+use Rattle.job_encoding.specs.Allowed.{Typed, Allowed}
 use Rattle.job_encoding.specs.Examples.{exampleValues}
 use Rattle.job_encoding.proofs.Limits.{limits-held}
 
@@ -50,7 +50,7 @@ both x y a b zero l = a
 both x y a b (suc zero) l = b
 both x y a b (suc (suc i)) l = absurd (omega arith)
 
-pub example-held : Held exampleValues
+pub example-held : Typed exampleValues
 unfolding jobBytes headBytes bodyBytes settingsBytes each entryBytes signedBytes doubleBytes bytesOf ofBits ofFields odd toBits size climb span rootFrom leastRoot defaultRank rankMeant startLength fits
 example-held =
     let ok = example-allowed in

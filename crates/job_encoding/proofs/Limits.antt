@@ -17,13 +17,13 @@ use Rattle.run_limits.specs.Start.{startLength}
 use Rattle.run_limits.specs.Momentum.{isMomentum}
 use Rattle.job_record.specs.Number.{jobNumber}
 use Rattle.job_encoding.specs.Encode.{Values, jobBytes}
-use Rattle.job_encoding.specs.Allowed.{entryOf, costOf, tableIn, rankIn, Held, Allowed}
+use Rattle.job_encoding.specs.Allowed.{entryOf, costIn, tableIn, rankIn, Typed, Allowed}
 use Rattle.job_encoding.proofs.Accepted.{accepted-back}
 
 -- n up to 127, at most 4,096 entries in range, in order and mirrored, magnitude at most 2^40; rank up to 32, rule up to 4, momentum in range; most
 -- and minimum of 4 bytes, W up to 128, start 0 to 2, 1 with a rank; the start's doubles, 1 to 1,000 draws of rank doubles each; at most 65,536 bytes
 module _ (v : Values)
-    (hall : Hall 127 4096 (2 ^ 40) (length (v .c)) (tableIn v) (costOf v))
+    (hall : Hall 127 4096 (2 ^ 40) (length (v .c)) (tableIn v) (costIn v))
     (rank : v .rank ≤ 32) (rule : v .rule ≤ 4) (momentum : v .rule ≡ 4 → isMomentum (v .ruleNumber) ≡ true)
     (most : v .most < 2 ^ 32) (minimum : v .minimum < 2 ^ 32)
     (width : v .width ≤ 128) (start : v .start ≤ 2) (given : v .start ≡ 1 → v .rank ≡ 0 → ⊥)
@@ -34,7 +34,7 @@ module _ (v : Values)
     (number : T (fits binary64 (v .ruleNumber))) (objective : T (fits binary64 (v .objectiveTolerance))) (stationarity : T (fits binary64 (v .stationarityTolerance)))
     (starts : (i : ℕ) → i < length (v .startNumbers) → T (fits binary64 (getD (v .startNumbers) i nan)))
     (drawn : (i : ℕ) → i < length (v .draws) → T (fits binary64 (getD (v .draws) i nan))) where
-  pub limits-held : Held v
+  pub limits-held : Typed v
   limits-held =
       record {
         n = omega (arith, hall .wagons);
@@ -42,7 +42,7 @@ module _ (v : Values)
         rows = λ k l. omega (arith, hall .in-range .rows-in k l, hall .wagons);
         columns = λ k l. omega (arith, hall .in-range .cols-in k l, hall .wagons);
         values = λ k l. fits-abs (entryOf v k .value) (omega (arith, total-at (length (v .entries)) k (λ j. natAbs (entryOf v j .value)) l, hall .magnitude));
-        costs = λ i l. fits-abs (costOf v i) (omega (arith, total-at (length (v .c)) i (λ j. natAbs (costOf v j)) l, hall .magnitude));
+        costs = λ i l. fits-abs (costIn v i) (omega (arith, total-at (length (v .c)) i (λ j. natAbs (costIn v j)) l, hall .magnitude));
         rank = omega arith;
         rule = omega arith;
         ruleNumber = number;

@@ -25,8 +25,8 @@ noEntry = record { row = 0; column = 0; value = pos 0 }
 abbrev pub entryOf : Values → ℕ → Entry
 entryOf v k = getD (v .entries) k noEntry
 
-abbrev pub costOf : Values → ℕ → ℤ
-costOf v i = getD (v .c) i (pos 0)
+abbrev pub costIn : Values → ℕ → ℤ
+costIn v i = getD (v .c) i (pos 0)
 
 -- H as a table
 abbrev pub tableIn : Values → Table
@@ -37,13 +37,13 @@ abbrev pub rankIn : Values → ℕ
 rankIn v = rankMeant (length (v .c) + 1) (v .rank)
 
 -- each value is of its field's type, and the start has as many doubles as its kind asks
-pub record Held (v : Values) : Type 0 where
+pub record Typed (v : Values) : Type 0 where
   pub n : length (v .c) < 2 ^ 8
   pub count : length (v .entries) < 2 ^ 16
   pub rows : (k : ℕ) → k < length (v .entries) → entryOf v k .row < 2 ^ 8
   pub columns : (k : ℕ) → k < length (v .entries) → entryOf v k .column < 2 ^ 8
   pub values : (k : ℕ) → k < length (v .entries) → SFits w64 (entryOf v k .value)
-  pub costs : (i : ℕ) → i < length (v .c) → SFits w64 (costOf v i)
+  pub costs : (i : ℕ) → i < length (v .c) → SFits w64 (costIn v i)
   pub rank : v .rank < 2 ^ 8
   pub rule : v .rule < 2 ^ 8
   pub ruleNumber : T (fits binary64 (v .ruleNumber))
@@ -60,7 +60,7 @@ pub record Held (v : Values) : Type 0 where
 
 -- what 01 asks of them
 pub record Allowed (v : Values) : Type 0 where
-  pub hall : Hall mostWagons mostEntries mostMagnitude (length (v .c)) (tableIn v) (costOf v)
+  pub hall : Hall mostWagons mostEntries mostMagnitude (length (v .c)) (tableIn v) (costIn v)
   pub rank : v .rank ≤ mostRank
   pub rule : v .rule ≤ lastRule
   pub momentum : v .rule ≡ 4 → isMomentum (v .ruleNumber) ≡ true

@@ -28,7 +28,7 @@ use Rattle.job_record.specs.declared.reading.SettingsFields.{SettingsFie
 use Rattle.job_record.specs.declared.reading.SettingsValues.{SettingsValues}
 use Rattle.job_record.specs.Limits.{mostBytes, lastRule, lastStart}
 use Rattle.job_record.specs.Fields.{wagons, entryCount, rankAt, ruleAt, ruleNumberAt, mostAt, minimumAt, objectiveToleranceAt, stationarityToleranceAt, widthAt, startAt}
-use Rattle.job_record.specs.Number.{past, bounded, frameNumber, versionNumber, momentumNumber, headNumbers, settingsNumbers}
+use Rattle.job_record.specs.Number.{endsBefore, boundedNumber, frameNumber, versionNumber, momentumNumber, headNumbers, settingsNumbers}
 use Rattle.job_record.specs.Reading.{headOf, settingsFrom, headValues, settingsValues, isShort, fieldNumber, frameJudged, headJudged, ruleJudged, startJudged, settingsJudged}
 use Rattle.job_record.proofs.Bounded.{bounded-passed}
 use Rattle.job_record.proofs.Whole.{or-join}
@@ -59,33 +59,33 @@ module _ (s : List ℕ) (at : ℕ) (ws : List ℕ) (w : ℕ) where
 -- ---- numbers
 
 module _ (s : List ℕ) (at w : ℕ) where
-  field-judged : (wrong : ℕ → Bool) (k : ℕ) → fieldNumber (fieldAt s at w) wrong k ≡ first (11 if past s (at + w) ∷ k if wrong (bigEndian s at w) ∷ [])
+  field-judged : (wrong : ℕ → Bool) (k : ℕ) → fieldNumber (fieldAt s at w) wrong k ≡ first (11 if endsBefore s (at + w) ∷ k if wrong (bigEndian s at w) ∷ [])
   field-judged wrong k = go (leb (at + w) (length s)) refl
     where
-      go : (t : Bool) → leb (at + w) (length s) ≡ t → fieldNumber (cond t (Value (bigEndian s at w) (at + w)) Short) wrong k ≡ first (11 if past s (at + w) ∷ k if wrong (bigEndian s at w) ∷ [])
-      go true q = moves-on-if 11 (past s (at + w)) (k if wrong (bigEndian s at w) ∷ []) (le-ltb (length s) (at + w) (leb-true (at + w) (length s) q)) (answers-last (k if wrong (bigEndian s at w)) refl)
-      go false q = answers-if 10 (past s (at + w)) (k if wrong (bigEndian s at w) ∷ []) (lt-ltb (length s) (at + w) (leb-false (at + w) (length s) q))
+      go : (t : Bool) → leb (at + w) (length s) ≡ t → fieldNumber (cond t (Value (bigEndian s at w) (at + w)) Short) wrong k ≡ first (11 if endsBefore s (at + w) ∷ k if wrong (bigEndian s at w) ∷ [])
+      go true q = moves-on-if 11 (endsBefore s (at + w)) (k if wrong (bigEndian s at w) ∷ []) (le-ltb (length s) (at + w) (leb-true (at + w) (length s) q)) (answers-last (k if wrong (bigEndian s at w)) refl)
+      go false q = answers-if 10 (endsBefore s (at + w)) (k if wrong (bigEndian s at w) ∷ []) (lt-ltb (length s) (at + w) (leb-false (at + w) (length s) q))
 
-  field-bounded : (most k : ℕ) → fieldNumber (fieldAt s at w) (ltb most) k ≡ bounded s at w most k
-  unfolding bounded
+  field-bounded : (most k : ℕ) → fieldNumber (fieldAt s at w) (ltb most) k ≡ boundedNumber s at w most k
+  unfolding boundedNumber
   field-bounded most k = field-judged (ltb most) k
 
-  field-short : isShort (fieldAt s at w) ≡ past s (at + w)
+  field-short : isShort (fieldAt s at w) ≡ endsBefore s (at + w)
   field-short = go (leb (at + w) (length s)) refl
     where
-      go : (t : Bool) → leb (at + w) (length s) ≡ t → isShort (cond t (Value (bigEndian s at w) (at + w)) Short) ≡ past s (at + w)
+      go : (t : Bool) → leb (at + w) (length s) ≡ t → isShort (cond t (Value (bigEndian s at w) (at + w)) Short) ≡ endsBefore s (at + w)
       go true q = sym (le-ltb (length s) (at + w) (leb-true (at + w) (length s) q))
       go false q = sym (lt-ltb (length s) (at + w) (leb-false (at + w) (length s) q))
 
 abbrev framed : List ℕ → ℕ
 framed s = 11 if not (eqb (4 + bigEndian s 0 4) (length s))
 
-frame-judged : (s : List ℕ) → frameJudged (length s) (fieldAt s 0 4) ≡ first (11 if past s 4 ∷ framed s ∷ [])
+frame-judged : (s : List ℕ) → frameJudged (length s) (fieldAt s 0 4) ≡ first (11 if endsBefore s 4 ∷ framed s ∷ [])
 frame-judged s = go (leb 4 (length s)) refl
   where
-    go : (t : Bool) → leb 4 (length s) ≡ t → frameJudged (length s) (cond t (Value (bigEndian s 0 4) 4) Short) ≡ first (11 if past s 4 ∷ framed s ∷ [])
-    go true q = moves-on-if 11 (past s 4) (framed s ∷ []) (le-ltb (length s) 4 (leb-true 4 (length s) q)) (answers-last (framed s) refl)
-    go false q = answers-if 10 (past s 4) (framed s ∷ []) (lt-ltb (length s) 4 (leb-false 4 (length s) q))
+    go : (t : Bool) → leb 4 (length s) ≡ t → frameJudged (length s) (cond t (Value (bigEndian s 0 4) 4) Short) ≡ first (11 if endsBefore s 4 ∷ framed s ∷ [])
+    go true q = moves-on-if 11 (endsBefore s 4) (framed s ∷ []) (le-ltb (length s) 4 (leb-true 4 (length s) q)) (answers-last (framed s) refl)
+    go false q = answers-if 10 (endsBefore s 4) (framed s ∷ []) (lt-ltb (length s) 4 (leb-false 4 (length s) q))
 
 -- a field that was read, by what a match finds
 module _ {f : Field} {v next : ℕ} (e : f ≡ Value v next) where
@@ -106,7 +106,7 @@ module _ {f : Field} {v next : ℕ} (e : f ≡ Value v next) where
 
 -- the field of w bytes at `at`: its limit, and its value where it is there
 module _ (s : List ℕ) (at w : ℕ) {f : Field} (e : f ≡ fieldAt s at w) where
-  pub field-limit : (most k : ℕ) {r : ℕ} → r ≡ fieldNumber f (ltb most) k → r ≡ bounded s at w most k
+  pub field-limit : (most k : ℕ) {r : ℕ} → r ≡ fieldNumber f (ltb most) k → r ≡ boundedNumber s at w most k
   field-limit most k q = q ∙ ap (λ (g : Field). fieldNumber g (ltb most) k) e ∙ field-bounded s at w most k
 
   pub field-there : at + w ≤ length s → f ≡ Value (bigEndian s at w) (at + w)
@@ -128,7 +128,7 @@ version-there : (s : List ℕ) → versionNumber s ≡ 0 → 5 ≤ length s
 unfolding versionNumber
 version-there s e = ltb-false _ _ (clear _ 10 (first-head _ _ e))
 
-frame-there : (s : List ℕ) → first (11 if past s 4 ∷ framed s ∷ []) ≡ 0 → 4 ≤ length s
+frame-there : (s : List ℕ) → first (11 if endsBefore s 4 ∷ framed s ∷ []) ≡ 0 → 4 ≤ length s
 frame-there s e = ltb-false _ _ (clear _ 10 (first-head _ _ e))
 
 version-judged : (s : List ℕ) → fieldNumber (fieldAt s 4 1) (λ v. not (eqb v 1)) 12 ≡ versionNumber s
@@ -137,14 +137,14 @@ version-judged s = field-judged s 4 1 (λ v. not (eqb v 1)) 12
 
 head-numbers : (s : List ℕ) → first (headNumbers s)
     ≡ first (11 if ltb mostBytes (length s)
-    ∷ first (11 if past s 4 ∷ framed s ∷ [])
+    ∷ first (11 if endsBefore s 4 ∷ framed s ∷ [])
     ∷ versionNumber s
-    ∷ bounded s 5 1 mostWagons 13
-    ∷ bounded s 6 2 mostEntries 13
+    ∷ boundedNumber s 5 1 mostWagons 13
+    ∷ boundedNumber s 6 2 mostEntries 13
     ∷ [])
 unfolding headNumbers frameNumber first
 head-numbers s =
-    sym (or-join (11 if ltb mostBytes (length s)) (first (11 if past s 4 ∷ framed s ∷ [])) (first (versionNumber s ∷ bounded s 5 1 mostWagons 13 ∷ bounded s 6 2 mostEntries 13 ∷ [])))
+    sym (or-join (11 if ltb mostBytes (length s)) (first (11 if endsBefore s 4 ∷ framed s ∷ [])) (first (versionNumber s ∷ boundedNumber s 5 1 mostWagons 13 ∷ boundedNumber s 6 2 mostEntries 13 ∷ [])))
 
 pub head-judged : (s : List ℕ) → first (headJudged (length s) (headOf s)) ≡ first (headNumbers s)
 unfolding headOf
@@ -161,12 +161,12 @@ or-step true t f = t refl
 or-step false t f = f refl
 
 module _ (s : List ℕ) (at : ℕ) where
-  taken-short : (ws : List ℕ) (w : ℕ) → at + widths ws ≤ length s → isShort (taken s at ws w) ≡ past s (at + widths ws + w)
+  taken-short : (ws : List ℕ) (w : ℕ) → at + widths ws ≤ length s → isShort (taken s at ws w) ≡ endsBefore s (at + widths ws + w)
   taken-short ws w h = ap isShort (reached s at ws w h) ∙ field-short s (at + widths ws) w
 
   -- most, minimum and the two tolerances
   limits-judged : at + 10 ≤ length s
-      → (isShort (taken s at (1 ∷ 1 ∷ 8 ∷ []) 4) || (isShort (taken s at (1 ∷ 1 ∷ 8 ∷ 4 ∷ []) 4) || (isShort (taken s at (1 ∷ 1 ∷ 8 ∷ 4 ∷ 4 ∷ []) 8) || isShort (taken s at (1 ∷ 1 ∷ 8 ∷ 4 ∷ 4 ∷ 8 ∷ []) 8)))) ≡ past s (at + 34)
+      → (isShort (taken s at (1 ∷ 1 ∷ 8 ∷ []) 4) || (isShort (taken s at (1 ∷ 1 ∷ 8 ∷ 4 ∷ []) 4) || (isShort (taken s at (1 ∷ 1 ∷ 8 ∷ 4 ∷ 4 ∷ []) 8) || isShort (taken s at (1 ∷ 1 ∷ 8 ∷ 4 ∷ 4 ∷ 8 ∷ []) 8)))) ≡ endsBefore s (at + 34)
   limits-judged h₁ =
       let e₁ = taken-short (1 ∷ 1 ∷ 8 ∷ []) 4 h₁ in
       or-step _ (λ t. let l = ltb-true (length s) (at + 10 + 4) (sym e₁ ∙ t) in sym (lt-ltb (length s) (at + 34) (omega (arith, l)))) (λ f₁. let h₂ = ltb-false (length s) (at + 10 + 4) (sym e₁ ∙ f₁) in
@@ -175,7 +175,7 @@ module _ (s : List ℕ) (at : ℕ) where
       let e₃ = taken-short (1 ∷ 1 ∷ 8 ∷ 4 ∷ 4 ∷ []) 8 (omega (arith, h₃)) in
       or-step _ (λ t. let l = ltb-true (length s) (at + 18 + 8) (sym e₃ ∙ t) in sym (lt-ltb (length s) (at + 34) (omega (arith, l)))) (λ f₃. let h₄ = ltb-false (length s) (at + 18 + 8) (sym e₃ ∙ f₃) in
       let sum : at + 26 + 8 ≡ at + 34 = omega arith in
-      taken-short (1 ∷ 1 ∷ 8 ∷ 4 ∷ 4 ∷ 8 ∷ []) 8 (omega (arith, h₄)) ∙ ap (past s) sum)))
+      taken-short (1 ∷ 1 ∷ 8 ∷ 4 ∷ 4 ∷ 8 ∷ []) 8 (omega (arith, h₄)) ∙ ap (endsBefore s) sum)))
 
   rule-judged : at + 2 ≤ length s → fieldNumber (taken s at (1 ∷ 1 ∷ []) 8) (λ bits. eqb (valueOf (taken s at (1 ∷ []) 1)) 4 && not (isMomentum (doubleOf bits))) 18 ≡ momentumNumber s at
   unfolding momentumNumber
@@ -184,7 +184,7 @@ module _ (s : List ℕ) (at : ℕ) where
       ap (λ (f : Field). fieldNumber f (λ bits. eqb (valueOf (taken s at (1 ∷ []) 1)) 4 && not (isMomentum (doubleOf bits))) 18) (reached s at (1 ∷ 1 ∷ []) 8 h)
       ∙ ap (λ (f : Field). fieldNumber (fieldAt s (at + 2) 8) (λ bits. eqb (valueOf f) 4 && not (isMomentum (doubleOf bits))) 18) (there s at (1 ∷ []) 1 (omega arith))
       ∙ field-judged s (at + 2) 8 (λ bits. eqb (ruleAt s at) 4 && not (isMomentum (doubleOf bits))) 18
-      ∙ ap (λ (e : ℕ). first (11 if past s e ∷ 18 if (eqb (ruleAt s at) 4 && not (isMomentum (ruleNumberAt s at))) ∷ [])) sum
+      ∙ ap (λ (e : ℕ). first (11 if endsBefore s e ∷ 18 if (eqb (ruleAt s at) 4 && not (isMomentum (ruleNumberAt s at))) ∷ [])) sum
 
   momentum-there : momentumNumber s at ≡ 0 → at + 10 ≤ length s
   unfolding momentumNumber

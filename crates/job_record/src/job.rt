@@ -26,7 +26,7 @@ ghost use Rattle.job_record.specs.Limits.{mostBytes, mostDrawn};
 ghost use Rattle.job_record.specs.Fields.{wagons, entryCount};
 ghost use Rattle.job_record.specs.Number.{jobNumber};
 ghost use Rattle.job_record.specs.Reading.{settingsFrom, settingsValues};
-ghost use Rattle.job_record.specs.Values.{settingsOf, drawsOf, jobOf, jobRank, jobStartCount, jobStart, jobDrawn, jobDraw, Stored};
+ghost use Rattle.job_record.specs.Values.{settingsPlace, drawsPlace, jobOf, jobRank, jobStartCount, jobStart, jobDrawn, jobDraw, Stored};
 
 // The fields of one number each: the rank as given (0 means the default rank), the rule's code, the start's kind.
 pub struct Job {
@@ -56,7 +56,7 @@ fn accepted_head(job: &[u8]) -> HeadValues
 // And of its settings.
 fn accepted_settings(job: &[u8]) -> SettingsValues
     requires { ⌜ jobNumber (now job) ≡ 0 ⌝ }
-    ensures { λ r. ⌜ (r ≡ settingsValues (settingsFrom (now (job .entry)) (settingsOf (now (job .entry))))) × (r .most < 2 ^ 32) × (r .minimum < 2 ^ 32) ⌝ }
+    ensures { λ r. ⌜ (r ≡ settingsValues (settingsFrom (now (job .entry)) (settingsPlace (now (job .entry))))) × (r .most < 2 ^ 32) × (r .minimum < 2 ^ 32) ⌝ }
 {
     let head = accepted_head(job);
     let f = read_settings(job, settings_at(head.n as usize, head.count as usize));
@@ -87,7 +87,7 @@ pub fn job_start_count(job: &[u8]) -> usize
 // Where the start's doubles stand: behind the settings.
 fn start_at(job: &[u8]) -> usize
     requires { ⌜ jobNumber (now job) ≡ 0 ⌝ }
-    ensures { λ r. ⌜ (r ≡ settingsOf (now (job .entry)) + 36) × (r ≤ mostBytes) ⌝ }
+    ensures { λ r. ⌜ (r ≡ settingsPlace (now (job .entry)) + 36) × (r ≤ mostBytes) ⌝ }
 {
     let f = accepted_settings(job);
     f.next
@@ -96,7 +96,7 @@ fn start_at(job: &[u8]) -> usize
 // Where the draw count stands: behind them.
 fn draws_at(job: &[u8]) -> usize
     requires { ⌜ jobNumber (now job) ≡ 0 ⌝ }
-    ensures { λ r. ⌜ (r ≡ drawsOf (now (job .entry))) × (r ≤ mostBytes) ⌝ }
+    ensures { λ r. ⌜ (r ≡ drawsPlace (now (job .entry))) × (r ≤ mostBytes) ⌝ }
 {
     start_at(job) + job_start_count(job) * 8
 }

@@ -22,7 +22,7 @@ use Rattle.run_record.specs.declared.Run.{Run}
 use Rattle.run_limits.specs.Limits.{mostRank, searchWorkspace}
 use Rattle.run_limits.specs.Momentum.{isMomentum}
 use Rattle.run_limits.specs.Start.{isSigns, drawsFollow, startLength}
-use Rattle.run_record.specs.Numbers.{isStopped, tableShort, tableNumber, badMomentum, sweepNumber, FinishLengths, widthRefused, finishNumber, openRankRefused}
+use Rattle.run_record.specs.Numbers.{isStopped, tableShort, costTableNumber, badMomentum, sweepNumber, FinishLengths, widthRefused, finishNumber, openRankRefused}
 use Rattle.run_limits.proofs.Ranks.{meant-low, meant-some}
 use Rattle.run_sweep.specs.Work.{Work, callWork}
 use Rattle.run_sweep.specs.Sweep.{State, sweepsUpTo}
@@ -93,7 +93,7 @@ some-left zero e = absurd (let z : _≡_ {A = ℕ} 0 1 = cc in omega arith)
 some-left (suc most) e = omega arith
 
 module _ (s : List ℕ) (e : jobNumber s ≡ 0) where
-  pub costs-pass : tableNumber (jobCosts s) ≡ 0
+  pub costs-pass : costTableNumber (jobCosts s) ≡ 0
   unfolding jobCosts
   costs-pass = listed (wagons s) (entryCount s) (row s) (column s) (value s) (jobCost s) ∙ hall s e
 

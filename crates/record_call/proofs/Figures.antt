@@ -24,10 +24,10 @@ use Rattle.tables.specs.Limits.{mostWagons, mostEntries, mostMagnitude}
 use Rattle.tables.proofs.Checks.{hall-accepted}
 use Rattle.tables.proofs.Shares.{abs-least}
 use Rattle.sign_table.specs.SignTable.{signTable}
-use Rattle.sign_table.proofs.Theorems.{house-sign-table}
+use Rattle.sign_table.proofs.Theorems.{hall-sign-table}
 use Rattle.sign_search.proofs.Lawful.{objective-abs}
 use Rattle.sign_search.proofs.HallTheorems.{hall-mirrors}
-use Rattle.finalize.specs.Finalize.{floatBound, floorEighths, multipliersOf, roundedSigns, roundedCost, searched, searchedChoice, searchedCost, searchedRounds}
+use Rattle.finalize.specs.Finalize.{floatBound, floorEighths, multipliersOf, roundedSigns, roundedCost, searchResult, searchedChoice, searchedCost, searchedRounds}
 use Rattle.finalize.specs.Demand3.{Demand3}
 use Rattle.finalize.proofs.Demand3.{demand3, unsearched}
 use Rattle.run_record.specs.CostTable.{quadratic, linear}
@@ -35,7 +35,7 @@ use Rattle.run_contract.specs.Calls.{finishResult}
 use Rattle.run_contract.specs.PlainRun.{recordOf}
 use Rattle.job_reader.specs.Bytes.{bigEndian}
 use Rattle.job_record.specs.Number.{jobNumber}
-use Rattle.job_record.specs.Values.{jobOf, settingsOf}
+use Rattle.job_record.specs.Values.{jobOf, settingsPlace}
 use Rattle.answer_record.specs.Answer.{Held}
 use Rattle.record_call.specs.Record.{jobCosts, jobDraws, stopped, jobResult, fieldsOf}
 use Rattle.record_call.proofs.Accepted.{costs-pass, few, stops, rank-few}
@@ -44,7 +44,7 @@ use Rattle.record_call.proofs.Accepted.{costs-pass, few, stops, rank-fe
 
 module _ {n : ℕ} {h : Table} {c : ℕ → ℤ} (hall : Hall mostWagons mostEntries mostMagnitude n h c) (rank : ℕ) (factor draws : List Float) (drawCount width : ℕ) where
   small : magnitudeOf (signTable n h c) ≤ 2 ^ 42
-  small = house-sign-table hall .magnitude
+  small = hall-sign-table hall .magnitude
 
   floor-low : natAbs (floorEighths n h c) ≤ 2 ^ 42
   unfolding floorEighths
@@ -60,7 +60,7 @@ module _ {n : ℕ} {h : Table} {c : ℕ → ℤ} (hall : Hall mostWagons mostEnt
 
   cost-low : natAbs (searchedCost n h c rank factor draws drawCount width) ≤ 2 ^ 43
   unfolding searchedCost
-  cost-low = objective-abs (hall-mirrors hall) small (searched n h c rank factor draws drawCount width .answer)
+  cost-low = objective-abs (hall-mirrors hall) small (searchResult n h c rank factor draws drawCount width .answer)
 
   pub floor-fits : SFits w64 (floorEighths n h c)
   floor-fits = fits-abs (floorEighths n h c) (lt-of-le-of-lt floor-low (omega arith))
@@ -135,7 +135,7 @@ module _ (s : List ℕ) (e : jobNumber s ≡ 0) where
 
   most-low : ((i : ℕ) → getD s i 0 < 256) → jobOf s .most < 2 ^ 32
   unfolding jobOf
-  most-low bytes = read-low s bytes (settingsOf s + 10) 4
+  most-low bytes = read-low s bytes (settingsPlace s + 10) 4
 
   -- each double is a sum or a difference, rounded
   relaxed-fits : T (fits binary64 (jobResult s .«relaxed_objective»))

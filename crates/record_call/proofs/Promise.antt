@@ -64,10 +64,10 @@ module _ (s : List ℕ) (e : jobNumber s ≡ 0) where
     abbrev left : List ℕ
     left = over (answerBytes (fieldsOf (jobResult s)) (jobChoice s)) out
 
-    pub fields-read : Read.answerOf left ≡ fieldsOf (jobResult s)
+    pub fields-read : Read.fieldsRead left ≡ fieldsOf (jobResult s)
     fields-read = answer-back (fieldsOf (jobResult s)) (jobChoice s) out (held s e bytes)
 
-    pub choice-read : Read.choiceOf left ≡ jobChoice s
+    pub choice-read : Read.choiceRead left ≡ jobChoice s
     choice-read =
         choice-back (fieldsOf (jobResult s)) (jobChoice s) out (held s e bytes) (omega (arith, n-is s e, choice-size))
         ∙ take-all (jobResult s .n) (jobChoice s) (omega (arith, n-is s e, choice-size))

@@ -73,7 +73,7 @@ fieldsOf x =
     }
 
 -- the number, and the answer's bytes
-pub record Answered : Type 0 where
+pub record JobAnswer : Type 0 where
   pub number : ℕ
   pub bytes : List ℕ
 
@@ -84,7 +84,7 @@ bytesBy (suc k) s = refusalBytes (suc k)
 
 -- of a job's bytes: "An accepted job's answer record holds what a finish gives after that job's open and, where its most is above 0, a sweep up
 -- to the most."
-unfoldable pub answerOf : List ℕ → Answered
+unfoldable pub answerOf : List ℕ → JobAnswer
 answerOf s = record { number = jobNumber s; bytes = bytesBy (jobNumber s) s }
 
 -- ---- the call, lent a workspace of so many bytes and an answer slice

@@ -10,7 +10,7 @@ ghost use Rattle.laws.specs.Lists.{tabulate};
 ghost use Rattle.ieee.specs.Floats.{zero64};
 ghost use Rattle.factor.specs.Vectors.{unit};
 ghost use Rattle.tables.specs.Table.{tableOf, Lent, InRange, magnitudeOf};
-ghost use Rattle.rounding.specs.Rounding.{signByte, roundedSign, drawSigns, signsOf, roundedSols, drawObjective, roundedSol, roundedObjective};
+ghost use Rattle.rounding.specs.Rounding.{plusByte, roundedSign, drawSigns, signsOf, roundedSols, drawObjective, roundedSol, roundedObjective};
 use factor::rows::copy;
 use factor::rows::normalize;
 use factor::rows::row;
@@ -20,7 +20,7 @@ use tables::objective::obj_rounded;
 
 // A sign's byte: 0 is +, 1 is −.
 fn sign_byte(product: f64) -> u8
-    ensures { λ r. ⌜ r ≡ signByte (Ieee.lt zero64 product) ⌝ }
+    ensures { λ r. ⌜ r ≡ plusByte (Ieee.lt zero64 product) ⌝ }
 {
     if product > 0.0 {
         return 0;

@@ -103,7 +103,7 @@ unfolding plainOpen PlainRun.sweptFactor PlainRun.swept PlainRun.checked PlainRu
     Checking.residualRow Checking.residualOf Checking.frobenius Checking.thresholdOf Objective.objOf Oracle.workObjective Initialize.startRows
     Vectors.subScaled Vectors.multiplied Vectors.projected Multiply.gradOf
     Finalize.floorEighths Finalize.floatBound Finalize.diagonalTotal Finalize.multipliersOf Finalize.roundedCost Finalize.searchedChoice Finalize.searchedCost Finalize.searchedRounds
-    Finalize.choiceOf Finalize.roundedSigns Finalize.searched
+    Finalize.choiceOf Finalize.roundedSigns Finalize.searchResult
     ofBits toBits ofInt add sub mul div neg lt le Sqrt.sqrtOf Floats.eighthOf Sum.sum Sum.sum₂ Rows.mapFirst Turns.upTo
     Lists.anyBelow Lists.tabulate Lists.kept Table.share Table.least Table.valueAt Table.storedAt Flip.flipChange Cost.decodedByte Bound.boundTerm Bound.boundSum
     Bound.magnitudeSum Bound.margin Bound.entrywise SignTable.absorbed SignTable.signValue Stored.rowPlaces Stored.places SignTable.signKept SignTable.signPlaces

@@ -17,7 +17,7 @@ use Rattle.laws.proofs.Any.{any-here, any-skip, any-last}
 use Rattle.step_rules.specs.declared.StepRule.{StepRule}
 use Rattle.step_rules.specs.declared.StepRule.the-variants.{Grad, GradAdv, Coord, CoordNoStep, CoordMomentum}
 use Rattle.step_rules.specs.Rule.{testsObjective}
-use Rattle.run_sweep.specs.Sweep.{checkDue, magnitude, stopStatus}
+use Rattle.run_sweep.specs.Sweep.{checkDue, absolute, stopStatus}
 use Rattle.run_contract.specs.Schedule.{Due, at-first, at-minimum, at-most, at-twenty, isDue, coordinateMomentum, isNone, abs, Look, isStationary, isSteady, hasRisen, endsBy, verdict}
 
 -- ---- the schedule
@@ -131,11 +131,11 @@ minus-is m e = lt-ltb 0 (suc m * up e * 1 + 0 * 1 * down e) (omega (arith, mul-p
 abbrev turnedIf : Bool → Float → Float
 turnedIf below0 x = cond below0 (neg x) x
 
-nan-below : (t : Float) → lt (abs nan) t ≡ lt (magnitude nan) t
+nan-below : (t : Float) → lt (abs nan) t ≡ lt (absolute nan) t
 unfolding lt
 nan-below t = refl
 
-inf-below : (s : Bool) (t : Float) → lt (abs (inf s)) t ≡ lt (magnitude (inf s)) t
+inf-below : (s : Bool) (t : Float) → lt (abs (inf s)) t ≡ lt (absolute (inf s)) t
 unfolding lt neg ofBits
 inf-below true t = refl
 inf-below false t = refl
@@ -144,7 +144,7 @@ turned-below : (m : ℕ) (e : ℤ) (t : Float) → lt (fin false (suc m) e) t �
 unfolding neg
 turned-below m e t = refl
 
-pub abs-below : (x t : Float) → lt (abs x) t ≡ lt (magnitude x) t
+pub abs-below : (x t : Float) → lt (abs x) t ≡ lt (absolute x) t
 abs-below nan t = nan-below t
 abs-below (inf true) t = inf-below true t
 abs-below (inf false) t = inf-below false t

@@ -19,7 +19,7 @@ use Rattle.run_limits.specs.Limits.{searchWorkspace}
 use Rattle.run_limits.specs.Rank.{rankMeant}
 use Rattle.run_limits.specs.Start.{isSigns, drawsFollow}
 use Rattle.run_record.specs.Numbers.{openNumber, sweepNumber, FinishLengths, finishNumber}
-use Rattle.run_sweep.specs.Work.{signsOf, callWork}
+use Rattle.run_sweep.specs.Work.{signTableOf, callWork}
 use Rattle.run_sweep.specs.Sweep.{sweepsUpTo}
 use Rattle.finalize.specs.Finalize.{diagonalTotal, floatBound, floorEighths, roundedCost, searchedChoice, searchedCost, searchedRounds, multipliersOf}
 use Rattle.finalize.specs.Demand3.{Demand3}
@@ -91,7 +91,7 @@ openRun o =
       rank = openRank o;
       rule = ruleOf (o .rule) (o .number);
       sweeps = 0;
-      «last_objective» = workObjective (signsOf (o .table)) (openRank o) (startFactor o);
+      «last_objective» = workObjective (signTableOf (o .table)) (openRank o) (startFactor o);
       «objective_tolerance» = o .objective-tolerance;
       «stationarity_tolerance» = o .stationarity-tolerance;
       most = o .most;

@@ -1,6 +1,6 @@
 -- 01's plain run ("Run", second paragraph): sweep by sweep, on a state of its own. Definitions only.
 --
--- What it shares with the contracts of open, sweep and finish: the table as a sweep takes it (`callWork`, and `signsOf` for the last objective at
+-- What it shares with the contracts of open, sweep and finish: the table as a sweep takes it (`callWork`, and `signTableOf` for the last objective at
 -- the open), one sweep of a rule (`stepped`), a check's objective, residual and threshold (`checkObjective`, `checkResidual`, `checkThreshold`),
 -- 000's objective of a start (`workObjective`), the start's factor with the size and rank meant (`startFactor`, `openSize`, `openRank`), the rule
 -- of a number (`ruleOf`), what an accepted finish gives of a factor (`finishResult`, `finishChoice`, `finishMultipliers`), and the numbers
@@ -22,7 +22,7 @@ use Rattle.run_record.specs.declared.Stage.the-variants.{Open, Stopped}
 use Rattle.run_record.specs.declared.Run.{Run}
 use Rattle.run_record.specs.CostTable.{CostTable}
 use Rattle.run_record.specs.Numbers.{sweepNumber, FinishLengths, finishNumber}
-use Rattle.run_sweep.specs.Work.{Work, signsOf, callWork}
+use Rattle.run_sweep.specs.Work.{Work, signTableOf, callWork}
 use Rattle.run_contract.specs.declared.FinishResult.{FinishResult}
 use Rattle.run_contract.specs.Calls.{Settings, openSize, openRank, startFactor, finishResult, finishChoice, finishMultipliers}
 use Rattle.run_contract.specs.Schedule.{isDue, coordinateMomentum, Look, verdict}
@@ -79,7 +79,7 @@ plainOpen o =
       most = o .most;
       minimum = o .minimum;
       sweeps = 0;
-      last = workObjective (signsOf (o .table)) (openRank o) (startFactor o);
+      last = workObjective (signTableOf (o .table)) (openRank o) (startFactor o);
       stage = cond (eqb (o .most) 0) Stopped Open;
       status = 0;
     }

@@ -26,7 +26,7 @@ use Rattle.run_record.specs.declared.Stage.{Stage}
 use Rattle.run_record.specs.declared.Stage.the-variants.{Open, Stopped}
 use Rattle.run_record.specs.declared.Run.{Run}
 use Rattle.run_record.specs.CostTable.{CostTable, quadratic, linear}
-use Rattle.run_record.specs.Numbers.{isStopped, tableShort, factorRefused, factorShort, ownFaults, ownRefused, recordRefused, tableNumber, badMomentum, sweepShort, sweepNumber, drawsRefused, drawsShort, choiceShort, FinishLengths, finishShort, widthRefused, finishNumber, openRankRefused, startShort, openFactorShort, openShort, ruleRefused, openNumber}
+use Rattle.run_record.specs.Numbers.{isStopped, tableShort, factorRefused, factorShort, ownFaults, ownRefused, recordRefused, costTableNumber, badMomentum, sweepShort, sweepNumber, drawsRefused, drawsShort, choiceShort, FinishLengths, finishShort, widthRefused, finishNumber, openRankRefused, startShort, openFactorShort, openShort, ruleRefused, openNumber}
 use Rattle.run_record.specs.Conditions.{Clause, Answered, BadSize, wagons-above, entries-above, BadEntry, row-out, column-out, out-of-order, Unmirrored, TooLarge, tableClauses, BadRank, rank-high, rank-missing, Finite, Momentum, BadRule, rule-above, no-momentum, BadMomentum, BadDraws, width-above, draws-none, draws-above, OwnFault, rank-none, rank-above, sweeps-above, most-while-open, status-above, status-while-open, BadRecord, sizes-disagree, own-fault, TableTooShort, rows-short, cols-short, values-short, costs-short, FactorTooShort, DrawsTooShort, SweepTooShort, sweep-table, sweep-factor, FinishTooShort, finish-table, finish-draws, finish-factor, finish-b, finish-dual, finish-workspace, OpenTooShort, open-table, open-start, open-factor, openClauses, sweepClauses, finishClauses}
 use Rattle.run_record.proofs.Deciding.{Decides, reads, stable, less, at-most, equal, neither, both, either, or-else, and-then, none-left, DecidesAny, reads-any, one-or, some-below, too-short, Follows, ends, then-if, flat, answered, of-number}
 
@@ -103,7 +103,7 @@ module _ (h : Table) where
       neither (some-below {p = Mirror k} (h .count) (λ l. both (both (equal (h .row l) (h .column k)) (equal (h .column l) (h .row k))) (same-value (h .value l) (h .value k))))))
 
 -- the four numbers of a table, and more after them
-table-then : (t : CostTable) {ks : List ℕ} {rest : List Clause} → Follows ks rest → Follows (tableNumber t ∷ ks) (tableClauses t ++ rest)
+table-then : (t : CostTable) {ks : List ℕ} {rest : List Clause} → Follows ks rest → Follows (costTableNumber t ∷ ks) (tableClauses t ++ rest)
 unfolding hallNumber
 table-then t {ks} more =
     flat _ ks

@@ -57,8 +57,8 @@ unfoldable pub recordRefused : Run → ℕ → Bool
 recordRefused run n = anyOf (not (eqb (run .size) (n + 1)) ∷ ownFaults run)
 
 -- 13 to 16, of the table given
-abbrev pub tableNumber : CostTable → ℕ
-tableNumber t = hallNumber mostWagons mostEntries mostMagnitude (t .n) (quadratic t) (linear t)
+abbrev pub costTableNumber : CostTable → ℕ
+costTableNumber t = hallNumber mostWagons mostEntries mostMagnitude (t .n) (quadratic t) (linear t)
 
 -- 18 of a record's rule: only rule 4 has a momentum
 abbrev pub badMomentum : StepRule → Bool
@@ -78,7 +78,7 @@ sweepNumber run t factor =
     (31 if sweepShort run t factor
     ∷ 32 if isStopped (run .stage)
     ∷ 33 if recordRefused run (t .n)
-    ∷ tableNumber t
+    ∷ costTableNumber t
     ∷ 18 if badMomentum (run .rule)
     ∷ [])
 
@@ -120,7 +120,7 @@ finishNumber run t width drawCount lent =
     (31 if finishShort run t drawCount lent
     ∷ 32 if not (isStopped (run .stage))
     ∷ 33 if recordRefused run (t .n)
-    ∷ tableNumber t
+    ∷ costTableNumber t
     ∷ 18 if badMomentum (run .rule)
     ∷ 19 if widthRefused width drawCount
     ∷ [])
@@ -148,7 +148,7 @@ unfoldable pub openNumber : CostTable → ℕ → ℕ → Float → ℕ → ℕ 
 openNumber t rank rule number most start numbers factor =
     first
     (31 if openShort t rank most start numbers factor
-    ∷ tableNumber t
+    ∷ costTableNumber t
     ∷ 17 if openRankRefused rank start
     ∷ 18 if ruleRefused rule number
     ∷ 19 if ltb 2 start

@@ -5,7 +5,7 @@ ghost use mathlib.Core.Path.{_≡_};
 ghost use Prim.Native.Nat.{_≤_};
 ghost use lib.ListN.{length};
 ghost use Rattle.tables.specs.Table.{tableOf, Lent};
-ghost use Rattle.sign_search.specs.Contracts.{Sound, Room, Found-by};
+ghost use Rattle.sign_search.specs.Contracts.{Sound, LevelRoom, Found-by};
 ghost use Rattle.sdp_local_search.specs.BeamSearch.{signByte, signBytes};
 
 // A sign as 0 or 1: any byte but 0 is 1.
@@ -38,7 +38,7 @@ pub fn search_from(
     kept: &mut [u8],
     workspace: &mut [u8],
 ) -> Searched
-    requires { ⌜ Room 128 (length (now kept)) width (length (now workspace)) × Sound (length (now kept)) (tableOf count (now rows) (now cols) (now values)) × Lent count (now rows) (now cols) (now values) × (length (now kept) ≤ length (now start)) ⌝ }
+    requires { ⌜ LevelRoom 128 (length (now kept)) width (length (now workspace)) × Sound (length (now kept)) (tableOf count (now rows) (now cols) (now values)) × Lent count (now rows) (now cols) (now values) × (length (now kept) ≤ length (now start)) ⌝ }
     ensures { λ r. ⌜ Found-by (tableOf count (now (rows .entry)) (now (cols .entry)) (now (values .entry))) width (signBytes (length (now (kept .entry))) (now (start .entry))) (r .least) (r .rounds) (now (kept .exit)) ⌝ }
 {
     read_signs(start, kept);

@@ -25,7 +25,7 @@ use Rattle.laws.proofs.Sums.{only-zero, sum-more, sum-bounded, total-le}
 use Rattle.tables.proofs.Shares.{abs-sign, sign-vector}
 use Rattle.tables.proofs.Flips.{flip-entries}
 use Rattle.sign_search.specs.Search.{changeIn}
-use Rattle.sign_search.specs.Contracts.{Usable, Cleared, RowTurned, Summed, Changes, changesOver}
+use Rattle.sign_search.specs.Contracts.{SumsFit, Cleared, RowTurned, Summed, Changes, changesOver}
 
 -- ---- one entry
 
@@ -131,7 +131,7 @@ module _ (t : Table) (x : List ℕ) where
     sums = λ i l. ap₂ _+ℤ_ (p .zero-at i l) (only-zero row i);
   }
 
-  module _ (k row : ℕ) (held : ℤ) (changes : List ℤ) (ok : Usable (length x) t) (p : Summed t x k row held changes) where
+  module _ (k row : ℕ) (held : ℤ) (changes : List ℤ) (ok : SumsFit (length x) t) (p : Summed t x k row held changes) where
     -- the row's sum, laid down
     laid : getD changes row (pos 0) +ℤ held ≡ sum k (term row)
     laid = ap (λ (z : ℤ). getD changes row (pos 0) +ℤ z) (sym (rw (eq-eqb row row refl))) ∙ p .sums row (p .row-in)
@@ -200,7 +200,7 @@ module _ (t : Table) (x : List ℕ) where
       are = λ i l. rw q (laid-sums i l ∙ ap (λ (n : ℕ). sum n (term i)) e ∙ flip-entries (ok .in-range) (signAt x) i l (sign-vector x));
     }
 
-  pub changes-none : (changes : List ℤ) → Usable (length x) t → t .count ≡ 0 → length x ≤ length changes → Cleared (length x) changes → Changes t x changes
+  pub changes-none : (changes : List ℤ) → SumsFit (length x) t → t .count ≡ 0 → length x ≤ length changes → Cleared (length x) changes → Changes t x changes
   unfolding changeIn sum
   changes-none changes ok e room p = record {
     many = room;

@@ -24,7 +24,7 @@ use Rattle.tables.proofs.Shares.{abs-sign, sign-vector}
 use Rattle.local_search.specs.Level.{flipByte, flipSign}
 use Rattle.local_search.proofs.LevelLaws.{flipped-length}
 use Rattle.sign_search.specs.Search.{changeIn, Mirrors}
-use Rattle.sign_search.specs.Contracts.{Usable, Sound, Changes, RowStart, Turned, turnWeight, turnTerm, Agree, Climbs}
+use Rattle.sign_search.specs.Contracts.{SumsFit, Sound, Changes, RowStart, Turned, turnWeight, turnTerm, Agree, Climbs}
 use Rattle.sign_search.proofs.Lawful.{signs-flip}
 use Rattle.sign_search.proofs.ChangeLaws.{abs-flip}
 
@@ -185,7 +185,7 @@ module _ (t : Table) (x : List ℕ) (i : ℕ) where
         )))
 
 -- a change that i64 holds
-pub change-abs : {t : Table} (x : List ℕ) → Usable (length x) t → (i : ℕ) → i < length x → natAbs (changeIn t x i) ≤ 2 ^ 44
+pub change-abs : {t : Table} (x : List ℕ) → SumsFit (length x) t → (i : ℕ) → i < length x → natAbs (changeIn t x i) ≤ 2 ^ 44
 unfolding changeIn
 change-abs {t} x ok i h =
     rw (← (flip-entries (ok .in-range) (signAt x) i h (sign-vector x)))
@@ -271,7 +271,7 @@ module _ {count : ℕ} {row : ℕ → ℕ} (climbs : Climbs count row) (i mid : 
   rows-above h j k l = omega (arith, climbs .climb mid j k l)
 
 -- what the code asks of a table whose checks have passed
-pub usable-of : {m : ℕ} {t : Table} → Sound m t → Usable m t
+pub usable-of : {m : ℕ} {t : Table} → Sound m t → SumsFit m t
 usable-of s = record { in-range = s .mirrors .in-range; small = s .small }
 
 pub rising-climbs : (t : Table) → Rising t → Climbs (t .count) (t .row)

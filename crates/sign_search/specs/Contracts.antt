@@ -16,7 +16,7 @@ use Rattle.local_search.specs.SignSearch.{improvesC, childrenC, Safe, searchedF
 use Rattle.sign_search.specs.Search.{objectiveIn, changeIn, heightIn, Mirrors, beamSearch}
 
 -- a table of m signs whose sums an i64 holds
-pub record Usable (m : ℕ) (t : Table) : Type 0 where
+pub record SumsFit (m : ℕ) (t : Table) : Type 0 where
   pub in-range : InRange m t
   pub small : magnitudeOf t ≤ 2 ^ 42
 
@@ -83,7 +83,7 @@ pub record Agree (i : ℕ) (x y : List ℕ) : Type 0 where
 
 -- what it takes to add row i's entries, from `from` up to `to`, to the changes
 pub record Turns (t : Table) (x : List ℕ) (i from to : ℕ) (changes : List ℤ) : Type 0 where
-  pub usable : Usable (length x) t
+  pub usable : SumsFit (length x) t
   pub sign : i < length x
   pub starts : RowStart (t .count) (t .row) i from
   pub ends : RowStart (t .count) (t .row) (suc i) to
@@ -111,7 +111,7 @@ pub record RowAppends (t : Table) (start : Choice) (changes objectives signs : �
   pub changes-room : length (start .signs) ≤ changes
   pub objectives-room : length (start .signs) ≤ objectives
   pub signs-room : length (start .signs) * length (start .signs) ≤ signs
-  pub table : Usable (length (start .signs)) t
+  pub table : SumsFit (length (start .signs)) t
   pub safe : TableSafe t start
 
 -- what it takes to make a level from another one of `count` choices
@@ -152,7 +152,7 @@ abbrev pub searchedIn : Table → ℕ → Choice → Found Choice
 searchedIn t width start = searchedFrom (changeIn t) (improvesC (changeIn t)) width (heightIn t (start .signs)) start
 
 -- the room that the search takes: level 1 holds m choices of m signs, and every later one `width`
-pub record Room (most m width level : ℕ) : Type 0 where
+pub record LevelRoom (most m width level : ℕ) : Type 0 where
   pub signs-few : m ≤ most
   pub width-few : width ≤ most
   pub level-room : most * most ≤ level

@@ -10,7 +10,7 @@ ghost use mir.Val.{SFits};
 ghost use Rattle.laws.specs.Lists.{fill};
 ghost use Rattle.tables.specs.Table.{tableOf, Lent, sign, signAt};
 ghost use Rattle.tables.specs.Flip.{flipShare, flipTerm};
-ghost use Rattle.sign_search.specs.Contracts.{Usable, Cleared, RowTurned, changesOver};
+ghost use Rattle.sign_search.specs.Contracts.{SumsFit, Cleared, RowTurned, changesOver};
 
 // Sets the first m changes to 0; those behind them stay.
 pub fn clear(changes: &mut [i64], m: usize)
@@ -52,7 +52,7 @@ fn change_term(
     signs: &[u8],
     k: usize,
 ) -> i64
-    requires { ⌜ (k < entries) × Usable (length (now signs)) (tableOf entries (now rows) (now cols) (now values)) × Lent entries (now rows) (now cols) (now values) ⌝ }
+    requires { ⌜ (k < entries) × SumsFit (length (now signs)) (tableOf entries (now rows) (now cols) (now values)) × Lent entries (now rows) (now cols) (now values) ⌝ }
     ensures { λ r. ⌜ r ≡ flipTerm (tableOf entries (now (rows .entry)) (now (cols .entry)) (now (values .entry))) (signAt (now (signs .entry))) (getD (now (rows .entry)) k 0) k ⌝ }
 {
     let i = rows[k];
@@ -87,7 +87,7 @@ fn sum_rows(
     signs: &[u8],
     changes: &mut [i64],
 )
-    requires { ⌜ Usable (length (now signs)) (tableOf entries (now rows) (now cols) (now values)) × (length (now signs) ≤ length (now changes)) × (0 < entries) × Cleared (length (now signs)) (now changes) × Lent entries (now rows) (now cols) (now values) ⌝ }
+    requires { ⌜ SumsFit (length (now signs)) (tableOf entries (now rows) (now cols) (now values)) × (length (now signs) ≤ length (now changes)) × (0 < entries) × Cleared (length (now signs)) (now changes) × Lent entries (now rows) (now cols) (now values) ⌝ }
     ensures { λ r. ⌜ now (changes .exit) ≡ changesOver (tableOf entries (now (rows .entry)) (now (cols .entry)) (now (values .entry))) (now (signs .entry)) (now (changes .entry)) ⌝ }
 {
     let mut row = wide(rows[0]);
@@ -112,7 +112,7 @@ pub fn changes_of(
     signs: &[u8],
     changes: &mut [i64],
 )
-    requires { ⌜ Usable (length (now signs)) (tableOf entries (now rows) (now cols) (now values)) × (length (now signs) ≤ length (now changes)) × Lent entries (now rows) (now cols) (now values) ⌝ }
+    requires { ⌜ SumsFit (length (now signs)) (tableOf entries (now rows) (now cols) (now values)) × (length (now signs) ≤ length (now changes)) × Lent entries (now rows) (now cols) (now values) ⌝ }
     ensures { λ r. ⌜ now (changes .exit) ≡ changesOver (tableOf entries (now (rows .entry)) (now (cols .entry)) (now (values .entry))) (now (signs .entry)) (now (changes .entry)) ⌝ }
 {
     clear(changes, signs.len());

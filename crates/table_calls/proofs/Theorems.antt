@@ -22,7 +22,7 @@ use Rattle.table_calls.specs.declared.Eighths.{Eighths}
 use Rattle.table_calls.specs.declared.Eighths.the-variants as E
 use Rattle.table_calls.specs.declared.Entries.{Entries}
 use Rattle.table_calls.specs.declared.Entries.the-variants as T
-use Rattle.table_calls.specs.Answer.{eighthsAnswer, kept}
+use Rattle.table_calls.specs.Answer.{eighthsAnswer, keptIfRefused}
 use Rattle.table_calls.specs.Numbers.{signTableNumber, floorNumber, objectiveNumber, signNumber, decodeNumber}
 use Rattle.table_calls.specs.Convert.{Converts}
 use Rattle.table_calls.proofs.Accepting.{floor-accepted, sign-accepted, decode-accepted, accepted-is}
@@ -65,7 +65,7 @@ module _ (n count : ℕ) (rows cols : List ℕ) (values c : List ℤ) (toRows to
 
 -- the choice that `qubo_binary_from_sign_solution` lends out costs what the signs do: for any (H, c), signs of n + 1 and room for n bytes
 pub decoded-call : (n : ℕ) (h : Table) (c : ℕ → ℤ) (signs b : List ℕ) {b′ : List ℕ} → decodeNumber (suc n) signs b ≡ 0
-    → b′ ≡ kept (decodeNumber (suc n) signs b) b (fill (decodedByte (suc n - 1) signs) (suc n - 1) b)
+    → b′ ≡ keptIfRefused (decodeNumber (suc n) signs b) b (fill (decodedByte (suc n - 1) signs) (suc n - 1) b)
     → costEighths n (valueAt h) c (choiceAt b′) ≡ costEighths n (valueAt h) c (decoded n signs)
 decoded-call n h c signs b {b′} ok is =
     let back : suc n - 1 ≡ n = omega arith in

@@ -21,7 +21,7 @@ use Rattle.laws.specs.Refusal.{_if_, first, short}
 use Rattle.laws.proofs.Refusal.{clear, first-head, first-rest, first-skip, first-end}
 use Rattle.laws.proofs.Any.{never, any-head, any-rest, any-not, any-none, and-true, below-none, below-only, below-true, below-false, below-at}
 use Rattle.tables.specs.Table.{Table, Lent, InRange, Before, Rising, Mirrored}
-use Rattle.tables.specs.Check.{badSize, before, badEntry, badOrder, placeOf, Placed, eqZ, isMirror, unmirrored, hallNumber, tableNumber, shortTable, Hall, Accepted}
+use Rattle.tables.specs.Check.{badSize, before, badEntry, badOrder, placeKey, Placed, eqZ, isMirror, unmirrored, hallNumber, tableNumber, shortTable, Hall, Accepted}
 use Rattle.tables.proofs.Mirrors.{rises}
 
 -- ---- values
@@ -68,7 +68,7 @@ module _ (p : ℕ → ℕ) (count key : ℕ) (rising : (i j : ℕ) → i < j →
   upper mid h j k l = omega (arith, at-most mid j k l)
 
 module _ (t : Table) (k j : ℕ) where
-  pub mirror-off : (placeOf (t .row) (t .column) j ≡ placeOf (t .column) (t .row) k → ⊥) → isMirror t k j ≡ false
+  pub mirror-off : (placeKey (t .row) (t .column) j ≡ placeKey (t .column) (t .row) k → ⊥) → isMirror t k j ≡ false
   mirror-off h = go (eqb (t .row j) (t .column k)) (eqb (t .column j) (t .row k)) refl refl
     where
       go : (a b : Bool) → eqb (t .row j) (t .column k) ≡ a → eqb (t .column j) (t .row k) ≡ b → ((a && b) && eqZ (t .value j) (t .value k)) ≡ false
@@ -76,16 +76,16 @@ module _ (t : Table) (k j : ℕ) where
       go true false x y = refl
       go false b x y = refl
 
-  pub mirror-on : placeOf (t .row) (t .column) j ≡ placeOf (t .column) (t .row) k → t .column j < 65536 → t .row k < 65536 → isMirror t k j ≡ eqZ (t .value j) (t .value k)
+  pub mirror-on : placeKey (t .row) (t .column) j ≡ placeKey (t .column) (t .row) k → t .column j < 65536 → t .row k < 65536 → isMirror t k j ≡ eqZ (t .value j) (t .value k)
   mirror-on e low high = simp (eq-eqb (t .row j) (t .column k) (omega arith), eq-eqb (t .column j) (t .row k) (omega arith))
 
 -- what halving says of entry k's mirror: j is where its place is, or would be
-module _ (t : Table) (k j key : ℕ) (placed : Placed (t .row) (t .column) (t .count)) (this : key ≡ placeOf (t .column) (t .row) k)
-    (below : (i : ℕ) → i < j → placeOf (t .row) (t .column) i < key) (above : (i : ℕ) → j ≤ i → i < t .count → key ≤ placeOf (t .row) (t .column) i) where
-  off : (i : ℕ) → i < t .count → (placeOf (t .row) (t .column) i ≡ key → ⊥) → isMirror t k i ≡ false
+module _ (t : Table) (k j key : ℕ) (placed : Placed (t .row) (t .column) (t .count)) (this : key ≡ placeKey (t .column) (t .row) k)
+    (below : (i : ℕ) → i < j → placeKey (t .row) (t .column) i < key) (above : (i : ℕ) → j ≤ i → i < t .count → key ≤ placeKey (t .row) (t .column) i) where
+  off : (i : ℕ) → i < t .count → (placeKey (t .row) (t .column) i ≡ key → ⊥) → isMirror t k i ≡ false
   off i l h = mirror-off t k i (λ e. h (e ∙ sym this))
 
-  elsewhere : j < t .count → (i : ℕ) → i < t .count → (i ≡ j → ⊥) → placeOf (t .row) (t .column) i ≡ key → ⊥
+  elsewhere : j < t .count → (i : ℕ) → i < t .count → (i ≡ j → ⊥) → placeKey (t .row) (t .column) i ≡ key → ⊥
   elsewhere m i l other e = go (decLt i j)
     where
       go : Dec (i < j) → ⊥
@@ -95,14 +95,14 @@ module _ (t : Table) (k j key : ℕ) (placed : Placed (t .row) (t .column) (t .c
   pub absent : t .count ≤ j → false ≡ anyBelow (t .count) (isMirror t k)
   absent h = sym (below-none _ (t .count) (λ i l. off i l (λ e. omega (arith, below i (omega arith)))))
 
-  pub unmatched : j < t .count → (placeOf (t .row) (t .column) j ≡ key → ⊥) → false ≡ anyBelow (t .count) (isMirror t k)
+  pub unmatched : j < t .count → (placeKey (t .row) (t .column) j ≡ key → ⊥) → false ≡ anyBelow (t .count) (isMirror t k)
   unmatched m h = sym (below-none _ (t .count) (λ i l. off i l (λ e. case i l e (ℕ-discrete i j))))
     where
-      case : (i : ℕ) → i < t .count → placeOf (t .row) (t .column) i ≡ key → Dec (i ≡ j) → ⊥
+      case : (i : ℕ) → i < t .count → placeKey (t .row) (t .column) i ≡ key → Dec (i ≡ j) → ⊥
       case i l e (yes same) = h (rw (← same) e)
       case i l e (no other) = elsewhere m i l other e
 
-  pub matched : k < t .count → j < t .count → placeOf (t .row) (t .column) j ≡ key → eqZ (t .value j) (t .value k) ≡ anyBelow (t .count) (isMirror t k)
+  pub matched : k < t .count → j < t .count → placeKey (t .row) (t .column) j ≡ key → eqZ (t .value j) (t .value k) ≡ anyBelow (t .count) (isMirror t k)
   matched n m e =
       sym (below-only _ (t .count) j m (λ i l other. off i l (elsewhere m i l other))
       ∙ mirror-on t k j (e ∙ this) (placed .cols-low j m) (placed .rows-low k n))

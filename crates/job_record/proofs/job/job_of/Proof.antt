@@ -5,7 +5,7 @@ use Prim.Native.Nat.{ℕ}
 use mathlib.Core.Path.{_≡_, ap, _∙_}
 use native.Mathlib.Omega.{arith}
 use Rattle.job_reader.specs.Bytes.{bigEndian, valueOf}
-use Rattle.job_record.specs.Values.{drawsOf, jobOf}
+use Rattle.job_record.specs.Values.{drawsPlace, jobOf}
 use Rattle.job_record.proofs.Accepted.{fields, settings-held}
 use Rattle.job_record.proofs.FieldByField.{field-there}
 
@@ -25,7 +25,7 @@ returns : tie.Need-returns
 unfolding jobOf
 returns c = let s = c .before .before .before .before .before .before .before .before .before .before .before .before .before .args .job .now in let f = fields s (c .before .before .before .before .before .before .before .before .before .before .before .before .before .pre) in let t = settings-held s (c .before .before .before .before .before .before .before .before .before .before .before .before .before .pre) _ (c .before .before .before .before .before .before .before .before .before .before .accepted-settings .ensures .0) in
     let there = field-there s (c .before .before .before .before .before .before .before .before .before .draws-at .result) 2 (c .before .before .before .before .before .before .before .before .read-draw-count .ensures) (omega (arith, c .before .before .before .before .before .before .before .before .before .draws-at .ensures .0, f .draws .there)) in
-    let few : c .value-of .result ≡ bigEndian s (drawsOf s) 2 = c .value-of .ensures ∙ ap valueOf there ∙ ap (λ (p : ℕ). bigEndian s p 2) (c .before .before .before .before .before .before .before .before .before .draws-at .ensures .0) in
+    let few : c .value-of .result ≡ bigEndian s (drawsPlace s) 2 = c .value-of .ensures ∙ ap valueOf there ∙ ap (λ (p : ℕ). bigEndian s p 2) (c .before .before .before .before .before .before .before .before .before .draws-at .ensures .0) in
     simp (c .before .before .before .before .before .before .before .before .before .before .before .accepted-head .ensures .0, c .before .before .before .before .before .before .before .before .before .before .before .accepted-head .ensures .1, t .rank, t .rule, c .before .before .before .before .before .before .double-of .ensures ∙ t .number, t .most, t .minimum, c .before .before .before .double-of2 .ensures ∙ t .objective, c .before .before .double-of3 .ensures ∙ t .stationarity, t .width, t .start, few)
 
 pub job-of-spec : {M : Type 1} → statement M

@@ -15,14 +15,14 @@ use Rattle.job_reader.specs.Bytes.{bigEndian, fieldAt, valueOf, placeAfter}
 use Rattle.job_reader.specs.declared.Field.{Field}
 use Rattle.job_reader.specs.declared.Field.the-variants.{Value}
 use Rattle.job_record.specs.Reading.{fieldNumber}
-use Rattle.job_record.specs.Number.{bounded, drawsNumbers}
+use Rattle.job_record.specs.Number.{boundedNumber, drawsNumbers}
 use Rattle.job_record.proofs.Bounded.{bounded-passed}
 use Rattle.job_record.proofs.FieldByField.{field-limit, field-there}
 use Rattle.job_record.proofs.Products.{area}
 
 -- the draw count has passed its limit
 record Counted (s : List ℕ) (at : ℕ) (drawn : Field) (count : ℕ) : Type 0 where
-  few : bounded s at 2 mostDraws 19 ≡ 0
+  few : boundedNumber s at 2 mostDraws 19 ≡ 0
   there : drawn ≡ Value (bigEndian s at 2) (at + 2)
   is : count ≡ bigEndian s at 2
   low : count ≤ 1000

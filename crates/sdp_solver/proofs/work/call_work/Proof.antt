@@ -9,7 +9,7 @@ use Rattle.laws.specs.Lists.{elemZ}
 use Rattle.tables.specs.Limits.{mostSignEntries}
 use Rattle.tables.specs.Table.{tableOf}
 use Rattle.sign_table.proofs.Sizes.{hall-convertible}
-use Rattle.sign_table.proofs.Theorems.{house-sign-table}
+use Rattle.sign_table.proofs.Theorems.{hall-sign-table}
 use Rattle.run_sweep.specs.Work.{workOf, callWork}
 use Rattle.finalize.proofs.Assembled.{Cut, cut, cut-lent}
 use Rattle.sdp_solver.proofs.work.call_work.Statement.{statement}
@@ -25,7 +25,7 @@ built c =
 
 -- it has at most as many entries as the slices have room for
 entries-few : (c : tie.After-sign-values2) → c .before .before .before .sign-matrix .result ≤ mostSignEntries
-entries-few c = omega (arith, c .before .before .before .sign-matrix .ensures .1, house-sign-table (c .before .before .before .before .before .before .before .before .before .before .before .before .before .before .before .before .pre .0 .hall) .entries)
+entries-few c = omega (arith, c .before .before .before .sign-matrix .ensures .1, hall-sign-table (c .before .before .before .before .before .before .before .before .before .before .before .before .before .before .before .before .pre .0 .hall) .entries)
 
 sign-matrix-requires : tie.Need-sign-matrix-requires
 sign-matrix-requires c κs =
