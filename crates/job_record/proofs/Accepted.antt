@@ -59,11 +59,11 @@ pub drawn-fits : (s : List ℕ) → jobNumber s ≡ 0 → jobDrawn s ≤ mostDra
 drawn-fits s e = let f = fields s e in omega (arith, f .draws-end, f .small)
 
 -- its settings, as they were read
-pub settings-held : (s : List ℕ) → jobNumber s ≡ 0 → (v : SettingsValues) → v ≡ settingsValues (settingsFrom s (settingsOf s)) → SettingsThere s (settingsOf s) v
-settings-held s z v e = settings-values-are s (settingsOf s) refl e (fields s z .settings .there)
+pub settings-held : (s : List ℕ) → jobNumber s ≡ 0 → (v : SettingsValues) → v ≡ settingsValues (settingsFrom s (settingsPlace s)) → SettingsThere s (settingsPlace s) v
+settings-held s z v e = settings-values-are s (settingsPlace s) refl e (fields s z .settings .there)
 
 -- its draw count, as it was read
-pub drawn-held : (s : List ℕ) → jobNumber s ≡ 0 → {at : ℕ} {drawn : Field} → at ≡ drawsOf s → drawn ≡ fieldAt s at 2 → (valueOf drawn ≡ bigEndian s (drawsOf s) 2) × (placeAfter drawn at ≡ drawsOf s + 2)
+pub drawn-held : (s : List ℕ) → jobNumber s ≡ 0 → {at : ℕ} {drawn : Field} → at ≡ drawsPlace s → drawn ≡ fieldAt s at 2 → (valueOf drawn ≡ bigEndian s (drawsPlace s) 2) × (placeAfter drawn at ≡ drawsPlace s + 2)
 drawn-held s z {at} e f =
     let there = field-there s at 2 f (omega (arith, e, fields s z .draws .there)) in
     (ap valueOf there ∙ ap (λ (p : ℕ). bigEndian s p 2) e, ap (λ (d : Field). placeAfter d at) there ∙ ap (λ (p : ℕ). p + 2) e)

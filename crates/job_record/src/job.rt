@@ -56,7 +56,7 @@ fn accepted_head(job: &[u8]) -> HeadValues
 // And of its settings.
 fn accepted_settings(job: &[u8], head: HeadValues) -> SettingsValues
     requires { ⌜ (jobNumber (now job) ≡ 0) × (head .n ≡ wagons (now job)) × (head .count ≡ entryCount (now job)) ⌝ }
-    ensures { λ r. ⌜ (r ≡ settingsValues (settingsFrom (now (job .entry)) (settingsOf (now (job .entry))))) × (r .most < 2 ^ 32) × (r .minimum < 2 ^ 32) ⌝ }
+    ensures { λ r. ⌜ (r ≡ settingsValues (settingsFrom (now (job .entry)) (settingsPlace (now (job .entry))))) × (r .most < 2 ^ 32) × (r .minimum < 2 ^ 32) ⌝ }
 {
     let f = read_settings(job, settings_at(head.n as usize, head.count as usize));
     settings_values(f)
@@ -72,7 +72,7 @@ struct Parts {
 
 fn parts_of(job: &[u8]) -> Parts
     requires { ⌜ jobNumber (now job) ≡ 0 ⌝ }
-    ensures { λ r. ⌜ (r .rank ≡ jobRank (now (job .entry))) × (r .start ≡ settingsOf (now (job .entry)) + 36) × (r .count ≡ jobStartCount (now (job .entry))) × (r .draws ≡ drawsOf (now (job .entry))) × (r .rank ≤ mostRank) × (r .count ≤ mostStart) ⌝ }
+    ensures { λ r. ⌜ (r .rank ≡ jobRank (now (job .entry))) × (r .start ≡ settingsPlace (now (job .entry)) + 36) × (r .count ≡ jobStartCount (now (job .entry))) × (r .draws ≡ drawsPlace (now (job .entry))) × (r .rank ≤ mostRank) × (r .count ≤ mostStart) ⌝ }
 {
     let head = accepted_head(job);
     let f = accepted_settings(job, head);
