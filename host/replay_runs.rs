@@ -1,6 +1,7 @@
 //! Runs stored scripts of open, sweep and finish (tools/make_runs.py) through the proved calls and compares every answer: number,
-//! record, factor, result, choice and multipliers; that a refused call leaves all it was lent, and that tails stay. Zeros of
-//! either sign are equal, and so are all NaNs (01). Usage: replay_runs < LIST
+//! record, factor, result, choice and multipliers. Zeros of either sign are equal there, and so are all NaNs (01). What a refused call is
+//! lent and what stands behind the used part of a slice must stay to the last bit; there stand NaNs of many patterns. A line that starts
+//! with `#` is a heading. Usage: replay_runs < LIST
 use std::collections::BTreeMap;
 use std::io::BufRead;
 
@@ -102,10 +103,10 @@ impl Record {
         size: 4321,
         rank: 43,
         rule: 21,
-        number: 4.25,
+        number: f64::from_bits(0x7FF0_0000_0000_0021),
         sweeps: 4321,
-        last_objective: 4.5,
-        objective_tolerance: 4.75,
+        last_objective: f64::from_bits(0xFFF8_0000_0000_0043),
+        objective_tolerance: f64::from_bits(0x7FFF_4321_0000_0000),
         stationarity_tolerance: 5.25,
         minimum: 432,
         most: 32,
@@ -135,6 +136,15 @@ impl Record {
     fn doubles(&self) -> [f64; 4] {
         [self.number, self.last_objective, self.objective_tolerance, self.stationarity_tolerance]
     }
+    /// The same record as far as any number goes, with other doubles where none is judged.
+    fn with_others(mut self, line: usize) -> Record {
+        let others = filler(4, line);
+        (self.last_objective, self.objective_tolerance, self.stationarity_tolerance) = (others[0], others[1], others[2]);
+        if self.rule < 3 {
+            self.number = others[3];
+        }
+        self
+    }
     fn same(&self, other: &Record) -> bool {
         self.counts() == other.counts() && same_all(&self.doubles(), &other.doubles())
     }
@@ -156,9 +166,19 @@ fn untouched(a: &[f64], b: &[f64]) -> bool {
     a.len() == b.len() && a.iter().zip(b).all(|(x, y)| x.to_bits() == y.to_bits())
 }
 
-/// So many numbers that no call gives.
-fn filler(length: usize) -> Vec<f64> {
-    (0..length).map(|i| f64::from_bits(0x4321_8765_0000_0000 + i as u64)).collect()
+/// So many numbers that no call gives: NaNs, quiet and signalling, of both signs and with payloads, beside others. At a place they are of
+/// another kind in each of seven lines.
+fn filler(length: usize, line: usize) -> Vec<f64> {
+    const KINDS: [u64; 7] = [
+        0x7FF8_0000_0000_0000,
+        0x4321_8765_0000_0000,
+        0x7FF0_0000_0000_0000,
+        0xFFF8_0000_0000_0000,
+        0x0000_8765_0000_0000,
+        0xFFF0_0000_0000_0000,
+        0x7FFF_FFFF_8765_0000,
+    ];
+    (0..length).map(|i| f64::from_bits(KINDS[(i + line) % 7] + 1 + i as u64)).collect()
 }
 
 // ---- the calls
@@ -177,10 +197,12 @@ struct Lent {
 }
 
 const PAST: usize = 8;
+/// The bytes of a workspace that a finish uses.
+const WORKSPACE: usize = 16384;
 
 impl Lent {
-    fn new(kept: &[f64], length: usize) -> Self {
-        let mut before = filler(length + PAST);
+    fn new(kept: &[f64], length: usize, line: usize) -> Self {
+        let mut before = filler(length + PAST, line);
         let both = kept.len().min(length);
         before[..both].copy_from_slice(&kept[..both]);
         Self { now: before.clone(), before, length }
@@ -193,16 +215,17 @@ impl Lent {
 
 /// What a line is expected to answer.
 struct Expected {
+    line: usize,
     number: u8,
     /// None: as before the call.
     state: Option<(Record, Vec<f64>)>,
 }
 
 impl Expected {
-    fn read(w: &mut Words) -> Self {
+    fn read(line: usize, w: &mut Words) -> Self {
         let number = w.number();
         let same = w.mark(".") || w.0.peek().is_none();
-        Self { number, state: (!same).then(|| (Record::read(w), w.slice(Words::double))) }
+        Self { line, number, state: (!same).then(|| (Record::read(w), w.slice(Words::double))) }
     }
 }
 
@@ -215,15 +238,25 @@ fn hold(differs: &mut Differs, what: &'static str, holds: bool) {
     }
 }
 
+/// A call that must be refused leaves record and factor: those that stand, and others.
+fn refused(state: &State, length: usize, expected: &Expected, call: impl Fn(&mut Record, &mut Lent) -> u8) -> Differs {
+    let mut differs = vec![];
+    for (run, kept) in [(state.run, &state.factor[..]), (state.run.with_others(expected.line), &[])] {
+        let (mut after, mut factor) = (run, Lent::new(kept, length, expected.line));
+        hold(&mut differs, "number", call(&mut after, &mut factor) == expected.number);
+        hold(&mut differs, "record of a refused call", after.untouched(&run));
+        hold(&mut differs, "factor of a refused call", factor.stays_from(0));
+    }
+    differs
+}
+
 fn open(w: &mut Words, t: &Table, state: &mut State, expected: &Expected) -> Differs {
     let (rank, rule, number, most, minimum) = (w.number(), w.number(), w.double(), w.number(), w.number());
     let (objective_tolerance, stationarity_tolerance, start) = (w.double(), w.double(), w.number());
     let numbers = w.slice(Words::double);
-    let mut factor = Lent::new(&state.factor, w.number());
+    let length = w.number();
     w.end();
-    let before = state.run;
-    let run = &mut state.run;
-    let got = unsafe {
+    let call = |run: &mut Record, factor: &mut Lent| unsafe {
         host_open(
             t.n, t.count, t.rows.as_ptr(), t.rows.len(), t.cols.as_ptr(), t.cols.len(), t.values.as_ptr(), t.values.len(), t.c.as_ptr(), t.c.len(),
             rank, rule, number, most, minimum, objective_tolerance, stationarity_tolerance, start, numbers.as_ptr(), numbers.len(),
@@ -232,13 +265,12 @@ fn open(w: &mut Words, t: &Table, state: &mut State, expected: &Expected) -> Dif
             &mut run.stage, &mut run.status,
         )
     };
-    let mut differs = vec![];
-    hold(&mut differs, "number", got == expected.number);
-    if got != 0 {
-        hold(&mut differs, "record of a refused call", state.run.untouched(&before));
-        hold(&mut differs, "factor of a refused call", factor.stays_from(0));
-        return differs;
+    if expected.number != 0 {
+        return refused(state, length, expected, call);
     }
+    let mut factor = Lent::new(&state.factor, length, expected.line);
+    let mut differs = vec![];
+    hold(&mut differs, "number", call(&mut state.run, &mut factor) == 0);
     let used = state.run.size.saturating_mul(state.run.rank).min(factor.length);
     hold(&mut differs, "factor's tail", factor.stays_from(used));
     factor.now.truncate(used);
@@ -247,13 +279,10 @@ fn open(w: &mut Words, t: &Table, state: &mut State, expected: &Expected) -> Dif
 }
 
 fn sweep(w: &mut Words, t: &Table, state: &mut State, expected: &Expected) -> Differs {
-    let k = w.number();
-    let mut factor = Lent::new(&state.factor, w.number());
+    let (k, length) = (w.number(), w.number());
     let _workspace: u64 = w.number();
     w.end();
-    let before = state.run;
-    let run = &mut state.run;
-    let got = unsafe {
+    let call = |run: &mut Record, factor: &mut Lent| unsafe {
         host_sweep(
             &mut run.size, &mut run.rank, &mut run.rule, &mut run.number, &mut run.sweeps, &mut run.last_objective,
             &mut run.objective_tolerance, &mut run.stationarity_tolerance, &mut run.minimum, &mut run.most, &mut run.stage, &mut run.status,
@@ -261,13 +290,13 @@ fn sweep(w: &mut Words, t: &Table, state: &mut State, expected: &Expected) -> Di
             k, factor.now.as_mut_ptr(), factor.length,
         )
     };
-    let mut differs = vec![];
-    hold(&mut differs, "number", got == expected.number);
-    if got != 0 {
-        hold(&mut differs, "record of a refused call", state.run.untouched(&before));
-        hold(&mut differs, "factor of a refused call", factor.stays_from(0));
-        return differs;
+    if expected.number != 0 {
+        return refused(state, length, expected, call);
     }
+    let before = state.run;
+    let mut factor = Lent::new(&state.factor, length, expected.line);
+    let mut differs = vec![];
+    hold(&mut differs, "number", call(&mut state.run, &mut factor) == 0);
     let used = before.size.saturating_mul(before.rank).min(state.factor.len()).min(factor.length);
     hold(&mut differs, "factor's tail", factor.stays_from(used));
     state.factor[..used].copy_from_slice(&factor.now[..used]);
@@ -277,11 +306,11 @@ fn sweep(w: &mut Words, t: &Table, state: &mut State, expected: &Expected) -> Di
 fn finish(w: &mut Words, t: &Table, state: &State, expected: &Expected, answer: &mut Words) -> Differs {
     let (width, draw_count) = (w.number(), w.number());
     let draws = w.slice(Words::double);
-    let factor = Lent::new(&state.factor, w.number());
+    let factor = Lent::new(&state.factor, w.number(), expected.line);
     let (b_length, dual_length, room): (usize, usize, usize) = (w.number(), w.number(), w.number());
     w.end();
     let mut b = vec![0xA5u8; b_length + PAST];
-    let mut dual = Lent::new(&[], dual_length);
+    let mut dual = Lent::new(&[], dual_length, expected.line);
     let mut workspace = vec![0x5Au8; room + PAST];
     let (mut status, mut rank, mut n, mut sweeps) = (77u8, 77usize, 777usize, 7777u32);
     let (mut relaxed, mut bound, mut floor, mut rounded, mut cost, mut rounds) = (7.25, 7.75, 777i64, 7777i64, 77777i64, 777u64);
@@ -300,7 +329,7 @@ fn finish(w: &mut Words, t: &Table, state: &State, expected: &Expected, answer: 
     let mut differs = vec![];
     hold(&mut differs, "number", got == expected.number);
     hold(&mut differs, "factor", factor.stays_from(0));
-    hold(&mut differs, "past the workspace", workspace[room..].iter().all(|&x| x == 0x5A));
+    hold(&mut differs, "workspace's tail", workspace[room.min(WORKSPACE)..].iter().all(|&x| x == 0x5A));
     if got != 0 {
         hold(&mut differs, "choice of a refused call", b.iter().all(|&x| x == 0xA5));
         hold(&mut differs, "multipliers of a refused call", dual.stays_from(0));
@@ -331,6 +360,9 @@ fn main() {
     let mut state = State { run: Record::BLANK, factor: vec![] };
     let mut table = Table::default();
     for (at, line) in std::io::stdin().lock().lines().map(|l| l.expect("text")).enumerate() {
+        if line.starts_with('#') {
+            continue;
+        }
         if line == "new" {
             runs += 1;
             state = State { run: Record::BLANK, factor: vec![] };
@@ -340,7 +372,7 @@ fn main() {
         let (name, rest) = given.split_once(' ').expect("a name");
         let mut w = Words(rest.split_whitespace().peekable());
         let mut answer = Words(answer.split_whitespace().peekable());
-        let expected = Expected::read(&mut answer);
+        let expected = Expected::read(at, &mut answer);
         if name == "record" {
             state = State { run: Record::read(&mut w), factor: w.slice(Words::double) };
             w.end();

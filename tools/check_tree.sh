@@ -1,6 +1,6 @@
 #!/usr/bin/env bash
 # What the gate holds of the tree itself: crates.txt lists every crate, no Rattle text stands outside a crate, no proof has a
-# hole, every public function has an `ensures`, every file is in the layout of `rt fmt`.
+# hole, every public function has an `ensures`, no refused call touches a double that it is lent, every file is in the layout of `rt fmt`.
 set -u
 cd "$(dirname "$0")/.." || exit 1
 bad=0
@@ -22,5 +22,6 @@ silent=$(awk '
     /^[ \t]*(fn |impl |mod |struct |enum |const |#\[)/ { flush() }
     END { flush() }' $(git ls-files 'crates/*/src/*.rt'))
 [ -z "$silent" ] || say "public functions that promise nothing: $silent"
+touched=$(tools/check_refusals.py) || say "$touched"
 other=$(rt fmt --check 2>&1) || say "not in the layout: $other"
 exit $bad

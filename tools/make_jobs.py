@@ -16,6 +16,7 @@ sys.dont_write_bytecode = True
 TOP = os.path.dirname(os.path.dirname(os.path.abspath(__file__)))
 sys.path.insert(0, os.path.join(TOP, "oracle"))
 import gen  # noqa: E402
+import long_runs  # noqa: E402
 
 PROGRAM = os.path.join(TOP, "target", "oracle", "release", "oracle")
 LIST = os.path.join(TOP, "host", "jobs.txt")
@@ -154,6 +155,12 @@ def accepted(rng):
     yield from ((0, "any", gen.record(gen.job(rng, "small"))) for _ in range(60))
 
 
+def long_jobs():
+    """Jobs in which the checks at sweeps 256, 260 and 1,000 decide; tools/make_runs.py holds that they do."""
+    for case in long_runs.cases():
+        yield 0, case.text, gen.record(case.job)
+
+
 # ---- refused jobs ----------------------------------------------------------------------------
 
 
@@ -269,7 +276,7 @@ def cases():
     rng = random.Random(SEED)
     seen = set()
     edges = [(int(text[:2]), text[3:], record) for text, record in gen.edges()]
-    for number, text, record in [*edges, *accepted(rng), *refused(rng)]:
+    for number, text, record in [*edges, *accepted(rng), *refused(rng), *long_jobs()]:
         if record not in seen and (number is not None or len(record) < 3000):
             seen.add(record)
             yield number, text, record

@@ -6,10 +6,11 @@
   tools/make_runs.py --random COUNT SEED   prints that many random scripts instead
 
 The lines are those of oracle/README.md, "run", without leading zeros; `~` stands for the table of the call before. After ` = `: the
-number; `.` where record and factor are as they were, else both; a finish's result. A workspace below the size that a finish asks is judged here (31): the oracle has none.
+number; `.` where record and factor are as they were, else both; a finish's result. A line that starts with `#` is a heading. A workspace below the size that
+a finish asks is judged here (31): the oracle has none.
 
 Held here too: 01's first number of every pair of faults; one call of `solve_maxcut_sdp` for every whole run; and that every number, rule,
-start, rank and status occurs.
+start, rank and status occurs; and that some long run tells each wrong schedule of tools/long_runs.py.
 """
 import itertools
 import os
@@ -21,6 +22,7 @@ sys.dont_write_bytecode = True
 TOP = os.path.dirname(os.path.dirname(os.path.abspath(__file__)))
 sys.path.insert(0, os.path.join(TOP, "oracle"))
 import gen  # noqa: E402
+import long_runs  # noqa: E402
 
 PROGRAM = os.path.join(TOP, "target", "oracle", "release", "oracle")
 STORED = os.path.join(TOP, "host", "runs.txt")
@@ -28,6 +30,9 @@ WORKSPACE = 16384
 LIMIT = 2**40
 ORDER = [31, 32, 33, 13, 14, 15, 16, 17, 18, 19]
 NAN, INF, MINUS_INF = 0x7FF8000000000000, 0x7FF0000000000000, 0xFFF0000000000000
+# Quiet and signalling, of both signs, with several payloads.
+NANS = [0x7FF0000000000001, 0xFFF8000000000000, 0x7FF8DEADBEEF0001, 0xFFF0000000000002, 0x7FF8000000000000, 0x7FF4000000000000, 0xFFFFFFFFFFFFFFFF,
+        0xFFF7FFFFFFFFFFFF, 0x7FFFFFFFFFFFFFFF]
 bits = gen.bits
 
 
@@ -90,19 +95,26 @@ def whole(rng, rank, rule, start):
         "start_numbers": gen.factor(rng, m, r) if start < 2 else gen.numbers(rng, gen.start_count(2, most, m, r)),
         "draw_count": draws, "draws": [x for _ in range(draws) for x in gen.numbers(rng, r)],
     }
-    t, more = table(n, h, c), rng.choice([0, 0, 3])
-    lines = ["new", open_line(t, {
-        "rank": rank, "rule": rule, "number": job["number"], "most": most, "minimum": minimum,
-        "objective": job["objective_tolerance"], "stationarity": job["stationarity_tolerance"], "start": start,
-        "numbers": job["start_numbers"] + [NAN] * more, "factor": m * r + more})]
-    left = most
-    for k in rng.choice([[], [1], [0, 2], [19, 1]]):
-        lines.append(sweep_line(t, k, m * r + more))
-        left -= k
+    more = rng.choice([0, 0, 3])
+    sweeps = [(k, more) for k in rng.choice([[], [1], [0, 2], [19, 1]])]
+    left = most - sum(k for k, _ in sweeps)
     if left > 0:
-        lines.append(sweep_line(t, rng.choice([left, left, 2**32 - 1]), m * r))
+        sweeps.append((rng.choice([left, left, 2**32 - 1]), 0))
+    return script_of(job, sweeps, more)
+
+
+def script_of(job, sweeps, more):
+    """A job as a script, and its record. A sweep call is its k and by how much its factor is longer; `more` is that of all other slices."""
+    n, m, most = job["n"], job["n"] + 1, job["most"]
+    r = job["rank"] or gen.default_rank(m)
+    t = table(n, job["entries"], job["c"])
+    lines = ["new", open_line(t, {
+        "rank": job["rank"], "rule": job["rule"], "number": job["number"], "most": most, "minimum": job["minimum"],
+        "objective": job["objective_tolerance"], "stationarity": job["stationarity_tolerance"], "start": job["start"],
+        "numbers": job["start_numbers"] + [NAN] * more, "factor": m * r + more})]
+    lines += [sweep_line(t, k, m * r + longer) for k, longer in sweeps]
     lines.append(finish_line(t, {
-        "width": job["width"], "draw_count": draws, "draws": job["draws"] + [NAN] * more, "factor": m * r + more,
+        "width": job["width"], "draw_count": job["draw_count"], "draws": job["draws"] + [NAN] * more, "factor": m * r + more,
         "b": n + more, "dual": m + more, "workspace": WORKSPACE + more}))
     return lines, gen.record(job).hex().upper()
 
@@ -255,38 +267,58 @@ def apart(a, b):
     return not (changed[0] & changed[1])
 
 
-def faulty(call, kinds):
-    singles = [(f,) for f in kinds]
-    for faults in singles + [p for p in itertools.combinations(kinds, 2) if apart(*p)]:
-        yield first_number(faults), at_once(call, faults)
+def single(kinds):
+    return [(f,) for f in kinds]
+
+
+def in_pairs(kinds):
+    return single(kinds) + [p for p in itertools.combinations(kinds, 2) if apart(*p)]
+
+
+def open_faults(t, settings, faults):
+    """Lines, each with the number that 01 gives it."""
+    return [(open_line(s, s), first_number(f)) for f in faults for s in [at_once({**t, **settings}, f)]]
+
+
+def record_faults(call, record, faults, line):
+    """Lines, each with the number that 01 gives it, or None where it sets the record."""
+    standing = record_line(record)
+    lines = [(standing, None)]
+    for f in faults:
+        s = at_once({**call, **record}, f)
+        if record_line(s) != standing:
+            standing = record_line(s)
+            lines.append((standing, None))
+        lines.append((line(s), first_number(f)))
+    return lines + [(record_line(record), None)]
+
+
+def faulty_sweep(s):
+    return sweep_line(s, 2, s["lent"])
+
+
+def faulty_finish(s):
+    return finish_line(s, {**s, "factor": s["lent"]})
 
 
 def fault_runs(rng):
-    """Lists of lines, each with the number that 01 gives it, or None."""
     t, settings, record = base(rng)
-    good = open_line(t, settings)
-    lines = [("new", None), (good, 0)]
-    for number, s in faulty({**t, **settings}, OPEN_FAULTS):
-        lines.append((open_line(s, s), number))
-    yield lines + [(good, 0)]
-    lines = [("new", None), (record_line(record), None)]
-    standing = lines[-1][0]
-    for number, s in faulty({**t, **record}, SWEEP_FAULTS):
-        if record_line(s) != standing:
-            standing = record_line(s)
-            lines.append((standing, None))
-        lines.append((sweep_line(s, 2, s["lent"]), number))
-    yield lines + [(record_line(record), None), (sweep_line(t, 2, 6), 0)]
-    record = {**record, "stage": 1}
-    finish = finish_of(rng, 3, 2)
-    lines = [("new", None), (record_line(record), None)]
-    standing = lines[-1][0]
-    for number, s in faulty({**t, **finish, **record}, FINISH_FAULTS):
-        if record_line(s) != standing:
-            standing = record_line(s)
-            lines.append((standing, None))
-        lines.append((finish_line(s, {**s, "factor": s["lent"]}), number))
-    yield lines + [(record_line(record), None), (finish_line(t, finish), 0)]
+    good = (open_line(t, settings), 0)
+    yield [("new", None), good, *open_faults(t, settings, in_pairs(OPEN_FAULTS)), good]
+    yield [("new", None), *record_faults(t, record, in_pairs(SWEEP_FAULTS), faulty_sweep), (sweep_line(t, 2, 6), 0)]
+    stopped, finish = {**record, "stage": 1}, finish_of(rng, 3, 2)
+    yield [("new", None), *record_faults({**t, **finish}, stopped, in_pairs(FINISH_FAULTS), faulty_finish), (finish_line(t, finish), 0)]
+
+
+def nan_runs(rng):
+    """Each fault alone over a record and a factor of NaNs, which a refused call must leave; then accepted calls."""
+    t, settings, record = base(rng)
+    record.update(last=NANS[0], objective=NANS[1], stationarity=NANS[2], factor=NANS[3:])
+    stopped, finish = {**record, "stage": 1}, finish_of(rng, 3, 2)
+    yield [("new", None), (record_line(record), None), *open_faults(t, settings, single(OPEN_FAULTS)), (open_line(t, {**settings, "factor": 9}), 0)]
+    yield [("new", None), *record_faults(t, record, single(SWEEP_FAULTS), faulty_sweep), (sweep_line(t, 2, 9), 0)]
+    yield [("new", None), *record_faults({**t, **finish}, stopped, single(FINISH_FAULTS), faulty_finish),
+           (finish_line(t, finish_of(rng, 3, 2, more=5)), 0)]
 
 
 def edge_runs(rng):
@@ -397,6 +429,48 @@ def large_runs(rng):
         yield lines + [finish_line(t, finish_of(rng, 128, r, 16, 3))]
 
 
+# ---- more than 1,000 sweeps -------------------------------------------------------------------------
+
+# Where sweep calls end: beside the checks, and where one would be due if sweeps were counted modulo 256.
+ENDS = [1, 255, 256, 259, 260, 276, 512, 988, 999, 1000, 1002]
+
+
+def long_script(case):
+    """Calls up to the stop, one that may go on past it, and one after it."""
+    ends = [0, *[end for end in ENDS if end < case.stop[1]]]
+    sweeps = [(b - a, 0) for a, b in zip(ends, ends[1:])]
+    return script_of(case.job, [*sweeps, (2**32 - 1, 2), (1, 2)], 2)
+
+
+def counted_runs(rng):
+    """A record that stands before a round count of sweeps, then one sweep a call: its last objective tells which sweeps are checked."""
+    t, _, record = base(rng)
+    most = 2**32 - 1
+    for count in (2**8, 1000, 2**10, 10**4, 2**16, 10**6, 2**24, 2**31, most - 23):
+        start = {**record, "rule": 4, "number": bits(0.99), "sweeps": count - 6, "stationarity": bits(-1.0), "minimum": 0, "most": most}
+        yield [("new", None), (record_line(start), None)] + [(sweep_line(t, 1, 6), 0)] * 29
+
+
+def counted_answers(rng):
+    answers = judged(counted_runs(rng))
+    for before, after in itertools.pairwise(answers.states):
+        if before and after:
+            sweeps, most = int(after[4], 16), int(after[9], 16)
+            assert (after[5] != before[5]) == long_runs.due(sweeps, 0, most), sweeps
+    return answers.out
+
+
+def long_answers():
+    """The answered lines of tools/long_runs.py's cases, each script under what it is."""
+    found = list(long_runs.cases())
+    answers = answered([long_script(case) for case in found])
+    for case, result in zip(found, filter(None, answers.results), strict=True):
+        assert [int(result[k], 16) for k in (0, 3, 4)] == [*case.stop[:2], case.relaxed_objective()], case.text
+    long_runs.telling(found)
+    texts = iter([f"# {case.text}" for case in found])
+    return [x for line in answers.out for x in ([next(texts)] if line == "new" else []) + [line]]
+
+
 # ---- the oracle's answers ---------------------------------------------------------------------
 
 
@@ -424,7 +498,7 @@ class Answered:
     """The lines with their answers, and what was seen."""
 
     def __init__(self, lines):
-        self.out, self.numbers, self.results, self.factors, self.seen = [], [], [], [], set()
+        self.out, self.numbers, self.results, self.states, self.seen = [], [], [], [], set()
         before, last = [], None
         for line, full in zip(lines, oracle("run", lines), strict=True):
             given, said = full.split(" = ")
@@ -447,7 +521,7 @@ class Answered:
                 name, shortest(words), "=", shortest([number, *kept, *result])])))
             self.numbers.append(int(number, 16))
             self.results.append(result)
-            self.factors.append(state[13:])
+            self.states.append(state)
             before = state
 
     def see(self, name, number, words, result):
@@ -474,7 +548,7 @@ def answered(scripts):
     answers = Answered(lines)
     for end, (_, job) in zip(ends, scripts):
         if job:
-            hold_whole(job, answers.results[end], answers.factors[end])
+            hold_whole(job, answers.results[end], answers.states[end][13:])
     return answers
 
 
@@ -490,18 +564,26 @@ def hold_whole(job, result, factor):
     assert last.get("factor", last["start_factor"]) == factor, (job, factor)
 
 
+def judged(scripts):
+    """The answers of lines with their numbers."""
+    pairs = [pair for script in scripts for pair in script]
+    answers = Answered([line for line, _ in pairs])
+    for (line, wanted), number in zip(pairs, answers.numbers, strict=True):
+        assert wanted is None or wanted == number, (wanted, number, line)
+    return answers
+
+
 def stored():
     rng = random.Random("runs 1")
     wholes = answered(list(whole_runs(rng)))
-    faults = [pair for script in itertools.chain(fault_runs(rng), edge_runs(rng)) for pair in script]
-    judged = Answered([line for line, _ in faults])
-    for (line, wanted), number in zip(faults, judged.numbers, strict=True):
-        assert wanted is None or wanted == number, (wanted, number, line)
+    faults = judged([*fault_runs(rng), *edge_runs(rng)])
     rest = Answered([line for script in settings_runs(rng) for line in script])
     short = [pair for pair in random_runs(rng, 190) if sum(map(len, pair[0])) < 10000]
     others = answered(short + [(script, None) for script in large_runs(rng)])
-    assert wholes.seen | judged.seen | rest.seen | others.seen == ALL
-    return wholes.out + judged.out + rest.out + others.out
+    assert wholes.seen | faults.seen | rest.seen | others.seen == ALL
+    rng = random.Random("runs 2")
+    return [*wholes.out, *faults.out, *rest.out, *others.out, "# refused calls over NaNs", *judged(nan_runs(rng)).out,
+            "# round counts of sweeps", *counted_answers(rng), "# more than 1,000 sweeps", *long_answers()]
 
 
 def main():
