@@ -1,17 +1,14 @@
-"""Jobs of up to 1,100 sweeps in which the checks at sweeps 256, 260 and 1,000 decide, for tools/make_runs.py and tools/make_jobs.py.
+"""Jobs of up to 1,100 sweeps in which the checks at sweeps 256, 260 and 1,000 decide, for runs.py and jobs.py.
 
 The tolerances are set by what oracle/model.py measures at a sweep. A schedule of checks is a function of the sweep, the minimum and the most; under each
 of the wrong ones here some job stops elsewhere or with another objective, which is held when the jobs are made.
 """
 import functools
 import math
-import os
 import random
-import sys
 
-sys.path.insert(0, os.path.join(os.path.dirname(os.path.dirname(os.path.abspath(__file__))), "oracle"))
-import gen  # noqa: E402
-import model  # noqa: E402
+import gen
+import model
 
 
 # ---- schedules ------------------------------------------------------------------------------------

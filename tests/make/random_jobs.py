@@ -1,29 +1,14 @@
-#!/usr/bin/env python3
-"""Makes seeded jobs, answers them by the Rust oracle and by the record call, and compares all answers.
-
-  tools/differential.py [--jobs 100000] [--seed 1] [--kind KIND] [--port PROGRAM]
-
-PROGRAM reads a job per line in hexadecimal and prints an answer per line; without it host/answers.c is built and run. Zeros of either sign are
-equal (01). Jobs that are answered otherwise go to target/differences.txt, the shortest first: job, the oracle's answer, the port's.
-"""
-import argparse
+"""Seeded jobs of many kinds with the oracle's answers, for a comparison at scale."""
 import collections
-import os
 import random
 import struct
 import subprocess
-import sys
-import time
 
-sys.dont_write_bytecode = True
-TOP = os.path.dirname(os.path.dirname(os.path.abspath(__file__)))
-sys.path.insert(0, os.path.join(TOP, "oracle"))
-import gen  # noqa: E402
-import model  # noqa: E402
+import gen
+import jobs
+import model
+from lists import ANSWER, PROGRAM, WORKSPACE
 
-ORACLE = os.path.join(TOP, "target", "oracle", "release", "oracle")
-PORT = os.path.join(TOP, "target", "host", "answers")
-DIFFERENCES = os.path.join(TOP, "target", "differences.txt")
 BATCH = 500
 
 
@@ -107,7 +92,7 @@ def stops(rng):
         j["number"] = gen.bits(rng.choice([0.5, 0.01]))
         rank = j["rank"] or gen.default_rank(j["n"] + 1)
         j["start_numbers"] = gen.numbers(rng, (j["n"] + 1) * rank, "usual")
-        traced = subprocess.run([ORACLE, "trace"], input=gen.record(j), capture_output=True, check=True).stdout.decode().split("\n")
+        traced = subprocess.run([PROGRAM, "trace"], input=gen.record(j), capture_output=True, check=True).stdout.decode().split("\n")
         met = collections.defaultdict(list)
         for line in traced:
             if line.startswith("check_"):
@@ -135,7 +120,7 @@ KINDS = {
 }
 
 
-def jobs(kind, count, seed):
+def batches(kind, count, seed):
     """Batches of records of a kind."""
     rng, batch = random.Random(f"{kind} {seed}"), []
     while count > 0:
@@ -148,48 +133,10 @@ def jobs(kind, count, seed):
             batch = []
 
 
-def answers(command, records):
-    text = "".join((data.hex().upper() or "-") + "\n" for data in records)
-    done = subprocess.run(command, input=text, capture_output=True, text=True)
-    lines = done.stdout.split()
-    if done.returncode != 0 or len(lines) != len(records):
-        job_hex = records[min(len(lines), len(records) - 1)].hex().upper()
-        sys.exit(f"{command[0]} ended with status {done.returncode} after {len(lines)} answers: {done.stderr.strip()}\nat the job {job_hex}")
-    return lines
-
-
-def plain(answer):
-    """The answer with the doubles' zeros made +0.0."""
-    doubles = [x.replace("8000000000000000", "0" * 16) for x in (answer[24:40], answer[40:56])]
-    return answer if len(answer) == 12 else answer[:24] + "".join(doubles) + answer[56:]
-
-
-def main():
-    options = argparse.ArgumentParser(description=__doc__, formatter_class=argparse.RawDescriptionHelpFormatter)
-    options.add_argument("--jobs", type=int, default=100000)
-    options.add_argument("--seed", default="1")
-    options.add_argument("--kind", choices=KINDS)
-    options.add_argument("--port")
-    given = options.parse_args()
-    if not given.port:
-        subprocess.run(["bash", "-euc", ". host/archive.sh; build answers"], cwd=TOP, check=True)
-    shares = {given.kind: given.jobs} if given.kind else {kind: given.jobs * share // 1000 for kind, (share, _) in KINDS.items()}
-    differences, numbers, started = [], collections.Counter(), time.time()
-    for kind, count in shares.items():
-        before = len(differences)
-        for records in jobs(kind, count, given.seed):
-            for data, wanted, got in zip(records, answers([ORACLE, "answers"], records), answers([given.port or PORT], records)):
-                numbers[int(wanted[10:], 16) if len(wanted) == 12 else 0] += 1
-                if plain(wanted) != plain(got):
-                    differences.append((data.hex().upper(), wanted, got))
-        print(f"{kind}: {count} jobs, {len(differences) - before} differences", flush=True)
-    print("accepted", numbers.pop(0, 0), "refused", ", ".join(f"{n} by {k}" for k, n in sorted(numbers.items())))
-    print(f"seed {given.seed}, jobs {sum(shares.values())}, differences {len(differences)}, {time.time() - started:.0f} s")
-    if differences:
-        with open(DIFFERENCES, "w") as out:
-            out.writelines(" ".join(d) + "\n" for d in sorted(differences, key=lambda d: len(d[0])))
-        sys.exit(1)
-
-
-if __name__ == "__main__":
-    main()
+def seeded(lines, count, seed):
+    """So many jobs, in batches."""
+    for kind, (share, _) in KINDS.items():
+        for records in batches(kind, count * share // 1000, seed):
+            for record, (number, answer) in zip(records, jobs.answers(records)):
+                lines.call("answer", [record], [WORKSPACE, ANSWER], number, [answer])
+            yield

@@ -1,34 +1,21 @@
-#!/usr/bin/env python3
-"""Writes host/runs.txt: scripts of open, sweep and finish with the answers of the Rust oracle (`oracle run`).
+"""Scripts of open, sweep and finish with the answers of the Rust oracle (`oracle run`), as lines of docs/REPLAY.md.
 
-  tools/make_runs.py                       writes the list
-  tools/make_runs.py --check               compares it with what is stored, and writes nothing
-  tools/make_runs.py --random COUNT SEED   prints that many random scripts instead
+In a script the numbers, the schedule of checks and the order of the stop tests are the oracle's own, after 01 and `solve_maxcut_sdp_profiled`, whose loop can't be
+entered half way; the values are the Rust's. A workspace below the size that a finish asks is judged here (31): the oracle has none.
 
-The lines are those of oracle/README.md, "run", without leading zeros; `~` stands for the table of the call before. After ` = `: the
-number; `.` where record and factor are as they were, else both; a finish's result. A line that starts with `#` is a heading. A workspace below the size that
-a finish asks is judged here (31): the oracle has none.
-
-Held here too: 01's first number of every pair of faults; one call of `solve_maxcut_sdp` for every whole run; and that every number, rule,
-start, rank and status occurs; and that some long run tells each wrong schedule of tools/long_runs.py.
+Held here too: 01's first number of every pair of faults; one call of `solve_maxcut_sdp` for every whole run; that every number, rule, start, rank and status
+occurs; and that some long run tells each wrong schedule of long_runs.py.
 """
 import itertools
-import os
 import random
 import subprocess
-import sys
 
-sys.dont_write_bytecode = True
-TOP = os.path.dirname(os.path.dirname(os.path.abspath(__file__)))
-sys.path.insert(0, os.path.join(TOP, "oracle"))
-import gen  # noqa: E402
-import long_runs  # noqa: E402
+import faults
+import gen
+import long_runs
+from faults import LIMIT, Fault, at_once, drop, first_number, in_pairs, put, single
+from lists import PROGRAM, WORKSPACE, oracle
 
-PROGRAM = os.path.join(TOP, "target", "oracle", "release", "oracle")
-STORED = os.path.join(TOP, "host", "runs.txt")
-WORKSPACE = 16384
-LIMIT = 2**40
-ORDER = [31, 32, 33, 13, 14, 15, 16, 17, 18, 19]
 NAN, INF, MINUS_INF = 0x7FF8000000000000, 0x7FF0000000000000, 0xFFF0000000000000
 # Quiet and signalling, of both signs, with several payloads.
 NANS = [0x7FF0000000000001, 0xFFF8000000000000, 0x7FF8DEADBEEF0001, 0xFFF0000000000002, 0x7FF8000000000000, 0x7FF4000000000000, 0xFFFFFFFFFFFFFFFF,
@@ -130,9 +117,8 @@ def whole_runs(rng):
 
 def answer_of(words):
     """The answer record of a finish's words."""
-    w = [int(x, 16) for x in words]
-    body = bytes([w[0], w[1], w[2]]) + w[3].to_bytes(4, "big") + b"".join(x.to_bytes(8, "big") for x in w[4:10])
-    body = b"\1" + body + bytes(w[11:11 + w[10]])
+    body = bytes(words[:3]) + words[3].to_bytes(4, "big") + b"".join(x.to_bytes(8, "big") for x in words[4:10])
+    body = b"\1" + body + bytes(words[11 : 11 + words[10]])
     return (len(body).to_bytes(4, "big") + body).hex().upper()
 
 
@@ -163,58 +149,13 @@ def settings_runs(rng):
 # ---- faults, alone and in pairs -----------------------------------------------------------------
 
 
-class Fault:
-    """A number and what makes it due; what its length rests on (31), what it spoils for others."""
-
-    def __init__(self, number, change, rests="", spoils=""):
-        self.number, self.change = number, change
-        self.rests, self.spoils = set(rests.split()), set(spoils.split())
-
-
-def first_number(faults):
-    spoilt = set().union(*[f.spoils for f in faults])
-    due = [f.number for f in faults if not f.rests & spoilt]
-    return min(due, key=ORDER.index)
-
-
-def drop(key, by=1):
-    def change(s):
-        s[key] = s[key][:-by] if isinstance(s[key], list) else s[key] - by
-    return change
-
-
-def put(**fields):
-    return lambda s: s.update(fields)
-
-
-def entry(k, **fields):
-    def change(s):
-        for name, x in fields.items():
-            s[name][k] = x
-    return change
-
-
-def unmirrored(s):
-    """Leaves out the entry at (1, 0)."""
-    for name in ("rows", "cols", "values"):
-        s[name] = s[name][:1] + s[name][2:]
-    s["count"] -= 1
-
-
 def wide(s):
     s["n"] = 128
     if "size" in s and s["size"] == 3:
         s["size"] = 129
 
 
-TABLE_FAULTS = [
-    Fault(31, drop("rows"), "count"), Fault(31, drop("cols"), "count"), Fault(31, drop("values"), "count"),
-    Fault(31, drop("c"), "n"),
-    Fault(13, wide, spoils="n"), Fault(13, put(count=4097), spoils="count"), Fault(13, put(count=2**64 - 1), spoils="count"),
-    Fault(14, entry(2, cols=2)), Fault(14, entry(2, rows=0, cols=0)), Fault(14, entry(0, rows=1, cols=1)),
-    Fault(15, entry(0, values=4)), Fault(15, unmirrored),
-    Fault(16, entry(-1, values=LIMIT)), Fault(16, entry(-1, values=-(2**63))), Fault(16, entry(0, c=LIMIT)),
-]
+TABLE_FAULTS = [f for f in faults.HALL if "n" not in f.spoils] + [Fault(13, wide, spoils="n")]
 OPEN_FAULTS = TABLE_FAULTS + [
     Fault(31, drop("numbers"), "n rank start"), Fault(31, drop("factor"), "n rank"),
     Fault(17, put(rank=33), spoils="rank"), Fault(17, put(rank=2**64 - 1), spoils="rank"), Fault(17, put(rank=0, start=1), spoils="rank"),
@@ -246,45 +187,21 @@ def base(rng):
     return t, settings, record
 
 
-def at_once(call, faults):
-    """A copy of the call's fields with the faults put in; of two faults the one on whole fields first."""
-    s = {k: list(v) if isinstance(v, list) else v for k, v in call.items()}
-    for f in sorted(faults, key=lambda f: (f.change is unmirrored, f.number == 31)):
-        f.change(s)
-    return s
+PROBE = {
+    "n": 2, **faults.BASE, "c": [-1, 4], "rank": 2, "rule": 2, "number": 0, "start": 0, "numbers": [1] * 6, "factor": 6, "size": 3, "sweeps": 3, "status": 0,
+    "stage": 7, "lent": 6, "draws": [1] * 2, "draw_count": 1, "b": 2, "dual": 3, "workspace": WORKSPACE, "width": 1}
 
 
-def apart(a, b):
-    """Two faults that change different things; else the later would undo the earlier."""
-    probe = {**table(2, [(0, 1, 3), (1, 0, 3), (1, 1, 2)], [-1, 4]), "rank": 2, "rule": 2, "number": 0, "start": 0, "numbers": [1] * 6,
-             "factor": 6, "size": 3, "sweeps": 3, "status": 0, "stage": 7, "lent": 6, "draws": [1] * 2, "draw_count": 1,
-             "b": 2, "dual": 3, "workspace": WORKSPACE, "width": 1}
-    changed = []
-    for f in (a, b):
-        s = at_once(probe, [f])
-        changed.append({k for k in s if k in ("rows", "cols", "values", "c") and f.number != 31 and s[k] != probe[k]}
-                       | {k for k in s if k not in ("rows", "cols", "values", "c") and s[k] != probe[k]})
-    return not (changed[0] & changed[1])
-
-
-def single(kinds):
-    return [(f,) for f in kinds]
-
-
-def in_pairs(kinds):
-    return single(kinds) + [p for p in itertools.combinations(kinds, 2) if apart(*p)]
-
-
-def open_faults(t, settings, faults):
+def open_faults(t, settings, kinds):
     """Lines, each with the number that 01 gives it."""
-    return [(open_line(s, s), first_number(f)) for f in faults for s in [at_once({**t, **settings}, f)]]
+    return [(open_line(s, s), first_number(f)) for f in kinds for s in [at_once({**t, **settings}, f)]]
 
 
-def record_faults(call, record, faults, line):
+def record_faults(call, record, kinds, line):
     """Lines, each with the number that 01 gives it, or None where it sets the record."""
     standing = record_line(record)
     lines = [(standing, None)]
-    for f in faults:
+    for f in kinds:
         s = at_once({**call, **record}, f)
         if record_line(s) != standing:
             standing = record_line(s)
@@ -304,10 +221,10 @@ def faulty_finish(s):
 def fault_runs(rng):
     t, settings, record = base(rng)
     good = (open_line(t, settings), 0)
-    yield [("new", None), good, *open_faults(t, settings, in_pairs(OPEN_FAULTS)), good]
-    yield [("new", None), *record_faults(t, record, in_pairs(SWEEP_FAULTS), faulty_sweep), (sweep_line(t, 2, 6), 0)]
+    yield [("new", None), good, *open_faults(t, settings, in_pairs(OPEN_FAULTS, PROBE)), good]
+    yield [("new", None), *record_faults(t, record, in_pairs(SWEEP_FAULTS, PROBE), faulty_sweep), (sweep_line(t, 2, 6), 0)]
     stopped, finish = {**record, "stage": 1}, finish_of(rng, 3, 2)
-    yield [("new", None), *record_faults({**t, **finish}, stopped, in_pairs(FINISH_FAULTS), faulty_finish), (finish_line(t, finish), 0)]
+    yield [("new", None), *record_faults({**t, **finish}, stopped, in_pairs(FINISH_FAULTS, PROBE), faulty_finish), (finish_line(t, finish), 0)]
 
 
 def nan_runs(rng):
@@ -371,14 +288,9 @@ def edge_runs(rng):
 # ---- random scripts, and the largest tables -------------------------------------------------------
 
 
-def words_of(line):
-    name, *rest = line.split()
-    return name, rest
-
-
 def roomy(rng, line):
     """A finish of gen.py with a workspace, at times one byte too small."""
-    name, rest = words_of(line)
+    name, *rest = line.split()
     if name == "finish":
         rest[-1] = f"{WORKSPACE + rng.choice([0, 0, 0, 0, 0, 1, 77, -1]):016X}"
     return " ".join([name, *rest])
@@ -455,81 +367,103 @@ def counted_answers(rng):
     answers = judged(counted_runs(rng))
     for before, after in itertools.pairwise(answers.states):
         if before and after:
-            sweeps, most = int(after[4], 16), int(after[9], 16)
+            sweeps, most = after[4], after[9]
             assert (after[5] != before[5]) == long_runs.due(sweeps, 0, most), sweeps
-    return answers.out
+    return answers
 
 
-def long_answers():
-    """The answered lines of tools/long_runs.py's cases, each script under what it is."""
+def add_long(lines):
+    """The cases of long_runs.py, each script under what it is."""
     found = list(long_runs.cases())
     answers = answered([long_script(case) for case in found])
     for case, result in zip(found, filter(None, answers.results), strict=True):
-        assert [int(result[k], 16) for k in (0, 3, 4)] == [*case.stop[:2], case.relaxed_objective()], case.text
+        assert [result[k] for k in (0, 3, 4)] == [*case.stop[:2], case.relaxed_objective()], case.text
     long_runs.telling(found)
-    texts = iter([f"# {case.text}" for case in found])
-    return [x for line in answers.out for x in ([next(texts)] if line == "new" else []) + [line]]
+    answers.add(lines, [case.text for case in found])
 
 
 # ---- the oracle's answers ---------------------------------------------------------------------
-
-
-def oracle(mode, lines):
-    text = "\n".join(lines) + "\n"
-    done = subprocess.run([PROGRAM, mode], input=text, capture_output=True, text=True)
-    if done.returncode != 0:
-        sys.exit(f"make_runs: oracle {mode}: {done.stderr[:500]}")
-    return done.stdout.splitlines()
-
-
-def shortest(words):
-    return " ".join(w.lstrip("0") or "0" for w in words)
 
 
 def table_length(words):
     """How many words n, count and the four slices are."""
     at = 2
     for _ in range(4):
-        at += 1 + int(words[at], 16)
+        at += 1 + words[at]
     return at
 
 
+def cut(words, *lengths):
+    """Slices and single words (1) of a call, and what is left."""
+    out = []
+    for length in lengths:
+        count = 1 if length == 1 else 1 + words[0]
+        out.append(words[0] if length == 1 else words[1:count])
+        words = words[count:]
+    return out, words
+
+
+def in_order(record):
+    """The run's words in the order of the header, where the most comes before the minimum."""
+    return [*record[:8], record[9], record[8], *record[10:]]
+
+
 class Answered:
-    """The lines with their answers, and what was seen."""
+    """Scripts with their answers, and what was seen."""
 
     def __init__(self, lines):
-        self.out, self.numbers, self.results, self.states, self.seen = [], [], [], [], set()
-        before, last = [], None
-        for line, full in zip(lines, oracle("run", lines), strict=True):
+        self.numbers, self.results, self.states, self.seen, self.calls = [], [], [], set(), []
+        for line, full in zip(lines, oracle(["run"], "".join(line + "\n" for line in lines)), strict=True):
             given, said = full.split(" = ")
             assert given == line
-            name, words = words_of(given)
-            number, *rest = said.split()
-            state = rest[:13 + int(rest[12], 16)] if rest else []
-            result = rest[len(state):]
-            if name == "finish" and int(words[-1], 16) < WORKSPACE:
-                number, result = "1F", []
-            kept = ["."] if state and state == before else state
-            if name in ("open", "sweep", "finish"):
-                length = table_length(words)
-                lent, words = words[:length], words[length:]
-                self.see(name, int(number, 16), [int(w, 16) for w in words], result)
-                words, last = (["~"] if lent == last else lent) + words, lent
-            else:
-                last = None
-            self.out.append(name if name == "new" else " ".join(filter(None, [
-                name, shortest(words), "=", shortest([number, *kept, *result])])))
-            self.numbers.append(int(number, 16))
+            name, *words = given.split()
+            words, (number, *rest) = [int(w, 16) for w in words], [int(w, 16) for w in said.split()]
+            state = rest[: 13 + rest[12]] if rest else []
+            result = rest[len(state) :]
+            if name == "finish" and words[-1] < WORKSPACE:
+                number, result = 31, []
+            self.numbers.append(number)
             self.results.append(result)
             self.states.append(state)
-            before = state
+            self.calls.append((name, words))
+            if name in ("open", "sweep", "finish"):
+                self.see(name, number, words[table_length(words) :], result)
 
     def see(self, name, number, words, result):
         self.seen.add((name, number))
         if name == "open" and number == 0:
             self.seen |= {("rank", words[0]), ("rule, start", words[1], words[7])}
         if result:
-            self.seen.add(("status", int(result[0], 16)))
+            self.seen.add(("status", result[0]))
+
+    def add(self, lines, headings=()):
+        """Writes the lines; the k-th script comes under the k-th heading."""
+        headings = iter(headings)
+        for (name, words), number, state, result in zip(self.calls, self.numbers, self.states, self.results):
+            if name == "new":
+                for text in itertools.islice(headings, 1):
+                    lines.heading(text)
+            elif name == "record":
+                lines.run(in_order(words[:12]), words[13:])
+            else:
+                add_call(lines, name, words, number, state, result)
+
+
+def add_call(lines, name, words, number, state, result):
+    group, words = cut(words, 1, 1, 0, 0, 0, 0)
+    front = state[13 : 13 + state[0] * state[1]] if number == 0 else []
+    if name == "open":
+        (numbers, factor), _ = cut(words[8:], 0, 1)
+        lines.call(name, group, [*words[:8], numbers, factor], number, [front, *in_order(state[:12])] if number == 0 else [])
+    elif name == "sweep":
+        lines.call(name, group, words[:2], number, [*in_order(state[:12]), front] if number == 0 else [])
+    else:
+        given, _ = cut(words, 1, 1, 0, 1, 1, 1, 1)
+        back = []
+        if number == 0:
+            (b, dual), _ = cut(result[10:], 0, 0)
+            back = [bytes(b), dual, *result[:10]]
+        lines.call(name, group, given, number, back)
 
 
 ALL = {("rank", r) for r in range(33)} | {("status", k) for k in range(3)} | {
@@ -559,9 +493,10 @@ def hold_whole(job, result, factor):
     last = {}
     for name, *words in map(str.split, done.stdout.decode().splitlines()):
         last[name] = words
+    doubles = lambda words: [int(w, 16) for w in words]
     assert last["answer"] == [answer_of(result)], (job, result)
-    assert last["dual_variables"] == result[len(result) - len(last["dual_variables"]):], (job, result)
-    assert last.get("factor", last["start_factor"]) == factor, (job, factor)
+    assert doubles(last["dual_variables"]) == result[len(result) - len(last["dual_variables"]) :], (job, result)
+    assert doubles(last.get("factor", last["start_factor"])) == factor, (job, factor)
 
 
 def judged(scripts):
@@ -573,39 +508,27 @@ def judged(scripts):
     return answers
 
 
-def stored():
+def add(lines):
     rng = random.Random("runs 1")
     wholes = answered(list(whole_runs(rng)))
-    faults = judged([*fault_runs(rng), *edge_runs(rng)])
+    broken = judged([*fault_runs(rng), *edge_runs(rng)])
     rest = Answered([line for script in settings_runs(rng) for line in script])
     short = [pair for pair in random_runs(rng, 190) if sum(map(len, pair[0])) < 10000]
     others = answered(short + [(script, None) for script in large_runs(rng)])
-    assert wholes.seen | faults.seen | rest.seen | others.seen == ALL
+    assert wholes.seen | broken.seen | rest.seen | others.seen == ALL
     rng = random.Random("runs 2")
-    return [*wholes.out, *faults.out, *rest.out, *others.out, "# refused calls over NaNs", *judged(nan_runs(rng)).out,
-            "# round counts of sweeps", *counted_answers(rng), "# more than 1,000 sweeps", *long_answers()]
+    for text, answers in (
+            ("whole runs", wholes), ("faults, alone and in pairs", broken), ("limits and tolerances", rest), ("random scripts, and the largest tables", others),
+            ("refused calls over NaNs", judged(nan_runs(rng))), ("round counts of sweeps", counted_answers(rng))):
+        lines.heading(text)
+        answers.add(lines)
+    lines.heading("more than 1,000 sweeps")
+    add_long(lines)
 
 
-def main():
-    arguments = sys.argv[1:]
-    if arguments == ["--check"] and not os.access(PROGRAM, os.X_OK):
-        print("no oracle is built (oracle/README.md): not run")
-        sys.exit(77)
-    if arguments[:1] == ["--random"]:
-        count, seed = map(int, arguments[1:])
-        rng = random.Random(f"random runs {seed}")
-        for at in range(0, count, 250):
-            print("\n".join(answered(list(random_runs(rng, min(250, count - at)))).out))
-        return
-    text = "\n".join(stored()) + "\n"
-    if arguments == ["--check"]:
-        if text != open(STORED).read():
-            sys.exit("host/runs.txt is not what tools/make_runs.py makes")
-    elif not arguments:
-        with open(STORED, "w") as out:
-            out.write(text)
-    else:
-        sys.exit(__doc__)
-
-
-main()
+def seeded(lines, count, seed):
+    """So many random scripts, in batches."""
+    rng = random.Random(f"random runs {seed}")
+    for at in range(0, count, 250):
+        answered(list(random_runs(rng, min(250, count - at)))).add(lines)
+        yield

@@ -1,32 +1,17 @@
-#!/usr/bin/env python3
-"""Writes host/jobs.txt: jobs with the Rust oracle's answers, in hexadecimal, for host/replay_jobs.c.
+"""Stored jobs with the Rust oracle's answers. Where a job was made for a number, the oracle must answer that number.
 
-  tools/make_jobs.py            writes it and counts the jobs by number
-  tools/make_jobs.py --check    compares it with what is stored, and writes nothing
-
-A line `# NUMBER what` stands before each job; 00 is accepted. Where a job was made for a number, the oracle must answer that number.
+Each job is a line with slices of just the size asked for, and two with an answer slice and a workspace a byte too short.
 """
 import collections
-import os
 import random
-import subprocess
-import sys
 
-sys.dont_write_bytecode = True
-TOP = os.path.dirname(os.path.dirname(os.path.abspath(__file__)))
-sys.path.insert(0, os.path.join(TOP, "oracle"))
-import gen  # noqa: E402
-import long_runs  # noqa: E402
+import gen
+import long_runs
+from lists import ANSWER, WORKSPACE, oracle
 
-PROGRAM = os.path.join(TOP, "target", "oracle", "release", "oracle")
-LIST = os.path.join(TOP, "host", "jobs.txt")
 SEED = 20261116
 ODD_NUMBERS = [("NaN", x) for x in gen.NANS] + [("infinite", x) for x in gen.INFS]
 STYLES = ["mixed", "tiny", "huge", "zero", "whole", "odd", "subnormal"]
-
-
-def oracle(mode, text=""):
-    return subprocess.run([PROGRAM, *mode], input=text, capture_output=True, text=True, check=True).stdout.split()
 
 
 # ---- accepted jobs ---------------------------------------------------------------------------
@@ -143,8 +128,8 @@ def limits(rng):
 
 def large(rng):
     for rule in range(5):
-        yield f"the large job, rule {rule}", bytes.fromhex(oracle(["problem", "job", str(rule), "17", "200", "128", "30", "1"])[0])
-    yield "the large job without sweeps", bytes.fromhex(oracle(["problem", "job", "3", "17", "0", "128", "2", "1"])[0])
+        yield f"the large job, rule {rule}", bytes.fromhex(oracle(["problem", "job", str(rule), "17", "200", "128", "30", "1"], "")[0])
+    yield "the large job without sweeps", bytes.fromhex(oracle(["problem", "job", "3", "17", "0", "128", "2", "1"], "")[0])
     for n in (40, 60, 127):
         yield f"n {n}", job(rng, some_hall(rng, n), rank=3, most=5, width=16, draw_count=4)
 
@@ -156,7 +141,7 @@ def accepted(rng):
 
 
 def long_jobs():
-    """Jobs in which the checks at sweeps 256, 260 and 1,000 decide; tools/make_runs.py holds that they do."""
+    """Jobs in which the checks at sweeps 256, 260 and 1,000 decide; runs.py holds that they do."""
     for case in long_runs.cases():
         yield 0, case.text, gen.record(case.job)
 
@@ -282,31 +267,21 @@ def cases():
             yield number, text, record
 
 
-def stored():
-    made = list(cases())
-    words = [record.hex().upper() or "-" for _, _, record in made]
-    lines, counts = [], collections.Counter()
-    for (number, text, _), word, answer in zip(made, words, oracle(["answers"], "\n".join(words)), strict=True):
-        got = int(answer[10:], 16) if len(answer) == 12 else 0
-        if number not in (None, got):
-            sys.exit(f"made for {number}, answered {got}: {text}")
+def answers(records):
+    """Pairs of a number and an answer record."""
+    lines = oracle(["answers"], "".join((record.hex().upper() or "-") + "\n" for record in records))
+    assert len(lines) == len(records)
+    return [(int(line[10:], 16) if len(line) == 12 else 0, bytes.fromhex(line)) for line in lines]
+
+
+def add(lines):
+    """Writes the list; gives the jobs' count by number."""
+    made, counts = list(cases()), collections.Counter()
+    for (number, text, record), (got, answer) in zip(made, answers([record for _, _, record in made])):
+        assert number in (None, got), (number, got, text)
         counts[got] += 1
-        lines.append(f"# {got:02} {text}\n{word} {answer}\n")
-    return "".join(lines), counts
-
-
-def main():
-    check = "--check" in sys.argv
-    if check and not os.path.exists(PROGRAM):
-        print("no oracle is built (oracle/README.md): not run")
-        sys.exit(77)
-    text, counts = stored()
-    if not check:
-        open(LIST, "w").write(text)
-        print(f"{counts[0]} accepted, {sum(counts.values()) - counts[0]} refused:", ", ".join(f"{n} by {k}" for k, n in sorted(counts.items()) if k))
-    elif open(LIST).read() != text:
-        sys.exit("host/jobs.txt is not what tools/make_jobs.py makes")
-
-
-if __name__ == "__main__":
-    main()
+        lines.heading(f"{got:02} {text}")
+        lines.call("answer", [record], [WORKSPACE, ANSWER], got, [answer])
+        lines.call("answer", [record], [WORKSPACE, ANSWER - 1], 31, [b""])
+        lines.call("answer", [record], [WORKSPACE - 1, ANSWER], 31, [b""])
+    return counts
