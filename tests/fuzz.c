@@ -1,12 +1,13 @@
-// For libFuzzer: the record call on any bytes (host/fuzz.sh). The first byte of an input says how slices are lent, the rest is the job. Each slice
+// For libFuzzer: the record call on any bytes (tests/fuzz.sh). The first byte of an input says how slices are lent, the rest is the job. Each slice
 // stands against a page that may not be touched, at its end or at its start. Checked are the number, the bytes that must stay, and of an accepted
 // job the figures that can be worked out from the record: cost, floor, rounds, and that no other choice of one wagon costs less.
-#include <stdint.h>
+#include <stdio.h>
+#include <stdlib.h>
 #include <sys/mman.h>
 #include <unistd.h>
-#include "hex.h"
+#include "wagonplan.h"
 
-enum { PAGE = 4096, ROOM = 20 * PAGE, SHORT_ANSWER = 6, SHORT_WORKSPACE = 7 };
+enum { PAGE = 4096, ROOM = 20 * PAGE, SHORT_ANSWER = 6, SHORT_WORKSPACE = 7, UNWRITTEN = 0xA5 };
 static uint8_t *job_room, *workspace_room, *answer_room;
 static unsigned long calls[32]; // by number
 
@@ -27,6 +28,17 @@ static uint8_t *guarded(void) {
 }
 
 static uint8_t *slice(uint8_t *room, size_t length, int at_start) { return at_start ? room : room + ROOM - length; }
+
+static int unwritten(const uint8_t *bytes, size_t from, size_t to) {
+    while (from < to && bytes[from] == UNWRITTEN) from++;
+    return from == to;
+}
+
+static uint8_t answered(const uint8_t *job, size_t length, uint8_t *workspace, size_t workspace_len, uint8_t *answer, size_t answer_len) {
+    wagonplan_u8 lent = {job, length};
+    wagonplan_u8_mut room = {workspace, workspace_len}, written = {answer, answer_len};
+    return wagonplan_answer(lent, room, written);
+}
 
 static uint64_t number_at(const uint8_t *bytes, size_t at, size_t count) {
     uint64_t x = 0;
@@ -86,7 +98,7 @@ static void check_call(const uint8_t *job, size_t length, uint8_t flags, uint8_t
     uint8_t *workspace = slice(workspace_room, workspace_len, flags & 16), *answer = slice(answer_room, answer_len, flags & 16);
     memset(workspace, UNWRITTEN, workspace_len);
     memset(answer, UNWRITTEN, answer_len);
-    uint8_t number = answer_record(job, length, workspace, workspace_len, answer, answer_len);
+    uint8_t number = answered(job, length, workspace, workspace_len, answer, answer_len);
     must((number == 31) == ((flags & 7) >= SHORT_ANSWER), "31 where a slice is too short, and only there");
     must(number == 0 || number == 31 || (11 <= number && number <= 19), "the number");
     reached[number] = 1, calls[number]++;
@@ -98,7 +110,7 @@ static void check_call(const uint8_t *job, size_t length, uint8_t flags, uint8_t
     check_accepted(job, answer);
     memcpy(first, answer, written);
     memset(workspace, 0xFF, workspace_len);
-    answer_record(job, length, workspace, workspace_len, answer, answer_len);
+    answered(job, length, workspace, workspace_len, answer, answer_len);
     must(memcmp(first, answer, written) == 0, "the same answer from another workspace");
 }
 

@@ -1,6 +1,6 @@
 #!/usr/bin/env bash
-# Runs the record call under libFuzzer: host/fuzz.sh [RUNS] [SEED] [LONGEST]. Every stored job once, then RUNS inputs of at most LONGEST bytes,
-# made from the stored jobs; what it finds goes to target/fuzz. The archive is that of host/checked_archive.sh.
+# Runs the record call under libFuzzer: tests/fuzz.sh [RUNS] [SEED] [LONGEST]. Every stored job once, then RUNS inputs of at most LONGEST bytes,
+# made from the stored jobs; what it finds goes to target/fuzz. The archive is that of tests/checked_archive.sh.
 set -eu
 cd "$(dirname "$0")/.."
 runs=${1:-100000} seed=${2:-1} longest=${3:-1500}
@@ -8,18 +8,19 @@ if ! echo 'int LLVMFuzzerTestOneInput() { return 0; }' | clang -x c -fsanitize=f
     echo "no clang with libFuzzer and its checks: not run"
     exit 77
 fi
-host/checked_archive.sh
+tests/checked_archive.sh
 rm -rf target/fuzz/stored target/fuzz/corpus
-mkdir -p target/fuzz/stored target/fuzz/corpus target/host
-clang -std=c11 -O2 -g -Wall -Wextra -D_GNU_SOURCE -Ihost -fsanitize=fuzzer,address,undefined -fno-sanitize-recover=all -o target/host/fuzz host/fuzz.c target/fuzz/librecord_call.a -lm -lpthread
+mkdir -p target/fuzz/stored target/fuzz/corpus target/log
+clang -std=c11 -O2 -g -Wall -Wextra -D_GNU_SOURCE -Iinclude -fsanitize=fuzzer,address,undefined -fno-sanitize-recover=all -o target/fuzz/fuzz tests/fuzz.c target/fuzz/libwagonplan.a -lm -lpthread
 python3 - "$longest" <<'PY'
 import sys
-for k, line in enumerate(line for line in open("host/jobs.txt") if line[0] != "#"):
-    job = b"\x08" + bytes.fromhex(line.split()[0].strip("-"))
+words = [line.split() for line in open("tests/lists/jobs.txt") if line[0] != "#"]
+for k, word in enumerate(given for _, given, *_ in words if given != "~"):
+    job = b"\x08" + bytes.fromhex(word.strip("-"))
     for folder in ["stored"] + ["corpus"] * (len(job) <= int(sys.argv[1])):
         open(f"target/fuzz/{folder}/stored-{k:04}", "wb").write(job)
 PY
-run() { target/host/fuzz -seed="$seed" -timeout=60 -rss_limit_mb=4096 -artifact_prefix=target/fuzz/ "$@" 2>target/log/fuzz.txt || { tail -n 30 target/log/fuzz.txt; exit 1; }; }
+run() { target/fuzz/fuzz -seed="$seed" -timeout=60 -rss_limit_mb=4096 -artifact_prefix=target/fuzz/ "$@" 2>target/log/fuzz.txt || { tail -n 30 target/log/fuzz.txt; exit 1; }; }
 run target/fuzz/stored/*
 echo "stored jobs: $(find target/fuzz/stored -type f | wc -l), no finding"
 run -runs="$runs" -max_len="$((longest + 1))" -print_final_stats=1 target/fuzz/corpus
