@@ -96,6 +96,7 @@ def add(lines):
     for name in NAMES:
         lines.heading(name)
         add_leaves(lines, f"leaf-{name}", 40, "7", 6000)
+    add_leaves(lines, "leaf-dual_call", 60, "17", 6000)
     lines.heading("step")
     add_leaves(lines, "leaf-step", 150, "11", 9000)
     lines.heading("up to 128 signs of low rank")
