@@ -1,5 +1,5 @@
 #!/usr/bin/env bash
-# Builds target/fuzz/librecord_call.a: the record call as `rt staticlib` builds it, from the same proved module, but with the compiler's
+# Builds target/fuzz/libwagonplan.a: the calls as `rt staticlib` builds them, from the same proved module, but with the compiler's
 # assumptions checked (tools/checked_module.py), address checks and libFuzzer's coverage. The kit is seen through a folder of links, in which
 # its compiler is a script that adds these.
 set -eu
@@ -25,8 +25,8 @@ chmod +x "$links/$bin/clang"
 for folder in . on "on/$(uname -m)" "on/$(uname -m)/toolchain" "$bin"; do
     for there in "$kit/$folder"/*; do [ -e "$links/$folder/${there##*/}" ] || ln -s "$there" "$links/$folder/"; done
 done
-plain=target/staticlib/librecord_call.a
+plain=target/staticlib/libexports.a
 [ ! -f "$plain" ] || mv "$plain" target/fuzz/plain.a
-RATTLE_HOME=$links rt staticlib record_call >target/log/checked-record_call.txt 2>&1 || { tail -n 20 target/log/checked-record_call.txt; exit 1; }
-mv "$plain" target/fuzz/librecord_call.a
+RATTLE_HOME=$links rt staticlib exports >target/log/checked-exports.txt 2>&1 || { tail -n 20 target/log/checked-exports.txt; exit 1; }
+mv "$plain" target/fuzz/libwagonplan.a
 [ ! -f target/fuzz/plain.a ] || mv target/fuzz/plain.a "$plain"

@@ -6,6 +6,13 @@
 
 enum { UNWRITTEN = 0xA5 };
 
+// The record call on pointers and lengths.
+static inline uint8_t answer_record(const uint8_t *job, size_t job_len, uint8_t *workspace, size_t workspace_len, uint8_t *answer, size_t answer_len) {
+    wagonplan_u8 lent = {job, job_len};
+    wagonplan_u8_mut room = {workspace, workspace_len}, written = {answer, answer_len};
+    return wagonplan_answer(lent, room, written);
+}
+
 static inline int digit(char c) {
     if ('0' <= c && c <= '9') return c - '0';
     if ('A' <= c && c <= 'F') return c - 'A' + 10;

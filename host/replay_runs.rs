@@ -6,28 +6,20 @@ use std::collections::BTreeMap;
 use std::io::BufRead;
 
 extern "C" {
-    fn host_open(
+    fn wagonplan_raw_open(
         n: usize, count: usize, rows: *const u16, rows_len: usize, cols: *const u16, cols_len: usize, values: *const i64, values_len: usize,
-        c: *const i64, c_len: usize, rank: usize, rule: u8, number: f64, most: u32, minimum: u32, objective_tolerance: f64,
-        stationarity_tolerance: f64, start: u8, numbers: *const f64, numbers_len: usize, factor: *mut f64, factor_len: usize,
-        run_size: *mut usize, run_rank: *mut usize, run_rule: *mut u8, run_number: *mut f64, sweeps: *mut u32, last_objective: *mut f64,
-        run_objective_tolerance: *mut f64, run_stationarity_tolerance: *mut f64, run_minimum: *mut u32, run_most: *mut u32,
-        stage: *mut u8, status: *mut u8,
+        c: *const i64, c_len: usize, settings: *const u64, settings_len: usize, numbers: *const f64, numbers_len: usize, factor: *mut f64,
+        factor_len: usize, words: *mut u64, words_len: usize,
     ) -> u8;
-    fn host_sweep(
-        size: *mut usize, rank: *mut usize, rule: *mut u8, number: *mut f64, sweeps: *mut u32, last_objective: *mut f64,
-        objective_tolerance: *mut f64, stationarity_tolerance: *mut f64, minimum: *mut u32, most: *mut u32, stage: *mut u8, status: *mut u8,
-        n: usize, count: usize, rows: *const u16, rows_len: usize, cols: *const u16, cols_len: usize, values: *const i64, values_len: usize,
-        c: *const i64, c_len: usize, k: u32, factor: *mut f64, factor_len: usize,
+    fn wagonplan_raw_sweep(
+        words: *mut u64, words_len: usize, n: usize, count: usize, rows: *const u16, rows_len: usize, cols: *const u16, cols_len: usize,
+        values: *const i64, values_len: usize, c: *const i64, c_len: usize, k: u32, factor: *mut f64, factor_len: usize,
     ) -> u8;
-    fn host_finish(
-        size: usize, rank: usize, rule: u8, number: f64, sweeps: u32, last_objective: f64, objective_tolerance: f64,
-        stationarity_tolerance: f64, minimum: u32, most: u32, stage: u8, status: u8, n: usize, count: usize, rows: *const u16,
-        rows_len: usize, cols: *const u16, cols_len: usize, values: *const i64, values_len: usize, c: *const i64, c_len: usize,
-        width: usize, draw_count: usize, draws: *const f64, draws_len: usize, factor: *const f64, factor_len: usize, b: *mut u8,
-        b_len: usize, dual_variables: *mut f64, dual_len: usize, workspace: *mut u8, workspace_len: usize, to_status: *mut u8,
-        to_rank: *mut usize, to_n: *mut usize, to_sweeps: *mut u32, relaxed_objective: *mut f64, float_bound: *mut f64,
-        floor: *mut i64, rounded_cost: *mut i64, cost: *mut i64, rounds: *mut u64,
+    fn wagonplan_raw_finish(
+        words: *const u64, words_len: usize, n: usize, count: usize, rows: *const u16, rows_len: usize, cols: *const u16, cols_len: usize,
+        values: *const i64, values_len: usize, c: *const i64, c_len: usize, width: usize, draw_count: usize, draws: *const f64,
+        draws_len: usize, factor: *const f64, factor_len: usize, b: *mut u8, b_len: usize, dual_variables: *mut f64, dual_len: usize,
+        workspace: *mut u8, workspace_len: usize, result: *mut u64, result_len: usize,
     ) -> u8;
 }
 
@@ -81,6 +73,11 @@ impl Table {
     }
 }
 
+const RUN_WORDS: usize = 12;
+const SETTING_WORDS: usize = 8;
+const RESULT_WORDS: usize = 10;
+const MORE: u64 = 0x7FF0_4321_0000_8765;
+
 #[derive(Clone, Copy)]
 struct Record {
     size: usize,
@@ -127,6 +124,32 @@ impl Record {
             most: w.number(),
             stage: w.number(),
             status: w.number(),
+        }
+    }
+    /// Its words, in the order of include/wagonplan.h, and one more, which no call may touch.
+    fn words(&self) -> [u64; RUN_WORDS + 1] {
+        let doubles = self.doubles().map(f64::to_bits);
+        let counts = self.counts();
+        [
+            counts[0], counts[1], counts[2], doubles[0], counts[3], doubles[1], doubles[2], doubles[3], counts[5], counts[4], counts[6],
+            counts[7], MORE,
+        ]
+    }
+    fn of(words: &[u64; RUN_WORDS + 1]) -> Self {
+        assert!(words[RUN_WORDS] == MORE, "a word behind the record is written");
+        Self {
+            size: words[0] as usize,
+            rank: words[1] as usize,
+            rule: words[2].try_into().expect("a rule"),
+            number: f64::from_bits(words[3]),
+            sweeps: words[4].try_into().expect("sweeps"),
+            last_objective: f64::from_bits(words[5]),
+            objective_tolerance: f64::from_bits(words[6]),
+            stationarity_tolerance: f64::from_bits(words[7]),
+            minimum: words[9].try_into().expect("a minimum"),
+            most: words[8].try_into().expect("a most"),
+            stage: words[10].try_into().expect("a stage"),
+            status: words[11].try_into().expect("a status"),
         }
     }
     fn counts(&self) -> [u64; 8] {
@@ -251,19 +274,22 @@ fn refused(state: &State, length: usize, expected: &Expected, call: impl Fn(&mut
 }
 
 fn open(w: &mut Words, t: &Table, state: &mut State, expected: &Expected) -> Differs {
-    let (rank, rule, number, most, minimum) = (w.number(), w.number(), w.double(), w.number(), w.number());
-    let (objective_tolerance, stationarity_tolerance, start) = (w.double(), w.double(), w.number());
+    let settings: [u64; SETTING_WORDS] = std::array::from_fn(|_| w.word());
     let numbers = w.slice(Words::double);
     let length = w.number();
     w.end();
     let call = |run: &mut Record, factor: &mut Lent| unsafe {
-        host_open(
-            t.n, t.count, t.rows.as_ptr(), t.rows.len(), t.cols.as_ptr(), t.cols.len(), t.values.as_ptr(), t.values.len(), t.c.as_ptr(), t.c.len(),
-            rank, rule, number, most, minimum, objective_tolerance, stationarity_tolerance, start, numbers.as_ptr(), numbers.len(),
-            factor.now.as_mut_ptr(), factor.length, &mut run.size, &mut run.rank, &mut run.rule, &mut run.number, &mut run.sweeps,
-            &mut run.last_objective, &mut run.objective_tolerance, &mut run.stationarity_tolerance, &mut run.minimum, &mut run.most,
-            &mut run.stage, &mut run.status,
-        )
+        let mut words = run.words();
+        let mut answer = |settings_len, words_len| {
+            wagonplan_raw_open(
+                t.n, t.count, t.rows.as_ptr(), t.rows.len(), t.cols.as_ptr(), t.cols.len(), t.values.as_ptr(), t.values.len(), t.c.as_ptr(), t.c.len(),
+                settings.as_ptr(), settings_len, numbers.as_ptr(), numbers.len(), factor.now.as_mut_ptr(), factor.length, words.as_mut_ptr(), words_len,
+            )
+        };
+        assert!(answer(SETTING_WORDS - 1, RUN_WORDS) == 31 && answer(SETTING_WORDS, RUN_WORDS - 1) == 31, "words too short");
+        let got = answer(SETTING_WORDS, RUN_WORDS + 1);
+        *run = Record::of(&words);
+        got
     };
     if expected.number != 0 {
         return refused(state, length, expected, call);
@@ -283,12 +309,17 @@ fn sweep(w: &mut Words, t: &Table, state: &mut State, expected: &Expected) -> Di
     let _workspace: u64 = w.number();
     w.end();
     let call = |run: &mut Record, factor: &mut Lent| unsafe {
-        host_sweep(
-            &mut run.size, &mut run.rank, &mut run.rule, &mut run.number, &mut run.sweeps, &mut run.last_objective,
-            &mut run.objective_tolerance, &mut run.stationarity_tolerance, &mut run.minimum, &mut run.most, &mut run.stage, &mut run.status,
-            t.n, t.count, t.rows.as_ptr(), t.rows.len(), t.cols.as_ptr(), t.cols.len(), t.values.as_ptr(), t.values.len(), t.c.as_ptr(), t.c.len(),
-            k, factor.now.as_mut_ptr(), factor.length,
-        )
+        let mut words = run.words();
+        let mut answer = |words_len| {
+            wagonplan_raw_sweep(
+                words.as_mut_ptr(), words_len, t.n, t.count, t.rows.as_ptr(), t.rows.len(), t.cols.as_ptr(), t.cols.len(), t.values.as_ptr(),
+                t.values.len(), t.c.as_ptr(), t.c.len(), k, factor.now.as_mut_ptr(), factor.length,
+            )
+        };
+        assert!(answer(RUN_WORDS - 1) == 31, "words too short");
+        let got = answer(RUN_WORDS + 1);
+        *run = Record::of(&words);
+        got
     };
     if expected.number != 0 {
         return refused(state, length, expected, call);
@@ -312,20 +343,20 @@ fn finish(w: &mut Words, t: &Table, state: &State, expected: &Expected, answer: 
     let mut b = vec![0xA5u8; b_length + PAST];
     let mut dual = Lent::new(&[], dual_length, expected.line);
     let mut workspace = vec![0x5Au8; room + PAST];
-    let (mut status, mut rank, mut n, mut sweeps) = (77u8, 77usize, 777usize, 7777u32);
-    let (mut relaxed, mut bound, mut floor, mut rounded, mut cost, mut rounds) = (7.25, 7.75, 777i64, 7777i64, 77777i64, 777u64);
-    let run = state.run;
-    let got = unsafe {
-        host_finish(
-            run.size, run.rank, run.rule, run.number, run.sweeps, run.last_objective, run.objective_tolerance, run.stationarity_tolerance,
-            run.minimum, run.most, run.stage, run.status, t.n, t.count, t.rows.as_ptr(), t.rows.len(), t.cols.as_ptr(), t.cols.len(),
-            t.values.as_ptr(), t.values.len(), t.c.as_ptr(), t.c.len(), width, draw_count, draws.as_ptr(), draws.len(), factor.now.as_ptr(),
-            factor.length, b.as_mut_ptr(), b_length, dual.now.as_mut_ptr(), dual_length, workspace.as_mut_ptr(), room, &mut status,
-            &mut rank, &mut n, &mut sweeps, &mut relaxed, &mut bound, &mut floor, &mut rounded, &mut cost, &mut rounds,
+    let (words, mut result) = (state.run.words(), [MORE; RESULT_WORDS + 1]);
+    let mut call = |words_len, result_len| unsafe {
+        wagonplan_raw_finish(
+            words.as_ptr(), words_len, t.n, t.count, t.rows.as_ptr(), t.rows.len(), t.cols.as_ptr(), t.cols.len(), t.values.as_ptr(),
+            t.values.len(), t.c.as_ptr(), t.c.len(), width, draw_count, draws.as_ptr(), draws.len(), factor.now.as_ptr(), factor.length,
+            b.as_mut_ptr(), b_length, dual.now.as_mut_ptr(), dual_length, workspace.as_mut_ptr(), room, result.as_mut_ptr(), result_len,
         )
     };
-    let counts = [status as u64, rank as u64, n as u64, sweeps as u64];
-    let wholes = [floor as u64, rounded as u64, cost as u64, rounds];
+    assert!(call(RUN_WORDS - 1, RESULT_WORDS) == 31 && call(RUN_WORDS, RESULT_WORDS - 1) == 31, "words too short");
+    let got = call(RUN_WORDS + 1, RESULT_WORDS + 1);
+    assert!(result[RESULT_WORDS] == MORE, "a word behind the result is written");
+    let counts = [result[0], result[1], result[2], result[3]];
+    let (relaxed, bound) = (f64::from_bits(result[4]), f64::from_bits(result[5]));
+    let wholes = [result[6], result[7], result[8], result[9]];
     let mut differs = vec![];
     hold(&mut differs, "number", got == expected.number);
     hold(&mut differs, "factor", factor.stays_from(0));
@@ -334,8 +365,7 @@ fn finish(w: &mut Words, t: &Table, state: &State, expected: &Expected, answer: 
         hold(&mut differs, "choice of a refused call", b.iter().all(|&x| x == 0xA5));
         hold(&mut differs, "multipliers of a refused call", dual.stays_from(0));
         hold(&mut differs, "workspace of a refused call", workspace.iter().all(|&x| x == 0x5A));
-        let as_was = counts == [77, 77, 777, 7777] && (relaxed, bound) == (7.25, 7.75) && wholes == [777, 7777, 77777, 777];
-        hold(&mut differs, "result of a refused call", as_was);
+        hold(&mut differs, "result of a refused call", result == [MORE; RESULT_WORDS + 1]);
         return differs;
     }
     if expected.number != 0 {
