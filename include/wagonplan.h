@@ -285,11 +285,10 @@ static inline uint8_t wagonplan_answer(wagonplan_u8 job, wagonplan_u8_mut worksp
 // Opens a run over (H, c). `numbers` are the start's, as in a job record; the factor takes m * rank doubles, 4,096 at most.
 static inline uint8_t wagonplan_open(const wagonplan_table *t, const wagonplan_settings *settings, wagonplan_f64 numbers, wagonplan_f64_mut factor,
                                      wagonplan_run *run) {
-    uint64_t given[WAGONPLAN_SETTING_WORDS], words[WAGONPLAN_RUN_WORDS];
+    uint64_t given[WAGONPLAN_SETTING_WORDS], words[WAGONPLAN_RUN_WORDS] = {0};
     unsigned mode = wagonplan_enter();
     uint8_t number;
     memcpy(given, settings, sizeof given);
-    memcpy(words, run, sizeof words);
     number = wagonplan_raw_open(t->n, t->count, t->rows.at, t->rows.len, t->cols.at, t->cols.len, t->values.at, t->values.len, t->c.at, t->c.len, given,
                                 WAGONPLAN_SETTING_WORDS, numbers.at, numbers.len, factor.at, factor.len, words, WAGONPLAN_RUN_WORDS);
     if (number == 0) memcpy(run, words, sizeof words);

@@ -6,7 +6,7 @@ cd "$(dirname "$0")/.."
 jobs=${1:-100000} scripts=${2:-10000} problems=${3:-10000} seed=${4:-1} differing=0
 mkdir -p target/log/at_scale
 (cd oracle && CARGO_TARGET_DIR="$OLDPWD/target/oracle" cargo build --release --offline --locked --quiet)
-WAGONPLAN_ARCHIVE=$(realpath "$(tools/archive.sh)")
+WAGONPLAN_ARCHIVE=$(tools/archive.sh)
 export WAGONPLAN_ARCHIVE
 part() { # KIND COUNT
     local log=target/log/at_scale/$1.txt

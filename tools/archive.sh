@@ -7,4 +7,4 @@ if [ -z "${WAGONPLAN_ARCHIVE:-}" ]; then
     rt staticlib exports >target/log/staticlib-exports.txt 2>&1 || { tail -n 20 target/log/staticlib-exports.txt >&2; exit 1; }
     cp target/staticlib/libexports.a target/libwagonplan.a
 fi
-echo "${WAGONPLAN_ARCHIVE:-target/libwagonplan.a}"
+echo "${WAGONPLAN_ARCHIVE:-$PWD/target/libwagonplan.a}"

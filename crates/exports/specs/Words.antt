@@ -1,10 +1,10 @@
 -- The run record, the settings of an open and the result of a finish as words of 64 bits, which is how C passes them: whole numbers as they are,
 -- signed ones in two's complement, doubles as their bits (every NaN as 7FF8000000000000).
-use Prim.Native.Nat.{ℕ}
+use Prim.Native.Nat.{ℕ, zero, suc, _≤_}
 use mathlib.Core.Bool.{cond}
 use mathlib.Core.List.{List, [], _∷_}
-use lib.Dec.{ltb}
-use lib.Ieee.{Float, nan}
+use lib.Dec.{T, ltb}
+use lib.Ieee.{Float, nan, binary64, fits}
 use Rattle.laws.specs.Lists.{elem}
 use Rattle.ieee.specs.Floats.{doubleOf, bitsOf, bitsOfSigned, zero64}
 use Rattle.step_rules.specs.declared.StepRule.{StepRule}
@@ -38,7 +38,8 @@ countIn word = within 4294967295 word
 
 -- 0 is open, any other word is stopped
 abbrev pub stageIn : ℕ → Stage
-stageIn word = cond (ltb 0 word) Stopped Open
+stageIn zero = Open
+stageIn (suc k) = Stopped
 
 abbrev pub stageWord : Stage → ℕ
 stageWord Open = 0
@@ -88,6 +89,17 @@ wordsOf run =
     ∷ stageWord (run .stage)
     ∷ run .status
     ∷ []
+
+-- a record that words can hold, as every one of the machine is: doubles, counts of 32 bits, a status of 8
+pub record Fitting (run : Run) : Type 0 where
+  pub value-fits : T (fits binary64 (ruleValue (run .rule)))
+  pub last-fits : T (fits binary64 (run .«last_objective»))
+  pub objective-fits : T (fits binary64 (run .«objective_tolerance»))
+  pub stationarity-fits : T (fits binary64 (run .«stationarity_tolerance»))
+  pub sweeps-fit : run .sweeps ≤ 4294967295
+  pub most-fit : run .most ≤ 4294967295
+  pub minimum-fit : run .minimum ≤ 4294967295
+  pub status-fits : run .status ≤ 255
 
 -- the settings of an open: rank, rule, its number, most, minimum, objective tolerance, stationarity tolerance, start
 unfoldable pub settingsIn : CostTable → List ℕ → List Float → Settings

@@ -43,10 +43,11 @@ pub fn count_in(word: u64) -> u32
 fn stage_in(word: u64) -> Stage
     ensures { λ r. ⌜ r ≡ stageIn word ⌝ }
 {
-    if 0 < word {
-        return Stage::Stopped;
+    if word == 0 {
+        Stage::Open
+    } else {
+        Stage::Stopped
     }
-    Stage::Open
 }
 
 fn stage_word(stage: Stage) -> u64
@@ -117,7 +118,7 @@ pub fn run_in(words: &[u64]) -> Run
 
 // The words of a run record.
 fn words_of(run: Run) -> [u64; RUN_WORDS]
-    ensures { λ r. ⌜ r ≡ wordsOf run ⌝ }
+    ensures { λ r. ⌜ (r ≡ wordsOf run) × (runIn r ≡ run) ⌝ }
 {
     let rule = run.rule;
     let stage = run.stage;
@@ -155,25 +156,25 @@ fn result_words(x: FinishResult) -> [u64; RESULT_WORDS]
     ]
 }
 
-// Writes words over the front of a slice.
-fn put_words(from: &[u64], to: &mut [u64])
-    requires { ⌜ length (now from) ≤ length (now to) ⌝ }
-    ensures { λ _. ⌜ now (to .exit) ≡ over (now (from .entry)) (now (to .entry)) ⌝ }
+// Copies words into a slice of as many.
+fn copy_words(to: &mut [u64], from: &[u64])
+    requires { ⌜ length (now to) ≡ length (now from) ⌝ }
+    ensures { λ _. ⌜ now (to .exit) ≡ now (from .entry) ⌝ }
 {
-    let mut i: usize = 0;
-    while i < from.len() {
-        to[i] = from[i];
-        i += 1;
+    let mut k = 0;
+    while k < from.len() {
+        to[k] = from[k];
+        k += 1;
     }
 }
 
 // Writes a run record over the front of the words.
 pub fn put_run(run: Run, words: &mut [u64])
     requires { ⌜ runWords ≤ length (now words) ⌝ }
-    ensures { λ _. ⌜ now (words .exit) ≡ over (wordsOf run) (now (words .entry)) ⌝ }
+    ensures { λ _. ⌜ (now (words .exit) ≡ over (wordsOf run) (now (words .entry))) × (runIn (now (words .exit)) ≡ run) ⌝ }
 {
     let made = words_of(run);
-    put_words(&made, words);
+    copy_words(&mut words[..RUN_WORDS], &made);
 }
 
 // Writes a result over the front of the words.
@@ -182,5 +183,5 @@ pub fn put_result(x: FinishResult, words: &mut [u64])
     ensures { λ _. ⌜ now (words .exit) ≡ over (resultWordsOf x) (now (words .entry)) ⌝ }
 {
     let made = result_words(x);
-    put_words(&made, words);
+    copy_words(&mut words[..RESULT_WORDS], &made);
 }
