@@ -1,4 +1,4 @@
-// Every call of the solver for C and C++. Link with libwagonplan.a (host/archive.sh builds it).
+// Every call of the solver for C and C++. Link with libwagonplan.a (tools/archive.sh builds it).
 //
 // Which of two stores does each of n wagons go into? A choice b (a byte for each wagon, 0 or 1) costs half the sum of H_ij * b_i * b_j, plus the sum of
 // c_i * b_i. `wagonplan_answer` takes a problem as a record of bytes and answers with one. `wagonplan_open`, `wagonplan_sweep` and `wagonplan_finish` are

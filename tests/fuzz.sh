@@ -1,7 +1,7 @@
 #!/usr/bin/env bash
-# Runs the record call under libFuzzer: tests/fuzz.sh [RUNS] [SEED] [LONGEST]. Every stored job once, then RUNS inputs of at most LONGEST bytes,
-# made from the stored jobs; what it finds goes to target/fuzz. The archive is that of tests/checked_archive.sh.
-set -eu
+# With accesses and arithmetic checked (tests/checked_archive.sh): every stored call, then the record call under libFuzzer, tests/fuzz.sh [RUNS] [SEED] [LONGEST]:
+# every stored job once, then RUNS inputs of at most LONGEST bytes, made from the stored jobs; what it finds goes to target/fuzz.
+set -euo pipefail
 cd "$(dirname "$0")/.."
 runs=${1:-100000} seed=${2:-1} longest=${3:-1500}
 if ! echo 'int LLVMFuzzerTestOneInput() { return 0; }' | clang -x c -fsanitize=fuzzer,address,undefined -o /dev/null - 2>/dev/null; then
@@ -11,7 +11,12 @@ fi
 tests/checked_archive.sh
 rm -rf target/fuzz/stored target/fuzz/corpus
 mkdir -p target/fuzz/stored target/fuzz/corpus target/log
-clang -std=c11 -O2 -g -Wall -Wextra -D_GNU_SOURCE -Iinclude -fsanitize=fuzzer,address,undefined -fno-sanitize-recover=all -o target/fuzz/fuzz tests/fuzz.c target/fuzz/libwagonplan.a -lm -lpthread
+checked() { # NAME CHECKS
+    clang -std=c11 -O2 -g -Wall -Wextra -D_GNU_SOURCE -Iinclude -fsanitize="$2" -fno-sanitize-recover=all -o "target/fuzz/$1" "tests/$1.c" target/fuzz/libwagonplan.a -lm -lpthread
+}
+checked replay address,undefined
+target/fuzz/replay tests/lists/*.txt | tail -n 1
+checked fuzz fuzzer,address,undefined
 python3 - "$longest" <<'PY'
 import sys
 words = [line.split() for line in open("tests/lists/jobs.txt") if line[0] != "#"]

@@ -55,9 +55,9 @@ def first(*tests):
     return next((number for number, holds in tests if holds()), 0)
 
 
-def table_number(s, kind, later=(), **needed):
+def table_number(s, kind, **needed):
     lent = Lent(s, kind)
-    return first((31, lambda: lent.short(**needed)), *lent.numbers(), *later)
+    return first((31, lambda: lent.short(**needed)), *lent.numbers())
 
 
 def beam_number(s):
@@ -78,6 +78,13 @@ def factor_number(s):
         return lent.short(out=s["m"]) or factor or draws
 
     return first((31, short), *lent.numbers(), (17, lambda: bad_rank), (19, lambda: bad_draws))
+
+
+def sign_table_number(s):
+    """The slices for the sign table rest on n and on the count."""
+    lent, room = Lent(s, "wagons"), s["count"] + 3 * s["n"] + 1
+    written = lambda: not lent.bad_size and not lent.bad_count and any(s[k] < room for k in ("to_rows", "to_cols", "to_values"))
+    return first((31, lambda: lent.short(c=s["n"]) or written()), *lent.numbers())
 
 
 def decode_number(s):
@@ -115,6 +122,18 @@ def wagon_case(s):
 
 def lent_case(s):
     return [s[k] for k in ("m", "count", "rows", "cols", "values", "rank", "factor")]
+
+
+def rounded_case(s):
+    return "rounded_call", [*lent_case(s), s["draw_count"], s["draws"], s["out"]]
+
+
+def dual_case(s):
+    return "dual_call", [*lent_case(s), s["out"]]
+
+
+def table_case(s):
+    return "sign_table_number", [s[k] for k in SIGN_TABLE]
 
 
 def entries_back(words):
@@ -162,21 +181,16 @@ class Call:
 SIGNED, HALL = " ".join(SIGN_TABLE), " ".join(TABLE)
 CALLS = {
     "beam_search": Call(SIGNED, "width start out workspace", beam_number, lambda s: ("beam", [*matrix(s, "m"), s["width"], list(s["start"][: s["m"]])]), beam_back),
-    "compute_rounded_sol": Call(
-        SIGNED, "rank factor draw_count draws out", factor_number, lambda s: ("rounded_call", [*lent_case(s), s["draw_count"], s["draws"], s["out"]]), rounded_back,
-        lambda s: ("rounded_call", [*lent_case(s), s["draw_count"], s["draws"], s["out"]])),
-    "dual_variables": Call(
-        SIGNED, "rank factor out", factor_number, lambda s: ("dual_call", [*lent_case(s), s["out"]]), dual_back, lambda s: ("dual_call", [*lent_case(s), s["out"]])),
+    "compute_rounded_sol": Call(SIGNED, "rank factor draw_count draws out", factor_number, rounded_case, rounded_back, rounded_case),
+    "dual_variables": Call(SIGNED, "rank factor out", factor_number, dual_case, dual_back, dual_case),
     "obj_rounded": Call(
         SIGNED, "signs", lambda s: table_number(s, "signs", signs=s["m"]), lambda s: ("obj_rounded", [*matrix(s, "m"), list(s["signs"][: s["m"]])]), list),
-    "floor_eighths": Call(
-        SIGNED, "", lambda s: table_number(s, "signs"), lambda s: ("floor", matrix(s, "m")), list, lambda s: ("sign_table_number", [s[k] for k in SIGN_TABLE])),
-    "entrywise_lower_bound": Call(
-        SIGNED, "", lambda s: table_number(s, "signs"), lambda s: ("bound", matrix(s, "m")), list, lambda s: ("sign_table_number", [s[k] for k in SIGN_TABLE])),
+    "floor_eighths": Call(SIGNED, "", lambda s: table_number(s, "signs"), lambda s: ("floor", matrix(s, "m")), list, table_case),
+    "entrywise_lower_bound": Call(SIGNED, "", lambda s: table_number(s, "signs"), lambda s: ("bound", matrix(s, "m")), list, table_case),
     "eval_qubo_objective": Call(
         HALL, "b", lambda s: table_number(s, "wagons", c=s["n"], b=s["n"]), lambda s: ("cost", [*wagon_case(s), list(s["b"][: s["n"]])]), list),
     "qubo_sign_table": Call(
-        HALL, "to_rows to_cols to_values", lambda s: sign_table_number(s), lambda s: ("signtable", wagon_case(s)), entries_back),
+        HALL, "to_rows to_cols to_values", sign_table_number, lambda s: ("signtable", wagon_case(s)), entries_back),
     "qubo_binary_from_sign_solution": Call(
         "", "m signs b", decode_number, lambda s: ("decode", [list(s["signs"][: s["m"]])]), lambda words: [bytes(slices(words, None)[0])]),
     "from_principal_submatrix": Call(
@@ -187,13 +201,6 @@ CALLS = {
         lambda s: ("lift", [s["m"], s["map"], s["fixed"], s["fixed_values"][: len(s["fixed"])], s["solution"][: len(s["map"])]]), lambda words: slices(words, None),
         lambda s: ("lift_number", [s["m"], s["map"], s["fixed"], len(s["fixed_values"]), len(s["solution"]), s["lifted"]])),
 }
-
-
-def sign_table_number(s):
-    """The slices for the sign table rest on n and on the count."""
-    lent, room = Lent(s, "wagons"), s["count"] + 3 * s["n"] + 1
-    written = lambda: not lent.bad_size and not lent.bad_count and any(s[k] < room for k in ("to_rows", "to_cols", "to_values"))
-    return first((31, lambda: lent.short(c=s["n"]) or written()), *lent.numbers())
 
 
 def too_large(s):

@@ -1,6 +1,4 @@
 """The calls on tables: seeded ones, accepted and refused, and every fault of every call that takes slices, alone and in pairs."""
-import random
-
 import calls
 import faults
 import gen
