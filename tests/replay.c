@@ -13,7 +13,7 @@
 enum { ARGUMENTS = 16, TABLE = 6, GUARD = 8, MORE = 5, NUMBERS = 256, STACK = 2 << 20, ODD_MODE = 0xFFE1 };
 enum { AS_STORED, GUARDED, LONGER, A_WORD_SHORT };
 
-static void give_up(const char *why);
+static _Noreturn void give_up(const char *why);
 
 // ---- arguments --------------------------------------------------------------------------------------
 
@@ -203,7 +203,7 @@ static uint64_t run[WAGONPLAN_RUN_WORDS];
 static uint64_t *factor;
 static size_t factor_count;
 
-static void give_up(const char *why) {
+static _Noreturn void give_up(const char *why) {
     fprintf(stderr, "%s, line %zu: %s\n", list_name, line_at, why);
     exit(2);
 }
@@ -500,7 +500,6 @@ static const Call *named(const char *name, size_t length) {
     for (size_t k = 0; k < CALLS; k++)
         if (strlen(calls[k].name) == length && !memcmp(calls[k].name, name, length)) return calls + k;
     give_up("no call has this name");
-    return 0;
 }
 
 // `run`, twelve words and a factor: what the next line goes on with.

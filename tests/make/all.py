@@ -14,6 +14,7 @@ import sys
 sys.dont_write_bytecode = True
 sys.path.insert(0, os.path.join(os.path.dirname(os.path.abspath(__file__)), "..", "..", "oracle"))
 import doubles  # noqa: E402
+import edges  # noqa: E402
 import factors  # noqa: E402
 import jobs  # noqa: E402
 import random_jobs  # noqa: E402
@@ -38,7 +39,7 @@ def add_tables(lines):
     tables.add_faults(lines)
 
 
-LISTS = {"tables": add_tables, "factors": factors.add, "steps": steps.add, "runs": runs.add, "jobs": jobs.add}
+LISTS = {"tables": add_tables, "factors": factors.add, "steps": steps.add, "edges": edges.add, "runs": runs.add, "jobs": jobs.add}
 SEEDED = {"ranks": steps.seeded, "jobs": random_jobs.seeded, "runs": runs.seeded, "reduced": reduced.seeded}
 
 
