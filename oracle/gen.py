@@ -716,7 +716,28 @@ def answer_room(rng, m, spoiled):
     return max(0, m + (rng.choice([0, 0, 0, 1, -1]) if spoiled else rng.choice([0, 0, 2])))
 
 
+def diagonal_call(rng):
+    """Size, table, rank and factor of an accepted call: values and stored zeros on the diagonal; the factor's rows usual, or each of its own style."""
+    style, zeros = rng.choice(["unit", "small", "small", "zeros"]), rng.choice([0.0, 0.5, 0.5, 1.0])
+    if WIDE or FULL is not None:
+        m, rank = shape(rng)
+        table = symmetric(rng, m, 4478 - m, style)
+    else:
+        m, rank = rng.randint(1, 8), rng.randint(1, 5)
+        pairs = [(i, j) for j in range(m) for i in range(j) if rng.random() < 0.7]
+        table = {place: v for i, j in pairs for v in [value(rng, style)] for place in [(i, j), (j, i)]}
+    for i in range(m):
+        table[i, i] = 0 if rng.random() < zeros else rng.choice([8, -8, rng.randint(-99, 99)])
+    stored = entries(table)
+    styles = rng.choice([["usual"], NUMBER_STYLES[-8:]])
+    f = [x for _ in range(m) for x in numbers(rng, rank, rng.choice(styles))]
+    return [m, len(stored), *[[e[k] for e in stored] for k in range(3)], rank, f], m
+
+
 def leaf_dual_call(rng):
+    if rng.random() < 0.6:
+        given, m = diagonal_call(rng)
+        return words(*given, answer_room(rng, m, False))
     given, m, _, spoiled = call(rng)
     return words(*given, answer_room(rng, m, spoiled))
 

@@ -745,7 +745,7 @@ def leaf_dual_call(w):
     room = w.u()
     short = short or 1 <= m <= 128 and room < m
     number = first((31, lambda: short), *numbers)
-    return out(number) if number else out(0, multipliers(entries, rows))
+    return out(number) if number else out(0, duals(entries, rows))
 
 
 def leaf_rounded_call(w):

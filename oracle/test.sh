@@ -58,6 +58,10 @@ for pair in 01:01 02:02 03:03 08:05 09:06 80:11; do
 done
 leaf "sqrt 4000000000000000" 3FF6A09E667F3BCD
 leaf "sqrt 0000000000000001" 1E60000000000000
+# m 1, 8 eighths at (0, 0), the factor 2.0: `dual_variables` is 4.0, the result field of a run 1.0.
+eight="0000000000000001 0000000000000001 $zero $zero 0000000000000008 0000000000000001 0000000000000001 4000000000000000"
+leaf "dual $eight" "0000000000000001 4010000000000000"
+leaf "multipliers $eight" "0000000000000001 $one"
 
 # replay FILE MODE: the file's lines, each up to its " = ", answered again.
 replay() {

@@ -9,7 +9,6 @@ use crate::refusals::{
     MOST_SIGN_MAGNITUDE,
 };
 use crate::sdp_solver::default_sdp_rank;
-use crate::sdp_solver::inside_solver::separate_diagonal;
 use crate::table::{eighths, sign_bytes, Table};
 use crate::words::{In, Out};
 use ndarray::Array2;
@@ -79,7 +78,7 @@ impl Call {
     }
 }
 
-/// `dual_variables`: over the table with its diagonal set aside, then added.
+/// `dual_variables`, the Rust's own: over the whole table, nothing set aside.
 pub fn dual(words: &mut In, out: &mut Out) -> Done {
     let call = Call::read(words)?;
     let room = words.count()?;
@@ -87,8 +86,7 @@ pub fn dual(words: &mut In, out: &mut Out) -> Done {
     out.word(u64::from(number));
     if number == 0 {
         let (q, factor) = call.taken();
-        let (work, diagonal) = separate_diagonal(&q);
-        out.doubles((dual_variables(&work, &factor) + &diagonal).iter());
+        out.doubles(dual_variables(&q, &factor).iter());
     }
     Ok(())
 }
