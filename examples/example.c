@@ -126,7 +126,7 @@ static void run_steps(void) {
     expect("with the figures of the record", x.status == WAGONPLAN_ALL_SWEEPS && x.n == 1 && x.cost == -16 && x.rounded_cost == 0 && x.floor == -16
            && x.rounds == 1 && b[0] == 1 && wagonplan_bits_of(x.relaxed_objective) == 0);
     printf("  cost %.3f, relaxed objective %.17g\n", wagonplan_eighth(x.cost), x.relaxed_objective);
-    settings.most = 3;
+    settings.most = 3, settings.minimum = 3;
     numbers.len = 2;
     expect("with sweeps a start by signs takes draws too: 31", said(wagonplan_open(&table, &settings, numbers, factor, &run)) == 31);
     settings.start = WAGONPLAN_START_FACTOR, settings.rank = 1;

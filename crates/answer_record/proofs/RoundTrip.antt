@@ -2,36 +2,20 @@
 --     answer-back    the fields
 --     choice-back    and the choice
 -- Assumes nothing.
-use Prim.Native.Nat.{ℕ, _+_, _^_, _<_, _≤_}
+use Prim.Native.Nat.{ℕ, _≤_}
 use mathlib.Core.Path.{_≡_, ap}
 use mathlib.Core.List.{List, _++_, append-assoc}
-use lib.Dec.{T}
 use lib.ListN.{length, take, drop, length-append}
 use lib.Seq.{take-at, drop-at, length-take-le}
 use lib.IntN.{ℤ}
-use lib.Ieee.{Float, binary64, fits}
-use mir.Syntax.{w64}
-use mir.Val.{SFits}
+use lib.Ieee.{Float}
 use Rattle.laws.specs.Lists.{over}
 use Rattle.job_reader.specs.Bytes.{bigEndian}
 use Rattle.job_reader.specs.Encode.{bytesOf}
 use Rattle.job_reader.proofs.Encode.{read-bytes, read-signed, read-double}
-use Rattle.answer_record.specs.Answer.{frameBytes, countBytes, floatBytes, eighthBytes, answerBytes, answerOf, choiceOf}
+use Rattle.answer_record.specs.Answer.{frameBytes, countBytes, floatBytes, eighthBytes, answerBytes, fieldsRead, choiceRead, Held}
 use Rattle.answer_record.specs.declared.answer.Answer.{Answer}
 use Rattle.answer_record.proofs.Sizes.{length-frame, length-count, length-float, length-eighth}
-
--- the fields are of their machine types
-pub record Held (a : Answer) : Type 0 where
-  pub status : a .status < 2 ^ 8
-  pub rank : a .rank < 2 ^ 8
-  pub n : a .n < 2 ^ 8
-  pub sweeps : a .sweeps < 2 ^ 32
-  pub relaxed : T (fits binary64 (a .«relaxed_objective»))
-  pub bound : T (fits binary64 (a .«float_bound»))
-  pub floor : SFits w64 (a .floor)
-  pub rounded : SFits w64 (a .«rounded_cost»)
-  pub cost : SFits w64 (a .cost)
-  pub rounds : a .rounds < 2 ^ 64
 
 same : {status status′ rank rank′ n n′ sweeps sweeps′ rounds rounds′ : ℕ} {relaxed relaxed′ bound bound′ : Float} {floor floor′ rounded rounded′ cost cost′ : ℤ}
     → status ≡ status′ → rank ≡ rank′ → n ≡ n′ → sweeps ≡ sweeps′ → relaxed ≡ relaxed′ → bound ≡ bound′ → floor ≡ floor′ → rounded ≡ rounded′ → cost ≡ cost′ → rounds ≡ rounds′
@@ -39,8 +23,8 @@ same : {status status′ rank rank′ n n′ sweeps sweeps′ rounds rounds′ :
     (record { status = status′; rank = rank′; n = n′; sweeps = sweeps′; «relaxed_objective» = relaxed′; «float_bound» = bound′; floor = floor′; «rounded_cost» = rounded′; cost = cost′; rounds = rounds′ })
 same a b c d e f g h i j = rw (a, b, c, d, e, f, g, h, i, j)
 
-pub answer-back : (a : Answer) (b out : List ℕ) → Held a → answerOf (over (answerBytes a b) out) ≡ a
-unfolding answerOf answerBytes frameBytes countBytes floatBytes eighthBytes bytesOf bigEndian
+pub answer-back : (a : Answer) (b out : List ℕ) → Held a → fieldsRead (over (answerBytes a b) out) ≡ a
+unfolding fieldsRead answerBytes frameBytes countBytes floatBytes eighthBytes bytesOf bigEndian
 answer-back a b out h =
     same (read-bytes 1 (a .status) (h .status)) (read-bytes 1 (a .rank) (h .rank)) (read-bytes 1 (a .n) (h .n)) (read-bytes 4 (a .sweeps) (h .sweeps))
     (read-double (a .«relaxed_objective») (h .relaxed)) (read-double (a .«float_bound») (h .bound))
@@ -57,9 +41,9 @@ after a b out =
     rw (append-assoc front (take (a .n) b) (drop (length (front ++ take (a .n) b)) out)) (drop-at front _ 60 (front-size a))
 
 n-back : (a : Answer) (b out : List ℕ) → Held a → bigEndian (over (answerBytes a b) out) 7 1 ≡ a .n
-unfolding answerOf
+unfolding fieldsRead
 n-back a b out h = ap (λ (x : Answer). x .n) (answer-back a b out h)
 
-pub choice-back : (a : Answer) (b out : List ℕ) → Held a → a .n ≤ length b → choiceOf (over (answerBytes a b) out) ≡ take (a .n) b
+pub choice-back : (a : Answer) (b out : List ℕ) → Held a → a .n ≤ length b → choiceRead (over (answerBytes a b) out) ≡ take (a .n) b
 choice-back a b out h long =
     rw (n-back a b out h, after a b out) (take-at (take (a .n) b) (drop (length (answerBytes a b)) out) (a .n) (length-take-le (a .n) b long))

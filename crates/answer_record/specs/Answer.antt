@@ -1,10 +1,13 @@
 -- The answer record (01, "Job and answer records"): its bytes, and what a reader finds in them. Big-endian; floats as bits, every NaN as
 -- 7FF8000000000000.
-use Prim.Native.Nat.{ℕ, _+_}
+use Prim.Native.Nat.{ℕ, _+_, _^_, _<_}
 use mathlib.Core.List.{List, _++_}
+use lib.Dec.{T}
 use lib.ListN.{take, drop}
 use lib.IntN.{ℤ}
-use lib.Ieee.{Float}
+use lib.Ieee.{Float, binary64, fits}
+use mir.Syntax.{w64}
+use mir.Val.{SFits}
 use Rattle.ieee.specs.Floats.{bitsOf, bitsOfSigned}
 use Rattle.job_reader.specs.Bytes.{bigEndian, signedAt, doubleAt}
 use Rattle.job_reader.specs.Encode.{bytesOf}
@@ -41,8 +44,8 @@ unfoldable pub refusalBytes : ℕ → List ℕ
 refusalBytes number = bytesOf 4 2 ++ bytesOf 1 1 ++ bytesOf 1 number
 
 -- what a reader of answers finds: the fields, and b
-unfoldable pub answerOf : List ℕ → Answer
-answerOf s =
+unfoldable pub fieldsRead : List ℕ → Answer
+fieldsRead s =
     record {
       status = bigEndian s 5 1;
       rank = bigEndian s 6 1;
@@ -56,5 +59,18 @@ answerOf s =
       rounds = bigEndian s 52 8;
     }
 
-abbrev pub choiceOf : List ℕ → List ℕ
-choiceOf s = take (bigEndian s 7 1) (drop 60 s)
+abbrev pub choiceRead : List ℕ → List ℕ
+choiceRead s = take (bigEndian s 7 1) (drop 60 s)
+
+-- the fields fit their bytes; those of every accepted job do (`held` of record_call)
+pub record Held (a : Answer) : Type 0 where
+  pub status : a .status < 2 ^ 8
+  pub rank : a .rank < 2 ^ 8
+  pub n : a .n < 2 ^ 8
+  pub sweeps : a .sweeps < 2 ^ 32
+  pub relaxed : T (fits binary64 (a .«relaxed_objective»))
+  pub bound : T (fits binary64 (a .«float_bound»))
+  pub floor : SFits w64 (a .floor)
+  pub rounded : SFits w64 (a .«rounded_cost»)
+  pub cost : SFits w64 (a .cost)
+  pub rounds : a .rounds < 2 ^ 64

@@ -3,17 +3,12 @@ use crate::put::put_bytes;
 use crate::put::put_number;
 use ieee::bits::bits_of;
 use ieee::bits::bits_of_signed;
-use job_reader::fields::f64_at;
-use job_reader::fields::i64_at;
-use job_reader::fields::u8_at;
-use job_reader::fields::u32_at;
-use job_reader::fields::u64_at;
 ghost use mathlib.Core.Path.{_≡_};
 ghost use Prim.Native.Nat.{_+_, _≤_};
 ghost use lib.ListN.{length};
 ghost use Rattle.laws.specs.Lists.{over};
 ghost use Rattle.answer_record.specs.Put.{put};
-ghost use Rattle.answer_record.specs.Answer.{frameBytes, countBytes, floatBytes, eighthBytes, answerBytes, refusalBytes, answerOf};
+ghost use Rattle.answer_record.specs.Answer.{frameBytes, countBytes, floatBytes, eighthBytes, answerBytes, refusalBytes};
 
 // The fields of one number each; floor and costs are eighths.
 pub struct Answer {
@@ -94,23 +89,4 @@ pub fn write_refusal(out: &mut [u8], number: u8)
     put_number(out, 0, 4, 2);
     put_number(out, 4, 1, 1);
     put_number(out, 5, 1, number as u64);
-}
-
-// The fields of an answer record.
-pub fn read_answer(bytes: &[u8]) -> Answer
-    requires { ⌜ 60 ≤ length (now bytes) ⌝ }
-    ensures { λ r. ⌜ r ≡ answerOf (now (bytes .entry)) ⌝ }
-{
-    Answer {
-        status: u8_at(bytes, 5),
-        rank: u8_at(bytes, 6),
-        n: u8_at(bytes, 7),
-        sweeps: u32_at(bytes, 8),
-        relaxed_objective: f64_at(bytes, 12),
-        float_bound: f64_at(bytes, 20),
-        floor: i64_at(bytes, 28),
-        rounded_cost: i64_at(bytes, 36),
-        cost: i64_at(bytes, 44),
-        rounds: u64_at(bytes, 52),
-    }
 }

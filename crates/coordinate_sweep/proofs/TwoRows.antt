@@ -3,7 +3,7 @@
 --     gradient-away    a row that no entry names may change
 -- Assumes nothing.
 use mathlib.Core.Path.{_≡_, refl, sym, ap, _∙_}
-use mathlib.Core.Bool.{Bool, true, false, cond}
+use mathlib.Core.Bool.{Bool, true, false}
 use mathlib.Core.Logic.{_⊎_, inl, inr}
 use mathlib.Core.List.{List, _++_, append-assoc}
 use Prim.Native.Nat.{ℕ, zero, suc, _+_, _*_, _-_, _≤_, _<_}
@@ -154,11 +154,6 @@ pub gradientAt-away : (cols : List ℕ) (values : List Float) (starts : List ℕ
     → gradientAt cols values starts rank (setRow rank factor i u) (i + 1) ≡ gradientAt cols values starts rank factor (i + 1)
 unfolding gradientAt meetsNext
 gradientAt-away cols values starts factor u rank i l n none = gradient-away _ _ factor u (i + 1) rank i l n none
-
--- what is found after one more
-pub below-next : (p : ℕ → Bool) (n : ℕ) (found : Bool) → found ≡ anyBelow n p → cond (p n) true found ≡ anyBelow (n + 1) p
-unfolding anyBelow
-below-next p n found e = rw (add-one n, e)
 
 length-momentum : (g : List Float) (inv beta : Float) (r : List Float) → length (momentumRow g inv beta r) ≡ length r
 unfolding momentumRow

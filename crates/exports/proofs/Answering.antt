@@ -63,7 +63,7 @@ found (S.Refused k) = false
 pub search-refused : {most : Limits} {m count : ℕ} {rows cols : List ℕ} {values : List ℤ} {width : ℕ} {start out workspace out′ workspace′ : List ℕ}
     (k : ℕ) (objective : ℤ) (rounds : ℕ) → BeamSearches most m count rows cols values width start out workspace out′ workspace′ (S.Refused k)
     → BeamSearches most m count rows cols values width start out workspace out′ workspace′ (searchedBy k objective rounds)
-search-refused zero objective rounds b = absurd (subst T (sym (ap found (b .accepted (sym (b .numbered)) .answers))) tt)
+search-refused zero objective rounds b = absurd (subst T (sym (ap found (b .answers (sym (b .numbered))))) tt)
 search-refused (suc k) objective rounds b = b
 
 abbrev counted : Reduced → Bool

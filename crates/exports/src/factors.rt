@@ -1,13 +1,12 @@
 // The calls on a sign table and a factor.
 use table_calls::Eighths;
-ghost use Prim.Native.Nat.{_*_};
-ghost use lib.ListN.{length, take};
+ghost use lib.ListN.{length};
 ghost use Rattle.tables.specs.Table.{tableOf};
 ghost use Rattle.run_limits.specs.Rank.{rankMeant};
 ghost use Rattle.rounding.specs.Rounding.{roundedSol, roundedObjective};
-ghost use Rattle.maxcut_oracle.specs.Table.{dualVariables};
+ghost use Rattle.maxcut_oracle.specs.Whole.{wholeMultipliers};
 ghost use Rattle.factor_calls.specs.Numbers.{roundedNumber, dualNumber};
-ghost use Rattle.factor_calls.specs.Answers.{Rounds, Multiplies};
+ghost use Rattle.factor_calls.specs.Answers.{RoundsFactor, Multiplies};
 ghost use Rattle.exports.specs.Answers.{eighthsBy, Stays};
 
 #[no_mangle]
@@ -24,7 +23,7 @@ pub extern "C" fn wagonplan_raw_compute_rounded_sol(
     out: &mut [u8],
     objective: &mut i64,
 ) -> u8
-    ensures { λ r. ⌜ Rounds (roundedNumber m count (now (rows .entry)) (now (cols .entry)) (now (values .entry)) rank (length (now (factor .entry))) «draw_count» (length (now (draws .entry))) (length (now (out .entry))))
+    ensures { λ r. ⌜ RoundsFactor (roundedNumber m count (now (rows .entry)) (now (cols .entry)) (now (values .entry)) rank (length (now (factor .entry))) «draw_count» (length (now (draws .entry))) (length (now (out .entry))))
         (roundedObjective (now (factor .entry)) (rankMeant m rank) m (now (draws .entry)) (tableOf count (now (rows .entry)) (now (cols .entry)) (now (values .entry))) «draw_count»)
         (roundedSol (now (factor .entry)) (rankMeant m rank) m (now (draws .entry)) (tableOf count (now (rows .entry)) (now (cols .entry)) (now (values .entry))) «draw_count»)
         (now (out .entry)) (eighthsBy r (now (objective .exit))) (now (out .exit)) ⌝ }
@@ -63,7 +62,7 @@ pub extern "C" fn wagonplan_raw_dual_variables(
     out: &mut [f64],
 ) -> u8
     ensures { λ r. ⌜ Multiplies (dualNumber m count (now (rows .entry)) (now (cols .entry)) (now (values .entry)) rank (length (now (factor .entry))) (length (now (out .entry))))
-        (dualVariables (tableOf count (now (rows .entry)) (now (cols .entry)) (now (values .entry))) m (rankMeant m rank) (take (m * rankMeant m rank) (now (factor .entry))))
+        (wholeMultipliers (tableOf count (now (rows .entry)) (now (cols .entry)) (now (values .entry))) m (rankMeant m rank) (now (factor .entry)))
         (now (out .entry)) r (now (out .exit)) ⌝ }
 {
     factor_calls::dual_variables(m, count, rows, cols, values, rank, factor, out)

@@ -12,7 +12,7 @@ ghost use Rattle.tables.specs.Table.{tableOf, valueAt, signAt, objectiveOf, flo
 ghost use Rattle.tables.specs.Bound.{entrywise};
 ghost use Rattle.tables.specs.Cost.{costEighths, choiceAt, decodedByte};
 ghost use Rattle.sign_table.specs.SignTable.{signOf, signPlaces};
-ghost use Rattle.table_calls.specs.Answer.{eighthsAnswer, boundAnswer, kept};
+ghost use Rattle.table_calls.specs.Answer.{eighthsAnswer, boundAnswer, keptIfRefused};
 ghost use Rattle.table_calls.specs.Convert.{Converts};
 ghost use Rattle.table_calls.specs.Numbers.{floorNumber, objectiveNumber, costNumber, signNumber, decodeNumber};
 ghost use Rattle.exports.specs.Answers.{eighthsBy, boundBy, entriesBy, Stays};
@@ -158,7 +158,7 @@ pub extern "C" fn wagonplan_raw_qubo_binary_from_sign_solution(
     b: &mut [u8],
 ) -> u8
     ensures { λ r. ⌜ (r ≡ decodeNumber m (now (signs .entry)) (now (b .entry)))
-        × (now (b .exit) ≡ kept (decodeNumber m (now (signs .entry)) (now (b .entry))) (now (b .entry)) (fill (decodedByte (m - 1) (now (signs .entry))) (m - 1) (now (b .entry)))) ⌝ }
+        × (now (b .exit) ≡ keptIfRefused (decodeNumber m (now (signs .entry)) (now (b .entry))) (now (b .entry)) (fill (decodedByte (m - 1) (now (signs .entry))) (m - 1) (now (b .entry)))) ⌝ }
 {
     choices::qubo_binary_from_sign_solution(m, signs, b)
 }

@@ -14,6 +14,8 @@ use Rattle.laws.proofs.Refusal.{clear, first-head, first-rest}
 use Rattle.laws.proofs.Any.{any-head, any-rest, any-not, any-none}
 use Rattle.tables.specs.Limits.{mostSigns, mostSignEntries, mostSignMagnitude}
 use Rattle.tables.specs.Table.{Table, Lent, tableOf}
+use Rattle.laws.proofs.Made.{length-tabulate}
+use Rattle.maxcut_oracle.specs.Whole.{numerator, wholeMultipliers}
 use Rattle.rounding.specs.Rounding.{leastDraw, roundedSol}
 use Rattle.rounding.proofs.Least.{length-signsOf}
 use Rattle.tables.specs.Check.{Accepted}
@@ -28,6 +30,11 @@ use Rattle.factor_calls.specs.Numbers.{badRank, badDraws, factorRefused,
 pub length-roundedSol : (factor : List Float) (rank m : ℕ) (draws : List Float) (t : Table) (count : ℕ) → length (roundedSol factor rank m draws t count) ≡ m
 unfolding roundedSol
 length-roundedSol factor rank m draws t count = length-signsOf factor rank m draws (leastDraw factor rank m draws t count)
+
+-- the multipliers are m
+pub length-multipliers : (t : Table) (m rank : ℕ) (factor : List Float) → length (wholeMultipliers t m rank factor) ≡ m
+unfolding wholeMultipliers
+length-multipliers t m rank factor = length-tabulate (numerator t rank factor) m
 
 -- a length that rests on a refused number isn't tested, and any other is
 pub factor-untested : (m rank lent : ℕ) → factorRefused m rank ≡ true → false ≡ factorShort m rank lent
@@ -63,7 +70,7 @@ draws-good m rank k e =
       ltb-false mostDraws k (any-head _ _ (any-rest _ _ (any-head _ _ e))),
     )
 
-pub record Usable (m count : ℕ) (rows cols : List ℕ) (values : List ℤ) (rank factor k draws out : ℕ) : Type 0 where
+pub record RoundedUsable (m count : ℕ) (rows cols : List ℕ) (values : List ℤ) (rank factor k draws out : ℕ) : Type 0 where
   pub lent : Lent count rows cols values
   pub table : Accepted mostSigns mostSignEntries mostSignMagnitude m (tableOf count rows cols values)
   pub rank-low : rank ≤ mostRank
@@ -78,7 +85,7 @@ module _ (m count : ℕ) (rows cols : List ℕ) (values : List ℤ) (rank factor
   unfolding roundedShort
   rounded-lent s h = table-lent (any-head _ _ s) h
 
-  pub rounded-accepted : roundedNumber m count rows cols values rank factor k draws out ≡ 0 → Usable m count rows cols values rank factor k draws out
+  pub rounded-accepted : roundedNumber m count rows cols values rank factor k draws out ≡ 0 → RoundedUsable m count rows cols values rank factor k draws out
   unfolding roundedNumber roundedShort factorShort factorRefused drawsShort drawsRefused badDraws
   rounded-accepted ok =
       let later = first-rest _ _ ok in

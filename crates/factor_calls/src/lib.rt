@@ -2,7 +2,7 @@
 // refusal writes nothing.
 mod numbers;
 
-use finalize::multipliers::multipliers;
+use maxcut_oracle::whole::whole_multipliers;
 use numbers::dual_number;
 use numbers::rounded_number;
 use run_limits::MOST_RANK;
@@ -11,18 +11,18 @@ use table_calls::Eighths;
 use tables::limits::MOST_SIGNS;
 ghost use mathlib.Core.Path.{_≡_};
 ghost use Prim.Native.Nat.{_*_, _≤_, _^_};
-ghost use lib.ListN.{length, take};
+ghost use lib.ListN.{length};
 ghost use Rattle.laws.specs.Lists.{over};
 ghost use Rattle.tables.specs.Limits.{mostSigns};
 ghost use Rattle.tables.specs.Table.{tableOf, Lent, InRange, magnitudeOf};
 ghost use Rattle.run_limits.specs.Limits.{mostRank};
 ghost use Rattle.run_limits.specs.Rank.{rankMeant};
 ghost use Rattle.rounding.specs.Rounding.{roundedSol, roundedObjective};
-ghost use Rattle.maxcut_oracle.specs.Table.{dualVariables};
+ghost use Rattle.maxcut_oracle.specs.Whole.{wholeMultipliers};
 ghost use Rattle.factor_calls.specs.Numbers.{roundedNumber, dualNumber};
-ghost use Rattle.factor_calls.specs.Answers.{Rounds, Multiplies};
+ghost use Rattle.factor_calls.specs.Answers.{RoundsFactor, Multiplies};
 
-// Room for a direction.
+// Room for a direction, or for a row's sums.
 fn direction_room() -> [f64; MOST_RANK]
     ensures { λ r. ⌜ 32 ≡ length r ⌝ }
 {
@@ -87,7 +87,7 @@ pub fn compute_rounded_sol(
     draws: &[f64],
     out: &mut [u8],
 ) -> Eighths
-    ensures { λ r. ⌜ Rounds (roundedNumber m count (now (rows .entry)) (now (cols .entry)) (now (values .entry)) rank (length (now (factor .entry))) «draw_count» (length (now (draws .entry))) (length (now (out .entry))))
+    ensures { λ r. ⌜ RoundsFactor (roundedNumber m count (now (rows .entry)) (now (cols .entry)) (now (values .entry)) rank (length (now (factor .entry))) «draw_count» (length (now (draws .entry))) (length (now (out .entry))))
         (roundedObjective (now (factor .entry)) (rankMeant m rank) m (now (draws .entry)) (tableOf count (now (rows .entry)) (now (cols .entry)) (now (values .entry))) «draw_count»)
         (roundedSol (now (factor .entry)) (rankMeant m rank) m (now (draws .entry)) (tableOf count (now (rows .entry)) (now (cols .entry)) (now (values .entry))) «draw_count»)
         (now (out .entry)) r (now (out .exit)) ⌝ }
@@ -123,8 +123,38 @@ pub fn compute_rounded_sol(
     Eighths::Value(objective)
 }
 
-// The multipliers of the factor's m rows over the table, the diagonal set aside and then added, in the first places of `out`; the number, 0
-// where the call is accepted. A rank of 0 means the default rank of m.
+// The multipliers of accepted arguments, with room for a row's sums.
+fn multiply(
+    m: usize,
+    count: usize,
+    rows: &[u16],
+    cols: &[u16],
+    values: &[i64],
+    rank: usize,
+    factor: &[f64],
+    out: &mut [f64],
+)
+    requires { ⌜ Lent count (now rows) (now cols) (now values) × InRange m (tableOf count (now rows) (now cols) (now values)) ⌝ }
+    requires { ⌜ (m * rank ≤ length (now factor)) × (m ≤ length (now out)) × (rank ≤ mostRank) ⌝ }
+    ensures { λ _. ⌜ now (out .exit) ≡ over (wholeMultipliers (tableOf count (now (rows .entry)) (now (cols .entry)) (now (values .entry))) m rank (now (factor .entry))) (now (out .entry)) ⌝ }
+{
+    let mut sums = direction_room();
+    whole_multipliers(
+        m,
+        count,
+        rows,
+        cols,
+        values,
+        rank,
+        factor,
+        &mut sums[..rank],
+        &mut out[..m],
+    );
+}
+
+// 002's `dual_variables(Q, V)`: the multipliers of the factor's m rows over the whole table, the diagonal in it and divided by nothing, in the
+// first places of `out`; the number, 0 where the call is accepted. A rank of 0 means the default rank of m. The result field of a run is
+// another value: `finalize::multipliers`.
 pub fn dual_variables(
     m: usize,
     count: usize,
@@ -136,7 +166,7 @@ pub fn dual_variables(
     out: &mut [f64],
 ) -> u8
     ensures { λ r. ⌜ Multiplies (dualNumber m count (now (rows .entry)) (now (cols .entry)) (now (values .entry)) rank (length (now (factor .entry))) (length (now (out .entry))))
-        (dualVariables (tableOf count (now (rows .entry)) (now (cols .entry)) (now (values .entry))) m (rankMeant m rank) (take (m * rankMeant m rank) (now (factor .entry))))
+        (wholeMultipliers (tableOf count (now (rows .entry)) (now (cols .entry)) (now (values .entry))) m (rankMeant m rank) (now (factor .entry)))
         (now (out .entry)) r (now (out .exit)) ⌝ }
 {
     let number = dual_number(m, count, rows, cols, values, rank, factor.len(), out.len());
@@ -144,7 +174,6 @@ pub fn dual_variables(
         return number;
     }
     let meant = rank_meant(m, rank);
-    let size = m * meant;
-    multipliers(m, count, rows, cols, values, meant, &factor[..size], out);
+    multiply(m, count, rows, cols, values, meant, factor, out);
     0
 }

@@ -2,6 +2,7 @@
 use run_limits::MOST_DRAWS;
 use run_limits::MOST_RANK;
 use run_limits::rank_meant;
+use tables::check::bad_signs;
 use tables::check::short_table;
 use tables::check::table_number;
 use tables::check::too_short;
@@ -10,18 +11,7 @@ use tables::limits::MOST_SIGN_MAGNITUDE;
 use tables::limits::MOST_SIGNS;
 ghost use mathlib.Core.Path.{_≡_};
 ghost use lib.ListN.{length};
-ghost use Rattle.table_calls.specs.Numbers.{badSigns};
 ghost use Rattle.factor_calls.specs.Numbers.{badRank, badDraws, factorShort, drawsRefused, drawsShort, roundedShort, roundedNumber, dualShort, dualNumber};
-
-// 13 of m.
-fn bad_signs(m: usize) -> bool
-    ensures { λ r. ⌜ r ≡ badSigns m ⌝ }
-{
-    if m < 1 {
-        return true;
-    }
-    MOST_SIGNS < m
-}
 
 // 17.
 fn bad_rank(rank: usize) -> bool

@@ -27,16 +27,16 @@ use Rattle.tables.specs.Stored.{rowsOf, colsOf, valuesOf, Wrote}
 use Rattle.sign_table.specs.SignTable.{signOf, signPlaces, signTable}
 use Rattle.rounding.specs.Rounding.{roundedSol, roundedObjective}
 use Rattle.sign_search.specs.Search.{objectiveIn, beamSearch}
-use Rattle.sign_search.specs.Contracts.{Found-by, Sound, Room}
+use Rattle.sign_search.specs.Contracts.{Found-by, Sound, LevelRoom}
 use Rattle.sign_search.proofs.Lawful.{objective-fits}
 use Rattle.sign_search.proofs.Theorems.{accepted-mirrors}
 use Rattle.sign_search.proofs.TurnLaws.{rising-climbs}
-use Rattle.sign_table.proofs.Theorems.{house-sign-table}
+use Rattle.sign_table.proofs.Theorems.{hall-sign-table}
 use Rattle.prepared_table.specs.Work.{diagonalSum}
 use Rattle.maxcut_oracle.specs.Table.{dualVariables}
-use Rattle.finalize.specs.Finalize.{choiceOf, floorEighths, floatBound, diagonalTotal, multipliersOf, roundedSigns, roundedCost, searched, searchedChoice, searchedCost, searchedRounds}
+use Rattle.finalize.specs.Finalize.{choiceOf, floorEighths, floatBound, diagonalTotal, multipliersOf, roundedSigns, roundedCost, searchResult, searchedChoice, searchedCost, searchedRounds}
 use Rattle.run_limits.specs.Limits.{mostWidth, searchWorkspace}
-use Rattle.finalize.specs.Contracts.{Fits, SearchFits, Chooses, Works, Finalizes}
+use Rattle.finalize.specs.Contracts.{Fits, ChoiceFits, Chooses, Works, Finalizes}
 
 module _ {A : Type 0} where
   fill-tabulate : (f : ℕ → A) (l : List A) (n : ℕ) → n ≤ length l → fill f n l ≡ over (tabulate f n) l
@@ -79,7 +79,7 @@ module _ {m : ℕ} {t : Table} (ok : Accepted mostSigns mostSignEntries mostSign
   pub sound : {len : ℕ} → len ≡ m → Sound len t
   sound e = rw e (record { mirrors = accepted-mirrors ok; climbs = rising-climbs t (ok .rising); small = ok .magnitude })
 
-  pub room : {len width space : ℕ} → len ≡ m → width ≤ mostWidth → searchWorkspace ≤ space → Room 128 len width space
+  pub room : {len width space : ℕ} → len ≡ m → width ≤ mostWidth → searchWorkspace ≤ space → LevelRoom 128 len width space
   room e w s = rw e (record { signs-few = ok .signs; width-few = w; level-room = s })
 
   -- an objective is an i64
@@ -108,7 +108,7 @@ module _ (n : ℕ) (h : Table) (c : ℕ → ℤ) (rank width drawCount : ℕ) (d
     {diagonal bound : Float} {floor rounded cost : ℤ} {rounds : ℕ} where
   of-signs : Works (signTable n h c) n rank width drawCount draws factor b b′ multipliers multipliers′ diagonal bound floor rounded cost rounds
       → Finalizes n h c rank width drawCount draws factor b b′ multipliers multipliers′ diagonal bound floor rounded cost rounds
-  unfolding diagonalTotal floatBound floorEighths multipliersOf roundedSigns roundedCost searched searchedChoice searchedCost searchedRounds
+  unfolding diagonalTotal floatBound floorEighths multipliersOf roundedSigns roundedCost searchResult searchedChoice searchedCost searchedRounds
   of-signs w = record {
     diagonal-is = w .diagonal-is;
     bound-is = w .bound-is;
@@ -157,7 +157,7 @@ module _ (n : ℕ) (h : Table) (c : ℕ → ℤ) where
       → (mostSignEntries ≡ length values) × (length values′ ≡ length values)
       → Cut n h c entries rows′ cols′ values′
   cut entries hall w e r k v =
-      let few : length (signPlaces n h c) ≤ mostSignEntries = house-sign-table hall .entries in
+      let few : length (signPlaces n h c) ≤ mostSignEntries = hall-sign-table hall .entries in
       record {
         rows-fit = omega (arith, few, e, r .0, r .1);
         cols-fit = omega (arith, few, e, k .0, k .1);
@@ -167,7 +167,7 @@ module _ (n : ℕ) (h : Table) (c : ℕ → ℤ) where
 
 module _ {n : ℕ} {h : Table} {c : ℕ → ℤ} {entries : ℕ} {rows cols : List ℕ} {values : List ℤ} (k : Cut n h c entries rows cols values) where
   pub cut-accepted : Hall mostWagons mostEntries mostMagnitude n h c → Accepted mostSigns mostSignEntries mostSignMagnitude (suc n) (tableOf entries (take entries rows) (take entries cols) (take entries values))
-  cut-accepted hall = rw (k .is) (house-sign-table hall)
+  cut-accepted hall = rw (k .is) (hall-sign-table hall)
 
   pub cut-lent : Lent entries (take entries rows) (take entries cols) (take entries values)
   cut-lent =
@@ -178,9 +178,9 @@ module _ {n : ℕ} {h : Table} {c : ℕ → ℤ} {entries : ℕ} {rows cols : Li
       }
 
 module _ {n rank width drawCount draws factor b multipliers workspace : ℕ} (fits : Fits n rank width drawCount draws factor b multipliers workspace) where
-  -- a factor that is cut to its rows
-  pub cut-fits : {part : ℕ} → part ≡ suc n * rank → Fits n rank width drawCount draws part b multipliers workspace
-  cut-fits e =
+  -- a factor that is cut to its rows, a workspace to what is asked
+  pub cut-fits : {part space : ℕ} → suc n * rank ≤ part → searchWorkspace ≤ space → Fits n rank width drawCount draws part b multipliers space
+  cut-fits rows long =
       record {
         rank-some = fits .rank-some;
         rank-few = fits .rank-few;
@@ -188,13 +188,13 @@ module _ {n rank width drawCount draws factor b multipliers workspace : ℕ} (fi
         draws-some = fits .draws-some;
         draws-few = fits .draws-few;
         draws-room = fits .draws-room;
-        factor-room = omega (arith, e);
+        factor-room = rows;
         b-room = fits .b-room;
         multipliers-room = fits .multipliers-room;
-        space-room = fits .space-room;
+        space-room = long;
       }
 
-  pub search-fits : SearchFits n rank width drawCount draws factor b workspace
+  pub search-fits : ChoiceFits n rank width drawCount draws factor b workspace
   search-fits =
       record {
         width-few = fits .width-few;

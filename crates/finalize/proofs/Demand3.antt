@@ -3,6 +3,7 @@
 --     rounded-first   the rounded choice is that of the first draw of least cost
 --     search-ends     the search's levels end with an empty one, and the search is over exactly these
 --     unsearched      with width 0 the rounded choice stands, rounds 0
+--     differ-one, differ-all   any choice that differs in one wagon and no other is meant, and any that differs in all
 -- Assumes nothing.
 use Prim.Native.Nat.{ℕ, zero, suc, _-_, _*_, _≤_, _<_}
 use native.Mathlib.Decide.{ℕ-discrete}
@@ -36,9 +37,18 @@ use Rattle.sign_search.specs.Search.{objectiveIn, changeIn, beamSearch}
 use Rattle.sign_search.specs.Choices.{oneMoved, allMoved}
 use Rattle.sign_search.proofs.Theorems.{levels-end, search-levels, answer-le, rounds-fall}
 use Rattle.sign_search.proofs.HallTheorems.{hall-mirrors, signs-cost, one-wagon, all-wagons}
-use Rattle.finalize.specs.Finalize.{choiceOf, drawnChoice, costOf, floorEighths, roundedSigns, roundedChoice, roundedCost, searched, searchedChoice, searchedCost, searchedRounds}
+use Rattle.finalize.specs.Finalize.{choiceOf, drawnChoice, costOf, floorEighths, roundedSigns, roundedChoice, roundedCost, searchResult, searchedChoice, searchedCost, searchedRounds}
 use Rattle.finalize.specs.Demand3.{DifferInOne, DifferInAll, Demand3}
 use Rattle.finalize.specs.Contracts.{Finalizes}
+
+-- ---- whatever differs in one wagon is meant, and whatever differs in all
+
+pub differ-one : (n : ℕ) (b b′ : List ℕ) (i : ℕ) → i < n → (choiceAt b i ≡ choiceAt b′ i → ⊥)
+    → ((j : ℕ) → j < n → (j ≡ i → ⊥) → choiceAt b j ≡ choiceAt b′ j) → DifferInOne n b b′
+differ-one n b b′ i l d o = record { wagon = i; is-one = l; differs = d; others = o }
+
+pub differ-all : (n : ℕ) (b b′ : List ℕ) → ((j : ℕ) → j < n → choiceAt b j ≡ choiceAt b′ j → ⊥) → DifferInAll n b b′
+differ-all n b b′ d = record { differ = d }
 
 -- ---- choices
 
@@ -140,14 +150,14 @@ module _ {most capacity limit n : ℕ} {h : Table} {c : ℕ → ℤ} (hall : Hal
   -- with width 0 the rounded choice stands
   pub unsearched : (searchedChoice n h c rank factor draws drawCount 0 ≡ roundedChoice n h c rank factor draws drawCount)
       × (searchedCost n h c rank factor draws drawCount 0 ≡ roundedCost n h c rank factor draws drawCount) × (searchedRounds n h c rank factor draws drawCount 0 ≡ 0)
-  unfolding roundedChoice roundedCost searched searchedChoice searchedCost searchedRounds beamSearch signSearch LocalSearch.searched
+  unfolding roundedChoice roundedCost searchResult searchedChoice searchedCost searchedRounds beamSearch signSearch LocalSearch.searched
   unsearched = (refl, refl, refl)
 
   -- the search's levels end: its answer is the first of least objective in the start and these levels, its rounds are their number
   pub search-ends : (w : ℕ)
       → (ls : List (List (List ℕ))) × Levels (lower (objectiveIn (signTable n h c))) (children (signTable n h c) (suc n)) (suc w) (children (signTable n h c) (suc n) start) ls
-      × (searched n h c rank factor draws drawCount (suc w) ≡ foundIn (lower (objectiveIn (signTable n h c))) start ls)
-  unfolding searched beamSearch
+      × (searchResult n h c rank factor draws drawCount (suc w) ≡ foundIn (lower (objectiveIn (signTable n h c))) start ls)
+  unfolding searchResult beamSearch
   search-ends w =
       let t = signTable n h c in
       let ends = levels-end (hall-mirrors hall) start rounded-long (improves (changeIn t)) (λ x. Unit {0}) (record { improving = λ x i e. e; keeps = λ x i p q b e. tt }) tt (suc w) in
@@ -155,18 +165,18 @@ module _ {most capacity limit n : ℕ} {h : Table} {c : ℕ → ℤ} (hall : Hal
 
   module _ (width : ℕ) (some : 1 ≤ width) where
     abbrev answer : List ℕ
-    answer = searched n h c rank factor draws drawCount width .answer
+    answer = searchResult n h c rank factor draws drawCount width .answer
 
     -- the costs beside the answer
     abbrev cost-at : (ℕ → ℤ) → ℤ
     cost-at a = costEighths n (valueAt h) c a
 
     one-moved : (i : ℕ) → i < n → cost-at (decoded n answer) ≤ℤ cost-at (oneMoved i (decoded n answer))
-    unfolding searched
+    unfolding searchResult
     one-moved i l = one-wagon hall width start some rounded-long i l
 
     all-moved : cost-at (decoded n answer) ≤ℤ cost-at (allMoved (decoded n answer))
-    unfolding searched
+    unfolding searchResult
     all-moved = all-wagons hall width start some rounded-long
 
     cost-costs : searchedCost n h c rank factor draws drawCount width ≡ cost-at (decoded n answer)
@@ -175,13 +185,13 @@ module _ {most capacity limit n : ℕ} {h : Table} {c : ℕ → ℤ} (hall : Hal
 
     -- each round has taken 4 eighths off at least
     rounds-down : pos (4 * searchedRounds n h c rank factor draws drawCount width) ≤ℤ (roundedCost n h c rank factor draws drawCount -ℤ searchedCost n h c rank factor draws drawCount width)
-    unfolding searched searchedCost searchedRounds roundedCost
+    unfolding searchResult searchedCost searchedRounds roundedCost
     rounds-down =
         fall (searchedCost n h c rank factor draws drawCount width) (roundedCost n h c rank factor draws drawCount) (4 * searchedRounds n h c rank factor draws drawCount width)
         (rounds-fall (hall-mirrors hall) start rounded-long width some)
 
     cost-down : searchedCost n h c rank factor draws drawCount width ≤ℤ roundedCost n h c rank factor draws drawCount
-    unfolding searched searchedCost roundedCost
+    unfolding searchResult searchedCost roundedCost
     cost-down = answer-le (hall-mirrors hall) start rounded-long width some
 
     -- of whatever a finish leaves

@@ -69,7 +69,7 @@ pub halls :
     ∷ record { bound = 0xBFF80000000000A0; diagonal = 0xBFD0000000000000; floor = negsuc 11; rounded = pos 0; cost = negsuc 7; rounds = 1; choice = 1 ∷ 0 ∷ []; multipliers = 0 ∷ 0 ∷ 0 ∷ [] }
     ∷ [])
 unfolding floorEighths floatBound diagonalTotal multipliersOf roundedCost searchedChoice searchedCost searchedRounds
-    Finalize.choiceOf Finalize.roundedSigns Finalize.searched
+    Finalize.choiceOf Finalize.roundedSigns Finalize.searchResult
     ofBits toBits ofInt add sub mul div neg lt Sqrt.sqrtOf Floats.eighthOf Sum.sum Sum.sum₂ Rows.mapFirst Turns.upTo
     Lists.anyBelow Lists.tabulate Lists.kept Table.share Table.least Table.valueAt Table.storedAt Flip.flipChange Cost.decodedByte Bound.boundTerm Bound.boundSum
     Bound.magnitudeSum Bound.margin Bound.entrywise SignTable.absorbed SignTable.signValue Stored.rowPlaces Stored.places SignTable.signKept SignTable.signPlaces

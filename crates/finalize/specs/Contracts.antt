@@ -42,7 +42,7 @@ pub record Finalizes (n : ℕ) (h : Table) (c : ℕ → ℤ) (rank width drawCou
 -- ---- the same on a sign table of n + 1 signs
 
 -- what the rounding and the search ask
-pub record SearchFits (n rank width drawCount : ℕ) (draws factor b workspace : ℕ) : Type 0 where
+pub record ChoiceFits (n rank width drawCount : ℕ) (draws factor b workspace : ℕ) : Type 0 where
   pub width-few : width ≤ mostWidth
   pub draws-some : 1 ≤ drawCount
   pub draws-room : drawCount * rank ≤ draws

@@ -12,14 +12,14 @@ use Rattle.tables.specs.Table.{Table}
 use Rattle.tables.specs.Cost.{choiceAt}
 use Rattle.finalize.specs.Finalize.{costOf, floorEighths, drawnChoice, roundedChoice, searchedChoice, searchedRounds}
 
--- two choices of n wagons differ in wagon i and no other
+-- two choices of n wagons differ in one wagon and no other; any two that do are meant (`differ-one`, proofs/Demand3)
 pub record DifferInOne (n : ℕ) (b b′ : List ℕ) : Type 0 where
   pub wagon : ℕ
   pub is-one : wagon < n
   pub differs : choiceAt b wagon ≡ choiceAt b′ wagon → ⊥
   pub others : (j : ℕ) → j < n → (j ≡ wagon → ⊥) → choiceAt b j ≡ choiceAt b′ j
 
--- they differ in all
+-- they differ in all; any two that do are meant (`differ-all`)
 pub record DifferInAll (n : ℕ) (b b′ : List ℕ) : Type 0 where
   pub differ : (j : ℕ) → j < n → choiceAt b j ≡ choiceAt b′ j → ⊥
 

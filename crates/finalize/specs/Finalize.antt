@@ -58,14 +58,14 @@ module _ (n : ℕ) (h : Table) (c : ℕ → ℤ) where
 
       module _ (width : ℕ) where
         -- the search from the rounded choice; with width 0 that stands, rounds 0. Its answer, what that costs, and the rounds
-        unfoldable pub searched : Found (List ℕ)
-        searched = beamSearch (signTable n h c) width roundedSigns
+        unfoldable pub searchResult : Found (List ℕ)
+        searchResult = beamSearch (signTable n h c) width roundedSigns
 
         unfoldable pub searchedChoice : List ℕ
-        searchedChoice = choiceOf n (searched .answer)
+        searchedChoice = choiceOf n (searchResult .answer)
 
         unfoldable pub searchedCost : ℤ
-        searchedCost = objectiveIn (signTable n h c) (searched .answer)
+        searchedCost = objectiveIn (signTable n h c) (searchResult .answer)
 
         unfoldable pub searchedRounds : ℕ
-        searchedRounds = searched .rounds
+        searchedRounds = searchResult .rounds

@@ -10,7 +10,7 @@ ghost use Rattle.tables.specs.Table.{tableOf, Lent};
 ghost use Rattle.tables.specs.Check.{Accepted};
 ghost use Rattle.tables.specs.Limits.{mostSigns, mostSignEntries, mostSignMagnitude};
 ghost use Rattle.run_limits.specs.Limits.{mostRank};
-ghost use Rattle.finalize.specs.Contracts.{SearchFits, Chooses};
+ghost use Rattle.finalize.specs.Contracts.{ChoiceFits, Chooses};
 
 // The cost of the rounded choice, that of the search's answer, and the rounds.
 pub struct Chosen {
@@ -19,7 +19,7 @@ pub struct Chosen {
     pub rounds: u64,
 }
 
-// The same with room for a direction of rank numbers and twice n + 1 signs.
+// `choose`, with room for a direction of rank numbers and twice n + 1 signs.
 fn search_from(
     n: usize,
     entries: usize,
@@ -38,7 +38,7 @@ fn search_from(
     workspace: &mut [u8],
 ) -> Chosen
     requires { ⌜ Lent entries (now rows) (now cols) (now values) × Accepted mostSigns mostSignEntries mostSignMagnitude (suc n) (tableOf entries (now rows) (now cols) (now values)) ⌝ }
-    requires { ⌜ SearchFits n rank width «draw_count» (length (now draws)) (length (now factor)) (length (now b)) (length (now workspace))
+    requires { ⌜ ChoiceFits n rank width «draw_count» (length (now draws)) (length (now factor)) (length (now b)) (length (now workspace))
         × (length (now direction) ≡ rank) × (length (now signs) ≡ suc n) × (length (now best) ≡ suc n) ⌝ }
     ensures { λ r. ⌜ Chooses (tableOf entries (now (rows .entry)) (now (cols .entry)) (now (values .entry))) n rank width «draw_count» (now (draws .entry)) (now (factor .entry)) (now (b .entry)) (now (b .exit)) (r .«rounded_cost») (r .cost) (r .rounds) ⌝ }
 {
@@ -81,7 +81,7 @@ pub fn choose(
     workspace: &mut [u8],
 ) -> Chosen
     requires { ⌜ Lent entries (now rows) (now cols) (now values) × Accepted mostSigns mostSignEntries mostSignMagnitude (suc n) (tableOf entries (now rows) (now cols) (now values)) ⌝ }
-    requires { ⌜ SearchFits n rank width «draw_count» (length (now draws)) (length (now factor)) (length (now b)) (length (now workspace)) × (rank ≤ mostRank) ⌝ }
+    requires { ⌜ ChoiceFits n rank width «draw_count» (length (now draws)) (length (now factor)) (length (now b)) (length (now workspace)) × (rank ≤ mostRank) ⌝ }
     ensures { λ r. ⌜ Chooses (tableOf entries (now (rows .entry)) (now (cols .entry)) (now (values .entry))) n rank width «draw_count» (now (draws .entry)) (now (factor .entry)) (now (b .entry)) (now (b .exit)) (r .«rounded_cost») (r .cost) (r .rounds) ⌝ }
 {
     let mut direction = room::direction();

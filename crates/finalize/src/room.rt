@@ -1,10 +1,12 @@
-// Arrays for the sign table, for what is made of it and for the signs, of which the first places are used.
+// Arrays for the sign table, for what is made of it and for the signs, of which the first places are used: every place holds 0.
 use run_limits::MOST_RANK;
 use tables::limits::MOST_SIGN_ENTRIES;
 use tables::limits::MOST_SIGNS;
 ghost use mathlib.Core.Path.{_≡_};
 ghost use Prim.Native.Nat.{_+_, _*_};
-ghost use lib.ListN.{length};
+ghost use lib.IntN.{pos};
+ghost use lib.ListN.{length, replicate};
+ghost use Rattle.ieee.specs.Floats.{zero64};
 ghost use Rattle.tables.specs.Limits.{mostSigns, mostSignEntries};
 ghost use Rattle.run_limits.specs.Limits.{mostRank};
 
@@ -14,6 +16,7 @@ const MOST_NUMBERS: usize = MOST_SIGNS * MOST_RANK;
 
 // Rows or columns of a table.
 pub fn indices() -> [u16; MOST_SIGN_ENTRIES]
+    ensures { λ r. ⌜ r ≡ replicate mostSignEntries 0 ⌝ }
     ensures { λ r. ⌜ mostSignEntries ≡ length r ⌝ }
 {
     [0; MOST_SIGN_ENTRIES]
@@ -21,6 +24,7 @@ pub fn indices() -> [u16; MOST_SIGN_ENTRIES]
 
 // Values of a table.
 pub fn eighths() -> [i64; MOST_SIGN_ENTRIES]
+    ensures { λ r. ⌜ r ≡ replicate mostSignEntries (pos 0) ⌝ }
     ensures { λ r. ⌜ mostSignEntries ≡ length r ⌝ }
 {
     [0; MOST_SIGN_ENTRIES]
@@ -28,6 +32,7 @@ pub fn eighths() -> [i64; MOST_SIGN_ENTRIES]
 
 // The same as doubles.
 pub fn units() -> [f64; MOST_SIGN_ENTRIES]
+    ensures { λ r. ⌜ r ≡ replicate mostSignEntries zero64 ⌝ }
     ensures { λ r. ⌜ mostSignEntries ≡ length r ⌝ }
 {
     [0.0; MOST_SIGN_ENTRIES]
@@ -35,6 +40,7 @@ pub fn units() -> [f64; MOST_SIGN_ENTRIES]
 
 // Where rows start.
 pub fn row_starts() -> [usize; ROW_STARTS]
+    ensures { λ r. ⌜ r ≡ replicate (mostSigns + 1) 0 ⌝ }
     ensures { λ r. ⌜ mostSigns + 1 ≡ length r ⌝ }
 {
     [0; ROW_STARTS]
@@ -42,6 +48,7 @@ pub fn row_starts() -> [usize; ROW_STARTS]
 
 // Rows of as many numbers as a factor's.
 pub fn rows_of_numbers() -> [f64; MOST_NUMBERS]
+    ensures { λ r. ⌜ r ≡ replicate (mostSigns * mostRank) zero64 ⌝ }
     ensures { λ r. ⌜ mostSigns * mostRank ≡ length r ⌝ }
 {
     [0.0; MOST_NUMBERS]
@@ -49,6 +56,7 @@ pub fn rows_of_numbers() -> [f64; MOST_NUMBERS]
 
 // A number for each sign.
 pub fn numbers() -> [f64; MOST_SIGNS]
+    ensures { λ r. ⌜ r ≡ replicate mostSigns zero64 ⌝ }
     ensures { λ r. ⌜ mostSigns ≡ length r ⌝ }
 {
     [0.0; MOST_SIGNS]
@@ -56,6 +64,7 @@ pub fn numbers() -> [f64; MOST_SIGNS]
 
 // A direction.
 pub fn direction() -> [f64; MOST_RANK]
+    ensures { λ r. ⌜ r ≡ replicate mostRank zero64 ⌝ }
     ensures { λ r. ⌜ mostRank ≡ length r ⌝ }
 {
     [0.0; MOST_RANK]
@@ -63,6 +72,7 @@ pub fn direction() -> [f64; MOST_RANK]
 
 // Signs.
 pub fn signs() -> [u8; MOST_SIGNS]
+    ensures { λ r. ⌜ r ≡ replicate mostSigns 0 ⌝ }
     ensures { λ r. ⌜ mostSigns ≡ length r ⌝ }
 {
     [0; MOST_SIGNS]

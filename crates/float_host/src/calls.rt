@@ -3,13 +3,13 @@ use table_calls::Eighths;
 ghost use mathlib.Core.Path.{_≡_};
 ghost use mathlib.Core.List.{_++_};
 ghost use Prim.Native.Nat.{_*_, _≤_, _<_};
-ghost use lib.ListN.{length, drop, take};
+ghost use lib.ListN.{length, drop};
 ghost use Rattle.laws.specs.Lists.{over};
 ghost use Rattle.tables.specs.Table.{tableOf, Lent, InRange};
-ghost use Rattle.table_calls.specs.Answer.{kept, eighthsAnswer};
+ghost use Rattle.table_calls.specs.Answer.{keptIfRefused, eighthsAnswer};
 ghost use Rattle.prepared_table.specs.Work.{workRows, workCols, workValues, workStarts, diagonalOf, diagonalSum};
 ghost use Rattle.rounding.specs.Rounding.{roundedSols, roundedSol, roundedObjective};
-ghost use Rattle.maxcut_oracle.specs.Table.{dualVariables};
+ghost use Rattle.maxcut_oracle.specs.Whole.{wholeMultipliers};
 ghost use Rattle.run_limits.specs.Rank.{rankMeant};
 ghost use Rattle.factor_calls.specs.Numbers.{roundedNumber, dualNumber};
 ghost use Rattle.factor_calls.specs.Answers.{Multiplies};
@@ -117,7 +117,7 @@ pub extern "C" fn host_rounded_number(
 ) -> u8
     ensures { λ r. ⌜ r ≡ numberOf (eighthsAnswer (roundedNumber m count (now (rows .entry)) (now (cols .entry)) (now (values .entry)) rank (length (now (factor .entry))) «draw_count» (length (now (draws .entry))) (length (now (out .entry))))
         (roundedObjective (now (factor .entry)) (rankMeant m rank) m (now (draws .entry)) (tableOf count (now (rows .entry)) (now (cols .entry)) (now (values .entry))) «draw_count»)) ⌝ }
-    ensures { λ _. ⌜ now (out .exit) ≡ kept (roundedNumber m count (now (rows .entry)) (now (cols .entry)) (now (values .entry)) rank (length (now (factor .entry))) «draw_count» (length (now (draws .entry))) (length (now (out .entry)))) (now (out .entry))
+    ensures { λ _. ⌜ now (out .exit) ≡ keptIfRefused (roundedNumber m count (now (rows .entry)) (now (cols .entry)) (now (values .entry)) rank (length (now (factor .entry))) «draw_count» (length (now (draws .entry))) (length (now (out .entry)))) (now (out .entry))
         (over (roundedSol (now (factor .entry)) (rankMeant m rank) m (now (draws .entry)) (tableOf count (now (rows .entry)) (now (cols .entry)) (now (values .entry))) «draw_count») (now (out .entry))) ⌝ }
 {
     number_of(factor_calls::compute_rounded_sol(
@@ -150,7 +150,7 @@ pub extern "C" fn host_rounded_objective(
 ) -> i64
     ensures { λ r. ⌜ r ≡ valueOf (eighthsAnswer (roundedNumber m count (now (rows .entry)) (now (cols .entry)) (now (values .entry)) rank (length (now (factor .entry))) «draw_count» (length (now (draws .entry))) (length (now (out .entry))))
         (roundedObjective (now (factor .entry)) (rankMeant m rank) m (now (draws .entry)) (tableOf count (now (rows .entry)) (now (cols .entry)) (now (values .entry))) «draw_count»)) ⌝ }
-    ensures { λ _. ⌜ now (out .exit) ≡ kept (roundedNumber m count (now (rows .entry)) (now (cols .entry)) (now (values .entry)) rank (length (now (factor .entry))) «draw_count» (length (now (draws .entry))) (length (now (out .entry)))) (now (out .entry))
+    ensures { λ _. ⌜ now (out .exit) ≡ keptIfRefused (roundedNumber m count (now (rows .entry)) (now (cols .entry)) (now (values .entry)) rank (length (now (factor .entry))) «draw_count» (length (now (draws .entry))) (length (now (out .entry)))) (now (out .entry))
         (over (roundedSol (now (factor .entry)) (rankMeant m rank) m (now (draws .entry)) (tableOf count (now (rows .entry)) (now (cols .entry)) (now (values .entry))) «draw_count») (now (out .entry))) ⌝ }
 {
     value_of(factor_calls::compute_rounded_sol(
@@ -180,7 +180,7 @@ pub extern "C" fn host_dual_variables(
     out: &mut [f64],
 ) -> u8
     ensures { λ r. ⌜ Multiplies (dualNumber m count (now (rows .entry)) (now (cols .entry)) (now (values .entry)) rank (length (now (factor .entry))) (length (now (out .entry))))
-        (dualVariables (tableOf count (now (rows .entry)) (now (cols .entry)) (now (values .entry))) m (rankMeant m rank) (take (m * rankMeant m rank) (now (factor .entry))))
+        (wholeMultipliers (tableOf count (now (rows .entry)) (now (cols .entry)) (now (values .entry))) m (rankMeant m rank) (now (factor .entry)))
         (now (out .entry)) r (now (out .exit)) ⌝ }
 {
     factor_calls::dual_variables(m, count, rows, cols, values, rank, factor, out)

@@ -12,8 +12,8 @@ is-nan (inf s) e = cc
 is-nan (fin s m d) e = cc
 
 -- what equals itself is no NaN
-pub no-nan : (v : Float) → ne v v ≡ false → T (not (isNan v))
+pub equal-itself : (v : Float) → ne v v ≡ false → T (not (isNan v))
 unfolding isNan
-no-nan nan e = subst T (sym nan-differs ∙ e) tt
-no-nan (inf s) e = tt
-no-nan (fin s m d) e = tt
+equal-itself nan e = subst T (sym nan-differs ∙ e) tt
+equal-itself (inf s) e = tt
+equal-itself (fin s m d) e = tt

@@ -1,67 +1,48 @@
 -- A record written from values that 01's limits allow is accepted.
 --     accepted-back    its number is 0
 -- Assumes nothing.
-use Prim.Native.Nat.{ℕ, _+_, _-_, _*_, _^_, _<_, _≤_}
+use Prim.Native.Nat.{ℕ, _+_, _*_, _^_, _<_, _≤_}
 use mathlib.Core.Path.{_≡_, refl, sym, ap, _∙_}
 use mathlib.Core.Bool.{Bool, true, false, _&&_, not}
 use mathlib.Core.List.{List, [], _∷_, _++_}
 use native.Mathlib.Omega.{arith}
 use borrow.Author.Tests.{le-ltb, eq-eqb, ne-eqb, eqb-true}
 use lib.Dec.{ltb}
-use lib.ListN.{length, getD, length-append}
-use lib.IntN.{pos, natAbs}
+use lib.ListN.{length, length-append}
+use lib.IntN.{natAbs}
 use Rattle.ieee.specs.Floats.{doubleOf}
 use Rattle.laws.specs.Refusal.{_if_, first}
 use Rattle.laws.proofs.Refusal.{neither, none-of}
 use Rattle.laws.proofs.Any.{below-false}
 use Rattle.laws.proofs.Following.{moves-on, moves-on-if, answers-last, passes-last, first-append}
-use Rattle.tables.specs.Table.{Table}
 use Rattle.tables.specs.Limits.{mostWagons, mostEntries, mostMagnitude}
-use Rattle.tables.proofs.Checks.{hall-accepted, order-passes, mirror-passes}
-use Rattle.tables.specs.Check.{badEntry, badOrder, hallMagnitude, hallNumber}
+use Rattle.tables.proofs.Checks.{order-passes, mirror-passes}
+use Rattle.tables.specs.Check.{badEntry, badOrder, hallMagnitude}
 use Rattle.job_reader.specs.Bytes.{bigEndian}
 use Rattle.job_reader.specs.Encode.{bytesOf}
 use Rattle.job_reader.proofs.Encode.{length-bytesOf, read-bytes}
 use Rattle.run_limits.specs.Limits.{mostRank, mostWidth, mostDraws}
-use Rattle.job_record.specs.Limits.{mostBytes, lastRule, lastStart}
-use Rattle.run_limits.specs.Rank.{rankMeant}
+use Rattle.job_record.specs.Limits.{lastRule, lastStart}
 use Rattle.run_limits.specs.Momentum.{isMomentum}
 use Rattle.job_record.specs.Fields.{restLength, version, wagons, entryAt, row, column, value, entries, signedFrom, ruleNumberAt, rankOf}
-use Rattle.job_record.specs.Number.{past, bounded, frameNumber, versionNumber, entryNumber, momentumNumber, headNumbers, entriesNumbers, costsNumbers, settingsNumbers, drawsNumbers, runNumbers, jobNumber}
-use Rattle.job_record.specs.Values.{settingsOf, drawsOf}
+use Rattle.job_record.specs.Number.{endsBefore, boundedNumber, frameNumber, versionNumber, entryNumber, momentumNumber, headNumbers, entriesNumbers, costsNumbers, settingsNumbers, drawsNumbers, runNumbers, jobNumber}
+use Rattle.job_record.specs.Values.{settingsPlace, drawsPlace}
 use Rattle.job_record.proofs.Same.{order-same, mirror-same, total-same}
 use Rattle.job_record.proofs.Whole.{parts}
-use Rattle.job_encoding.specs.Encode.{Entry, Values, entryBytes, signedBytes, doubleBytes, bodyBytes, headBytes, jobBytes}
+use Rattle.job_encoding.specs.Encode.{Values, entryBytes, signedBytes, doubleBytes, bodyBytes, headBytes, jobBytes}
+use Rattle.job_encoding.specs.Allowed.{entryOf, costIn, tableIn, Typed, Allowed}
 use Rattle.job_encoding.proofs.Each.{length-each}
-use Rattle.job_encoding.proofs.Back.{Held, entry-size, signed-size, double-size, settings-size, head-size, wagons-back, count-back, row-back, column-back, value-back, cost-back, settings-at, setting-at, rank-is, start-is, draws-at, drawn-is, set-rule, set-number, set-width}
+use Rattle.job_encoding.proofs.Back.{entry-size, signed-size, double-size, settings-size, head-size, wagons-back, count-back, row-back, column-back, value-back, cost-back, settings-at, setting-at, rank-is, start-is, draws-at, drawn-is, set-rule, set-number, set-width}
 
 -- a field that is there and within its limit
-within : (s : List ℕ) (at width most k : ℕ) → at + width ≤ length s → bigEndian s at width ≤ most → 0 ≡ bounded s at width most k
-unfolding bounded
+within : (s : List ℕ) (at width most k : ℕ) → at + width ≤ length s → bigEndian s at width ≤ most → 0 ≡ boundedNumber s at width most k
+unfolding boundedNumber
 within s at width most k there low =
-    moves-on-if 11 (past s (at + width)) (k if ltb most (bigEndian s at width) ∷ []) (le-ltb _ _ there) (passes-last k _ (le-ltb _ _ low))
+    moves-on-if 11 (endsBefore s (at + width)) (k if ltb most (bigEndian s at width) ∷ []) (le-ltb _ _ there) (passes-last k _ (le-ltb _ _ low))
 
 false-and : (a b : Bool) → (a ≡ true → b ≡ false) → (a && b) ≡ false
 false-and true b h = h refl
 false-and false b h = refl
-
--- the entries as a table, for any entry to stand past the last
-abbrev pub tableIn : Values → Entry → Table
-tableIn v d = record { count = length (v .entries); row = λ k. getD (v .entries) k d .row; column = λ k. getD (v .entries) k d .column; value = λ k. getD (v .entries) k d .value }
-
--- what 01 asks
-pub record Allowed (v : Values) (d : Entry) : Type 0 where
-  pub hall : hallNumber mostWagons mostEntries mostMagnitude (length (v .c)) (tableIn v d) (λ i. getD (v .c) i (pos 0)) ≡ 0
-  pub rank : v .rank ≤ mostRank
-  pub rule : v .rule ≤ lastRule
-  pub momentum : v .rule ≡ 4 → isMomentum (v .ruleNumber) ≡ true
-  pub width : v .width ≤ mostWidth
-  pub start : v .start ≤ lastStart
-  pub given : v .start ≡ 1 → v .rank ≡ 0 → ⊥
-  pub some : 1 ≤ v .drawCount
-  pub few : v .drawCount ≤ mostDraws
-  pub draws : length (v .draws) ≡ v .drawCount * rankMeant (length (v .c) + 1) (v .rank)
-  pub small : length (jobBytes v) ≤ mostBytes
 
 head-rest : (rest n count : ℕ) (body : List ℕ) → rest < 2 ^ 32 → bigEndian (headBytes rest n count ++ body) 0 4 ≡ rest
 unfolding headBytes bytesOf bigEndian
@@ -90,7 +71,7 @@ module _ (v : Values) where
   unfolding jobBytes
   whole = simp (length-append, head-size)
 
-module _ (v : Values) (d : Entry) (held : Held v) (ok : Allowed v d) where
+module _ (v : Values) (held : Typed v) (ok : Allowed v) where
   rest-is : 4 + restLength (jobBytes v) ≡ length (jobBytes v)
   unfolding jobBytes
   rest-is =
@@ -115,16 +96,16 @@ module _ (v : Values) (d : Entry) (held : Held v) (ok : Allowed v d) where
   head : first (headNumbers (jobBytes v)) ≡ 0
   unfolding headNumbers
   head =
-      let h = hall-accepted (ok .hall) in
+      let h = ok .hall in
       sym (moves-on _ _ {x = 0} frame refl (moves-on _ _ {x = 0} versioned refl
       (moves-on _ _ {x = 0} (within (jobBytes v) 5 1 mostWagons 13 (omega (arith, size v)) (omega (arith, wagons-back v held, h .wagons))) refl
       (answers-last _ (within (jobBytes v) 6 2 mostEntries 13 (omega (arith, size v)) (omega (arith, count-back v held, h .entries)))))))
 
   ordered : badOrder (length (v .c)) (row (jobBytes v)) (column (jobBytes v)) (length (v .entries)) ≡ false
   ordered =
-      let h = hall-accepted (ok .hall) in
-      order-same _ _ _ _ (value (jobBytes v)) (value (jobBytes v)) (length (v .entries)) (λ k l. row-back v held k d l) (λ k l. column-back v held k d l) (length (v .c))
-      ∙ order-passes (length (v .c)) (tableIn v d) (h .in-range) (h .rising)
+      let h = ok .hall in
+      order-same _ _ _ _ (value (jobBytes v)) (value (jobBytes v)) (length (v .entries)) (λ k l. row-back v held k l) (λ k l. column-back v held k l) (length (v .c))
+      ∙ order-passes (length (v .c)) (tableIn v) (h .in-range) (h .rising)
 
   judged : (k : ℕ) → k < length (v .entries) → entryNumber (jobBytes v) (length (v .c)) k ≡ 0
   unfolding entryNumber badOrder
@@ -135,50 +116,50 @@ module _ (v : Values) (d : Entry) (held : Held v) (ok : Allowed v d) where
   entered : first (entriesNumbers (jobBytes v) (length (v .c)) (length (v .entries))) ≡ 0
   unfolding entriesNumbers
   entered =
-      let h = hall-accepted (ok .hall) in
+      let h = ok .hall in
       sym (moves-on _ _ {x = 0} (sym (none-of _ (length (v .entries)) judged)) refl
       (passes-last 15 _
-      (mirror-same _ _ _ _ _ _ (length (v .entries)) (λ k l. row-back v held k d l) (λ k l. column-back v held k d l) (λ k l. value-back v held k d l)
-      ∙ mirror-passes (tableIn v d) (h .mirrored))))
+      (mirror-same _ _ _ _ _ _ (length (v .entries)) (λ k l. row-back v held k l) (λ k l. column-back v held k l) (λ k l. value-back v held k l)
+      ∙ mirror-passes (tableIn v) (h .mirrored))))
 
-  cost-at : (i : ℕ) → i < length (v .c) → signedFrom (jobBytes v) (entryAt (length (v .entries))) i ≡ getD (v .c) i (pos 0)
+  cost-at : (i : ℕ) → i < length (v .c) → signedFrom (jobBytes v) (entryAt (length (v .entries))) i ≡ costIn v i
   cost-at i l = rw (← count-back v held) (cost-back v held i l)
 
   costed : first (costsNumbers (jobBytes v) (length (v .c)) (length (v .entries))) ≡ 0
   unfolding costsNumbers
   costed =
-      let h = hall-accepted (ok .hall) in
-      let same : hallMagnitude (length (v .c)) (entries (jobBytes v) (length (v .entries))) (signedFrom (jobBytes v) (entryAt (length (v .entries)))) ≡ hallMagnitude (length (v .c)) (tableIn v d) (λ i. getD (v .c) i (pos 0)) =
+      let h = ok .hall in
+      let same : hallMagnitude (length (v .c)) (entries (jobBytes v) (length (v .entries))) (signedFrom (jobBytes v) (entryAt (length (v .entries)))) ≡ hallMagnitude (length (v .c)) (tableIn v) (costIn v) =
       rw (
-        total-same (λ k. natAbs (value (jobBytes v) k)) (λ k. natAbs (getD (v .entries) k d .value)) (length (v .entries)) (λ k l. ap natAbs (value-back v held k d l)),
-        total-same (λ i. natAbs (signedFrom (jobBytes v) (entryAt (length (v .entries))) i)) (λ i. natAbs (getD (v .c) i (pos 0))) (length (v .c)) (λ i l. ap natAbs (cost-at i l)),
+        total-same (λ k. natAbs (value (jobBytes v) k)) (λ k. natAbs (entryOf v k .value)) (length (v .entries)) (λ k l. ap natAbs (value-back v held k l)),
+        total-same (λ i. natAbs (signedFrom (jobBytes v) (entryAt (length (v .entries))) i)) (λ i. natAbs (costIn v i)) (length (v .c)) (λ i l. ap natAbs (cost-at i l)),
       ) in
       sym (moves-on-if 11 _ _ (le-ltb (length (jobBytes v)) (8 + length (v .entries) * 10 + length (v .c) * 8) (omega (arith, size v)))
       (passes-last 16 _ (ap (ltb mostMagnitude) same ∙ le-ltb _ _ (h .magnitude))))
 
-  there : settingsOf (jobBytes v) + 36 ≤ length (jobBytes v)
+  there : settingsPlace (jobBytes v) + 36 ≤ length (jobBytes v)
   there = omega (arith, settings-at v held, size v)
 
-  rule-is : bigEndian (jobBytes v) (settingsOf (jobBytes v) + 1) 1 ≡ v .rule
+  rule-is : bigEndian (jobBytes v) (settingsPlace (jobBytes v) + 1) 1 ≡ v .rule
   rule-is = setting-at v held 1 1 (omega arith) ∙ set-rule v (held .rule)
 
-  number-is : ruleNumberAt (jobBytes v) (settingsOf (jobBytes v)) ≡ v .ruleNumber
+  number-is : ruleNumberAt (jobBytes v) (settingsPlace (jobBytes v)) ≡ v .ruleNumber
   number-is = ap doubleOf (setting-at v held 2 8 (omega arith)) ∙ set-number v (held .ruleNumber)
 
-  width-is : bigEndian (jobBytes v) (settingsOf (jobBytes v) + 34) 1 ≡ v .width
+  width-is : bigEndian (jobBytes v) (settingsPlace (jobBytes v) + 34) 1 ≡ v .width
   width-is = setting-at v held 34 1 (omega arith) ∙ set-width v (held .width)
 
-  momented : 0 ≡ momentumNumber (jobBytes v) (settingsOf (jobBytes v))
+  momented : 0 ≡ momentumNumber (jobBytes v) (settingsPlace (jobBytes v))
   unfolding momentumNumber
   momented =
-      moves-on-if 11 _ _ (le-ltb (length (jobBytes v)) (settingsOf (jobBytes v) + 10) (omega (arith, there)))
+      moves-on-if 11 _ _ (le-ltb (length (jobBytes v)) (settingsPlace (jobBytes v) + 10) (omega (arith, there)))
       (passes-last 18 _ (false-and _ _ (λ e. ap not (ap isMomentum number-is ∙ ok .momentum (sym rule-is ∙ eqb-true _ _ e)))))
 
-  settled : first (settingsNumbers (jobBytes v) (settingsOf (jobBytes v))) ≡ 0
+  settled : first (settingsNumbers (jobBytes v) (settingsPlace (jobBytes v))) ≡ 0
   unfolding settingsNumbers
   settled =
       let s = jobBytes v in
-      let at = settingsOf (jobBytes v) in
+      let at = settingsPlace (jobBytes v) in
       sym (moves-on _ _ {x = 0} (within s at 1 mostRank 17 (omega (arith, there)) (omega (arith, rank-is v held, ok .rank))) refl
       (moves-on _ _ {x = 0} (within s (at + 1) 1 lastRule 18 (omega (arith, there)) (omega (arith, rule-is, ok .rule))) refl
       (moves-on _ _ {x = 0} momented refl
@@ -187,14 +168,14 @@ module _ (v : Values) (d : Entry) (held : Held v) (ok : Allowed v d) where
       (moves-on _ _ {x = 0} (within s (at + 35) 1 lastStart 19 (omega (arith, there)) (omega (arith, start-is v held, ok .start))) refl
       (passes-last 17 _ (false-and _ _ (λ e. ne-eqb _ _ (λ z. ok .given (sym (start-is v held) ∙ eqb-true _ _ e) (sym (rank-is v held) ∙ z)))))))))))
 
-  end-is : drawsOf (jobBytes v) + 2 + bigEndian (jobBytes v) (drawsOf (jobBytes v)) 2 * rankOf (jobBytes v) (wagons (jobBytes v)) (settingsOf (jobBytes v)) * 8 ≡ length (jobBytes v)
+  end-is : drawsPlace (jobBytes v) + 2 + bigEndian (jobBytes v) (drawsPlace (jobBytes v)) 2 * rankOf (jobBytes v) (wagons (jobBytes v)) (settingsPlace (jobBytes v)) * 8 ≡ length (jobBytes v)
   end-is = rw (drawn-is v held, wagons-back v held, rank-is v held, ← ok .draws) (omega (arith, draws-at v held, size v))
 
-  drawn : first (drawsNumbers (jobBytes v) (drawsOf (jobBytes v)) (rankOf (jobBytes v) (wagons (jobBytes v)) (settingsOf (jobBytes v)))) ≡ 0
+  drawn : first (drawsNumbers (jobBytes v) (drawsPlace (jobBytes v)) (rankOf (jobBytes v) (wagons (jobBytes v)) (settingsPlace (jobBytes v)))) ≡ 0
   unfolding drawsNumbers
   drawn =
       let s = jobBytes v in
-      let at = drawsOf (jobBytes v) in
+      let at = drawsPlace (jobBytes v) in
       sym (moves-on-if 11 _ _ (le-ltb (length s) at (omega (arith, draws-at v held, size v)))
       (moves-on _ _ {x = 0} (within s at 2 mostDraws 19 (omega (arith, draws-at v held, size v)) (omega (arith, drawn-is v held, ok .few))) refl
       (moves-on-if 19 _ _ (ne-eqb (bigEndian s at 2) 0 (λ z. omega (arith, z, drawn-is v held, ok .some)))
@@ -207,12 +188,12 @@ module _ (v : Values) (d : Entry) (held : Held v) (ok : Allowed v d) where
       below : {a b : ℕ} → a ≡ b → b ≤ a
       below e = omega arith
 
-  run : first (runNumbers (jobBytes v) (wagons (jobBytes v)) (settingsOf (jobBytes v))) ≡ 0
-  unfolding runNumbers drawsOf
-  run = first-append (settingsNumbers (jobBytes v) (settingsOf (jobBytes v))) _ ∙ neither _ _ settled drawn
+  run : first (runNumbers (jobBytes v) (wagons (jobBytes v)) (settingsPlace (jobBytes v))) ≡ 0
+  unfolding runNumbers drawsPlace
+  run = first-append (settingsNumbers (jobBytes v) (settingsPlace (jobBytes v))) _ ∙ neither _ _ settled drawn
 
   pub accepted-back : jobNumber (jobBytes v) ≡ 0
-  unfolding settingsOf
+  unfolding settingsPlace
   accepted-back =
       parts (jobBytes v)
       ∙ neither _ _ head (neither _ _ (neither _ _ (rw (wagons-back v held, count-back v held) entered) (rw (wagons-back v held, count-back v held) costed)) run)

@@ -17,13 +17,12 @@ use Rattle.ieee.specs.Floats.{doubleOf, bitsOf, signedOf, bitsOfSigned}
 use Rattle.job_reader.specs.Bytes.{bigEndian, signedAt, doubleAt}
 use Rattle.job_reader.specs.Encode.{bytesOf}
 use Rattle.job_reader.proofs.Encode.{length-bytesOf, read-front, read-bytes, read-signed, read-double}
-use Rattle.run_limits.specs.Rank.{rankMeant}
-use Rattle.run_limits.specs.Start.{startLength}
 use Rattle.job_record.specs.Fields.{wagons, entryCount, row, column, value}
-use Rattle.job_record.specs.Values.{settingsOf, drawsOf, jobOf, jobCost, jobStart, jobDraw}
+use Rattle.job_record.specs.Values.{settingsPlace, drawsPlace, jobOf, jobCost, jobStart, jobDraw}
 use Rattle.job_record.specs.declared.job.Job.{Job}
 use Rattle.job_encoding.specs.Encode.{Entry, Values, each, entryBytes, signedBytes, doubleBytes, settingsBytes, bodyBytes, headBytes, jobBytes}
-use Rattle.job_encoding.proofs.Each.{past, length-each, read-each}
+use Rattle.job_encoding.specs.Allowed.{noEntry, entryOf, costIn, Typed}
+use Rattle.job_encoding.proofs.Each.{read-behind, length-each, read-each}
 
 -- ---- parts of one size
 
@@ -46,29 +45,6 @@ settings-size v = simp (length-append, length-bytesOf)
 pub head-size : (rest n count : ℕ) → length (headBytes rest n count) ≡ 8
 unfolding headBytes
 head-size rest n count = simp (length-append, length-bytesOf)
-
--- the values are of the fields' types
-pub record Held (v : Values) : Type 0 where
-  pub n : length (v .c) < 2 ^ 8
-  pub count : length (v .entries) < 2 ^ 16
-  pub rows : (k : ℕ) (d : Entry) → k < length (v .entries) → getD (v .entries) k d .row < 2 ^ 8
-  pub columns : (k : ℕ) (d : Entry) → k < length (v .entries) → getD (v .entries) k d .column < 2 ^ 8
-  pub values : (k : ℕ) (d : Entry) → k < length (v .entries) → SFits w64 (getD (v .entries) k d .value)
-  pub costs : (i : ℕ) → i < length (v .c) → SFits w64 (getD (v .c) i (pos 0))
-  pub rank : v .rank < 2 ^ 8
-  pub rule : v .rule < 2 ^ 8
-  pub ruleNumber : T (fits binary64 (v .ruleNumber))
-  pub most : v .most < 2 ^ 32
-  pub minimum : v .minimum < 2 ^ 32
-  pub objective : T (fits binary64 (v .objectiveTolerance))
-  pub stationarity : T (fits binary64 (v .stationarityTolerance))
-  pub width : v .width < 2 ^ 8
-  pub start : v .start < 2 ^ 8
-  pub numbers : (i : ℕ) → i < length (v .startNumbers) → T (fits binary64 (getD (v .startNumbers) i nan))
-  pub drawn : v .drawCount < 2 ^ 16
-  pub draws : (i : ℕ) → i < length (v .draws) → T (fits binary64 (getD (v .draws) i nan))
-  -- a start has as many doubles as its kind asks
-  pub started : length (v .startNumbers) ≡ startLength (v .start) (length (v .c) + 1) (rankMeant (length (v .c) + 1) (v .rank)) (v .most)
 
 module _ (v : Values) where
   abbrev s : List ℕ
@@ -94,29 +70,29 @@ module _ (v : Values) where
 
   at-entries : (p w : ℕ) → bigEndian s (8 + p) w ≡ bigEndian (each entryBytes (v .entries) ++ costing) p w
   unfolding jobBytes bodyBytes
-  at-entries p w = past (headBytes (4 + length (bodyBytes v)) n count) (bodyBytes v) 8 p w (head-size _ _ _)
+  at-entries p w = read-behind (headBytes (4 + length (bodyBytes v)) n count) (bodyBytes v) 8 p w (head-size _ _ _)
 
   at-costs : (p w : ℕ) → bigEndian s (8 + count * 10 + p) w ≡ bigEndian costing p w
   at-costs p w =
       let e : 8 + count * 10 + p ≡ 8 + (count * 10 + p) = omega arith in
       ap (λ (q : ℕ). bigEndian s q w) e ∙ at-entries (count * 10 + p) w
-      ∙ past (each entryBytes (v .entries)) costing (count * 10) p w (length-each entryBytes 10 entry-size (v .entries))
+      ∙ read-behind (each entryBytes (v .entries)) costing (count * 10) p w (length-each entryBytes 10 entry-size (v .entries))
 
   at-settings : (p w : ℕ) → bigEndian s (8 + count * 10 + n * 8 + p) w ≡ bigEndian setting p w
   at-settings p w =
       let e : 8 + count * 10 + n * 8 + p ≡ 8 + count * 10 + (n * 8 + p) = omega arith in
-      ap (λ (q : ℕ). bigEndian s q w) e ∙ at-costs (n * 8 + p) w ∙ past (each signedBytes (v .c)) setting (n * 8) p w (length-each signedBytes 8 signed-size (v .c))
+      ap (λ (q : ℕ). bigEndian s q w) e ∙ at-costs (n * 8 + p) w ∙ read-behind (each signedBytes (v .c)) setting (n * 8) p w (length-each signedBytes 8 signed-size (v .c))
 
   at-start : (p w : ℕ) → bigEndian s (8 + count * 10 + n * 8 + 36 + p) w ≡ bigEndian starting p w
   at-start p w =
       let e : 8 + count * 10 + n * 8 + 36 + p ≡ 8 + count * 10 + n * 8 + (36 + p) = omega arith in
-      ap (λ (q : ℕ). bigEndian s q w) e ∙ at-settings (36 + p) w ∙ past (settingsBytes v) starting 36 p w (settings-size v)
+      ap (λ (q : ℕ). bigEndian s q w) e ∙ at-settings (36 + p) w ∙ read-behind (settingsBytes v) starting 36 p w (settings-size v)
 
   at-draws : (p w : ℕ) → bigEndian s (8 + count * 10 + n * 8 + 36 + length (v .startNumbers) * 8 + p) w ≡ bigEndian drawing p w
   at-draws p w =
       let e : 8 + count * 10 + n * 8 + 36 + length (v .startNumbers) * 8 + p ≡ 8 + count * 10 + n * 8 + 36 + (length (v .startNumbers) * 8 + p) = omega arith in
       ap (λ (q : ℕ). bigEndian s q w) e ∙ at-start (length (v .startNumbers) * 8 + p) w
-      ∙ past (each doubleBytes (v .startNumbers)) drawing (length (v .startNumbers) * 8) p w (length-each doubleBytes 8 double-size (v .startNumbers))
+      ∙ read-behind (each doubleBytes (v .startNumbers)) drawing (length (v .startNumbers) * 8) p w (length-each doubleBytes 8 double-size (v .startNumbers))
 
 head-n : (rest n count : ℕ) (body : List ℕ) → n < 2 ^ 8 → bigEndian (headBytes rest n count ++ body) 5 1 ≡ n
 unfolding headBytes bytesOf bigEndian
@@ -146,7 +122,7 @@ double-value : (x : Float) → T (fits binary64 x) → doubleOf (bigEndian (doub
 unfolding doubleBytes
 double-value x h = read-double x h
 
-module _ (v : Values) (held : Held v) where
+module _ (v : Values) (held : Typed v) where
   pub wagons-back : wagons (jobBytes v) ≡ length (v .c)
   unfolding jobBytes
   wagons-back = head-n _ _ _ (bodyBytes v) (held .n)
@@ -155,23 +131,23 @@ module _ (v : Values) (held : Held v) where
   unfolding jobBytes
   count-back = head-count _ _ _ (bodyBytes v) (held .count)
 
-  entry-at : (d : Entry) (k p w : ℕ) → k < length (v .entries) → p + w ≤ 10 → bigEndian (jobBytes v) (8 + k * 10 + p) w ≡ bigEndian (entryBytes (getD (v .entries) k d)) p w
-  entry-at d k p w l h =
+  entry-at : (k p w : ℕ) → k < length (v .entries) → p + w ≤ 10 → bigEndian (jobBytes v) (8 + k * 10 + p) w ≡ bigEndian (entryBytes (entryOf v k)) p w
+  entry-at k p w l h =
       let e : 8 + k * 10 + p ≡ 8 + (k * 10 + p) = omega arith in
-      ap (λ (q : ℕ). bigEndian (jobBytes v) q w) e ∙ at-entries v (k * 10 + p) w ∙ read-each entryBytes 10 entry-size (v .entries) (costing v) d k p w l h
+      ap (λ (q : ℕ). bigEndian (jobBytes v) q w) e ∙ at-entries v (k * 10 + p) w ∙ read-each entryBytes 10 entry-size (v .entries) (costing v) noEntry k p w l h
 
-  pub row-back : (k : ℕ) (d : Entry) → k < length (v .entries) → row (jobBytes v) k ≡ getD (v .entries) k d .row
-  row-back k d l =
+  pub row-back : (k : ℕ) → k < length (v .entries) → row (jobBytes v) k ≡ entryOf v k .row
+  row-back k l =
       let e : 8 + k * 10 ≡ 8 + k * 10 + 0 = omega arith in
-      ap (λ (q : ℕ). bigEndian (jobBytes v) q 1) e ∙ entry-at d k 0 1 l (omega arith) ∙ entry-row _ (held .rows k d l)
+      ap (λ (q : ℕ). bigEndian (jobBytes v) q 1) e ∙ entry-at k 0 1 l (omega arith) ∙ entry-row _ (held .rows k l)
 
-  pub column-back : (k : ℕ) (d : Entry) → k < length (v .entries) → column (jobBytes v) k ≡ getD (v .entries) k d .column
-  column-back k d l = entry-at d k 1 1 l (omega arith) ∙ entry-column _ (held .columns k d l)
+  pub column-back : (k : ℕ) → k < length (v .entries) → column (jobBytes v) k ≡ entryOf v k .column
+  column-back k l = entry-at k 1 1 l (omega arith) ∙ entry-column _ (held .columns k l)
 
-  pub value-back : (k : ℕ) (d : Entry) → k < length (v .entries) → value (jobBytes v) k ≡ getD (v .entries) k d .value
-  value-back k d l = ap signedOf (entry-at d k 2 8 l (omega arith)) ∙ entry-value _ (held .values k d l)
+  pub value-back : (k : ℕ) → k < length (v .entries) → value (jobBytes v) k ≡ entryOf v k .value
+  value-back k l = ap signedOf (entry-at k 2 8 l (omega arith)) ∙ entry-value _ (held .values k l)
 
-  pub cost-back : (i : ℕ) → i < length (v .c) → jobCost (jobBytes v) i ≡ getD (v .c) i (pos 0)
+  pub cost-back : (i : ℕ) → i < length (v .c) → jobCost (jobBytes v) i ≡ costIn v i
   cost-back i l =
       let e : i * 8 ≡ i * 8 + 0 = omega arith in
       ap (λ (q : ℕ). signedAt (jobBytes v) (8 + q * 10 + i * 8)) count-back
@@ -224,33 +200,33 @@ same : {n n′ count count′ rank rank′ rule rule′ most most′ minimum min
     (record { n = n′; count = count′; rank = rank′; rule = rule′; «rule_number» = number′; most = most′; minimum = minimum′; «objective_tolerance» = objective′; «stationarity_tolerance» = stationarity′; width = width′; start = start′; «draw_count» = draws′ })
 same a b c d e f g h i j k l = rw (a, b, c, d, e, f, g, h, i, j, k, l)
 
-module _ (v : Values) (held : Held v) where
-  pub settings-at : settingsOf (jobBytes v) ≡ 8 + length (v .entries) * 10 + length (v .c) * 8
-  unfolding settingsOf
+module _ (v : Values) (held : Typed v) where
+  pub settings-at : settingsPlace (jobBytes v) ≡ 8 + length (v .entries) * 10 + length (v .c) * 8
+  unfolding settingsPlace
   settings-at = rw (wagons-back v held, count-back v held)
 
-  pub setting-at : (p w : ℕ) → p + w ≤ 36 → bigEndian (jobBytes v) (settingsOf (jobBytes v) + p) w ≡ bigEndian (settingsBytes v) p w
+  pub setting-at : (p w : ℕ) → p + w ≤ 36 → bigEndian (jobBytes v) (settingsPlace (jobBytes v) + p) w ≡ bigEndian (settingsBytes v) p w
   setting-at p w h =
       ap (λ (q : ℕ). bigEndian (jobBytes v) (q + p) w) settings-at ∙ at-settings v p w ∙ read-front (settingsBytes v) (starting v) p w (omega (arith, settings-size v))
 
-  pub rank-is : bigEndian (jobBytes v) (settingsOf (jobBytes v)) 1 ≡ v .rank
+  pub rank-is : bigEndian (jobBytes v) (settingsPlace (jobBytes v)) 1 ≡ v .rank
   rank-is =
-      let e : settingsOf (jobBytes v) ≡ settingsOf (jobBytes v) + 0 = omega arith in
+      let e : settingsPlace (jobBytes v) ≡ settingsPlace (jobBytes v) + 0 = omega arith in
       ap (λ (q : ℕ). bigEndian (jobBytes v) q 1) e ∙ setting-at 0 1 (omega arith) ∙ set-rank v (held .rank)
 
-  pub most-is : bigEndian (jobBytes v) (settingsOf (jobBytes v) + 10) 4 ≡ v .most
+  pub most-is : bigEndian (jobBytes v) (settingsPlace (jobBytes v) + 10) 4 ≡ v .most
   most-is = setting-at 10 4 (omega arith) ∙ set-most v (held .most)
 
-  pub start-is : bigEndian (jobBytes v) (settingsOf (jobBytes v) + 35) 1 ≡ v .start
+  pub start-is : bigEndian (jobBytes v) (settingsPlace (jobBytes v) + 35) 1 ≡ v .start
   start-is = setting-at 35 1 (omega arith) ∙ set-start v (held .start)
 
-  pub draws-at : drawsOf (jobBytes v) ≡ 8 + length (v .entries) * 10 + length (v .c) * 8 + 36 + length (v .startNumbers) * 8
-  unfolding drawsOf
+  pub draws-at : drawsPlace (jobBytes v) ≡ 8 + length (v .entries) * 10 + length (v .c) * 8 + 36 + length (v .startNumbers) * 8
+  unfolding drawsPlace
   draws-at = rw (start-is, wagons-back v held, rank-is, most-is, ← held .started, settings-at)
 
-  pub drawn-is : bigEndian (jobBytes v) (drawsOf (jobBytes v)) 2 ≡ v .drawCount
+  pub drawn-is : bigEndian (jobBytes v) (drawsPlace (jobBytes v)) 2 ≡ v .drawCount
   drawn-is =
-      let e : drawsOf (jobBytes v) ≡ 8 + length (v .entries) * 10 + length (v .c) * 8 + 36 + length (v .startNumbers) * 8 + 0 = omega (arith, draws-at) in
+      let e : drawsPlace (jobBytes v) ≡ 8 + length (v .entries) * 10 + length (v .c) * 8 + 36 + length (v .startNumbers) * 8 + 0 = omega (arith, draws-at) in
       ap (λ (q : ℕ). bigEndian (jobBytes v) q 2) e ∙ at-draws v 0 2
       ∙ read-front (bytesOf 2 (v .drawCount)) (each doubleBytes (v .draws)) 0 2 (omega (arith, length-bytesOf 2 (v .drawCount))) ∙ read-bytes 2 (v .drawCount) (held .drawn)
 
@@ -277,17 +253,17 @@ module _ (v : Values) (held : Held v) where
 
   pub start-back : (i : ℕ) → i < length (v .startNumbers) → jobStart (jobBytes v) i ≡ getD (v .startNumbers) i nan
   start-back i l =
-      let e : settingsOf (jobBytes v) + 36 + i * 8 ≡ 8 + length (v .entries) * 10 + length (v .c) * 8 + 36 + (i * 8 + 0) = omega (arith, settings-at) in
+      let e : settingsPlace (jobBytes v) + 36 + i * 8 ≡ 8 + length (v .entries) * 10 + length (v .c) * 8 + 36 + (i * 8 + 0) = omega (arith, settings-at) in
       ap (λ (q : ℕ). doubleAt (jobBytes v) q) e
       ∙ ap doubleOf (at-start v (i * 8 + 0) 8 ∙ read-each doubleBytes 8 double-size (v .startNumbers) (drawing v) nan i 0 8 l (omega arith))
       ∙ double-value _ (held .numbers i l)
 
   pub draw-back : (i : ℕ) → i < length (v .draws) → jobDraw (jobBytes v) i ≡ getD (v .draws) i nan
   draw-back i l =
-      let e : drawsOf (jobBytes v) + 2 + i * 8 ≡ 8 + length (v .entries) * 10 + length (v .c) * 8 + 36 + length (v .startNumbers) * 8 + (2 + (i * 8 + 0)) = omega (arith, draws-at) in
+      let e : drawsPlace (jobBytes v) + 2 + i * 8 ≡ 8 + length (v .entries) * 10 + length (v .c) * 8 + 36 + length (v .startNumbers) * 8 + (2 + (i * 8 + 0)) = omega (arith, draws-at) in
       ap (λ (q : ℕ). doubleAt (jobBytes v) q) e
       ∙ ap doubleOf (at-draws v (2 + (i * 8 + 0)) 8
-      ∙ past (bytesOf 2 (v .drawCount)) (each doubleBytes (v .draws)) 2 (i * 8 + 0) 8 (length-bytesOf 2 (v .drawCount))
+      ∙ read-behind (bytesOf 2 (v .drawCount)) (each doubleBytes (v .draws)) 2 (i * 8 + 0) 8 (length-bytesOf 2 (v .drawCount))
       ∙ sym (read-front (each doubleBytes (v .draws)) [] (i * 8 + 0) 8 (omega (arith, length-each doubleBytes 8 double-size (v .draws))))
       ∙ read-each doubleBytes 8 double-size (v .draws) [] nan i 0 8 l (omega arith))
       ∙ double-value _ (held .draws i l)

@@ -10,8 +10,8 @@ use Rattle.job_reader.specs.Bytes.{bigEndian}
 use Rattle.job_reader.proofs.Encode.{read-front, read-past}
 use Rattle.job_encoding.specs.Encode.{each}
 
-pub past : (xs ys : List ℕ) (n at width : ℕ) → length xs ≡ n → bigEndian (xs ++ ys) (n + at) width ≡ bigEndian ys at width
-past xs ys n at width e = rw (← e) (read-past xs ys at width)
+pub read-behind : (xs ys : List ℕ) (n at width : ℕ) → length xs ≡ n → bigEndian (xs ++ ys) (n + at) width ≡ bigEndian ys at width
+read-behind xs ys n at width e = rw (← e) (read-past xs ys at width)
 
 module _ {A : Type 0} (f : A → List ℕ) (size : ℕ) (sized : (x : A) → length (f x) ≡ size) where
   pub length-each : (xs : List A) → length (each f xs) ≡ length xs * size
@@ -31,4 +31,4 @@ module _ {A : Type 0} (f : A → List ℕ) (size : ℕ) (sized : (x : A) → len
       rw (e, append-assoc (f x) (each f xs) rest) (read-front (f x) (each f xs ++ rest) at width (omega (arith, sized x)))
   read-each (x ∷ xs) rest d (suc k) at width l h =
       let e : suc k * size + at ≡ size + (k * size + at) = rw (suc-mul k size) (omega arith) in
-      rw (e, append-assoc (f x) (each f xs) rest) (past (f x) (each f xs ++ rest) size (k * size + at) width (sized x) ∙ read-each xs rest d k at width (omega arith) h)
+      rw (e, append-assoc (f x) (each f xs) rest) (read-behind (f x) (each f xs ++ rest) size (k * size + at) width (sized x) ∙ read-each xs rest d k at width (omega arith) h)

@@ -1,3 +1,5 @@
 pub mod Each
 pub mod Back
 pub mod Accepted
+pub mod Limits
+pub mod Examples

@@ -1,1 +1,3 @@
 pub mod Encode
+pub mod Allowed
+pub mod Examples

@@ -1,7 +1,7 @@
 -- The fields of a record: whole numbers, big-endian (01, "Job and answer records").
 use Prim.Native.Nat.{ℕ, zero, suc, _+_, _*_}
 use mathlib.Core.Bool.{cond}
-use mathlib.Core.List.{List}
+use mathlib.Core.List.{List, [], _∷_}
 use lib.ListN.{length, getD}
 use lib.Dec.{leb}
 use lib.IntN.{ℤ}
@@ -33,6 +33,22 @@ abbrev pub placeAfter : Field → ℕ → ℕ
 placeAfter (Value v next) at = next
 placeAfter Short at = at
 
+-- a field's value, 0 for one that runs past the end
+abbrev pub valueOf : Field → ℕ
+valueOf (Value v next) = v
+valueOf Short = 0
+
+-- the place after a field of so many bytes at `at`; the place after several; and the field behind them
+unfoldable pub after : List ℕ → ℕ → ℕ → ℕ
+after s at width = placeAfter (fieldAt s at width) at
+
+abbrev pub afterAll : List ℕ → ℕ → List ℕ → ℕ
+afterAll s at [] = at
+afterAll s at (w ∷ ws) = afterAll s (after s at w) ws
+
+abbrev pub taken : List ℕ → ℕ → List ℕ → ℕ → Field
+taken s at widths width = fieldAt s (afterAll s at widths) width
+
 -- the reader after a field of so many bytes
 abbrev pub movedOn : JobReader → ℕ → JobReader
-movedOn r width = record { bytes = r .bytes; at = placeAfter (fieldAt (now (r .bytes)) (r .at) width) (r .at) }
+movedOn r width = record { bytes = r .bytes; at = after (now (r .bytes)) (r .at) width }

@@ -15,14 +15,6 @@ pub fn u8_at(bytes: &[u8], at: usize) -> u8
     big_endian(bytes, at, 1) as u8
 }
 
-// The two bytes from `at` on.
-pub fn u16_at(bytes: &[u8], at: usize) -> u16
-    requires { ⌜ at + 2 ≤ length (now bytes) ⌝ }
-    ensures { λ r. ⌜ r ≡ bigEndian (now (bytes .entry)) at 2 ⌝ }
-{
-    big_endian(bytes, at, 2) as u16
-}
-
 // The four bytes from `at` on.
 pub fn u32_at(bytes: &[u8], at: usize) -> u32
     requires { ⌜ at + 4 ≤ length (now bytes) ⌝ }

@@ -1,10 +1,10 @@
-// A job reader: the record's bytes and how far it has read (01, "Job and answer records"). Its thin readers take it apart
-// and call `field_at`, which works on a slice and a number. `read_field` makes a reader and reads with it; its parameters
-// are plain, so that whoever calls it needs no proof by hand.
+// A job reader: the record's bytes and how far it has read (01, "Job and answer records"). `take` reads the next field and
+// moves on; it takes the reader apart and leaves the work to `field_at`, on a slice and a number. Whoever reads makes a reader
+// at a place and takes one field after the other (`job_record::reading`).
 ghost use mathlib.Core.Path.{_≡_};
 ghost use Prim.Native.Nat.{_+_, _≤_, _<_, _^_};
 ghost use lib.ListN.{length};
-ghost use Rattle.job_reader.specs.Bytes.{bigEndian, fieldAt, placeAfter, movedOn};
+ghost use Rattle.job_reader.specs.Bytes.{bigEndian, fieldAt, placeAfter, valueOf, movedOn};
 
 pub mod fields;
 
@@ -54,21 +54,6 @@ pub fn field_at(bytes: &[u8], at: usize, width: usize) -> Field
     Field::Value(big_endian(bytes, at, width), at + width)
 }
 
-// A reader at the record's first byte.
-pub fn new<'a>(bytes: &'a [u8]) -> JobReader<'a>
-    ensures { λ r. ⌜ (r .bytes ≡ bytes .entry) × (r .at ≡ 0) ⌝ }
-{
-    JobReader { bytes, at: 0 }
-}
-
-// The field of `width` bytes where the reader stands.
-pub fn read<'a>(r: JobReader<'a>, width: usize) -> Field
-    requires { ⌜ width ≤ 8 ⌝ }
-    ensures { λ f. ⌜ f ≡ fieldAt (now (r .entry .bytes)) (r .entry .at) width ⌝ }
-{
-    field_at(r.bytes, r.at, width)
-}
-
 // The place after a field that was read at `at`, and `at` itself where the field runs past the end.
 pub fn place_after(f: Field, at: usize) -> usize
     ensures { λ r. ⌜ r ≡ placeAfter f at ⌝ }
@@ -76,6 +61,16 @@ pub fn place_after(f: Field, at: usize) -> usize
     match f {
         Field::Value(_, next) => next,
         Field::Short => at,
+    }
+}
+
+// A field's value; 0 for one that runs past the end.
+pub fn value_of(f: Field) -> u64
+    ensures { λ r. ⌜ r ≡ valueOf f ⌝ }
+{
+    match f {
+        Field::Value(value, _) => value,
+        Field::Short => 0,
     }
 }
 
@@ -87,12 +82,4 @@ pub fn take<'s, 'a>(r: &'s mut JobReader<'a>, width: usize) -> Field
     let f = field_at(r.bytes, r.at, width);
     r.at = place_after(f, r.at);
     f
-}
-
-// The field of `width` bytes at `at` of a record: a reader is made there, and reads.
-pub fn read_field(bytes: &[u8], at: usize, width: usize) -> Field
-    requires { ⌜ width ≤ 8 ⌝ }
-    ensures { λ f. ⌜ f ≡ fieldAt (now (bytes .entry)) at width ⌝ }
-{
-    read(JobReader { bytes, at }, width)
 }

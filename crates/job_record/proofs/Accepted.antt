@@ -8,26 +8,29 @@ use Rattle.tables.specs.Limits.{mostWagons, mostEntries}
 use Rattle.job_record.specs.Limits.{mostBytes, mostDrawn}
 use Rattle.job_record.specs.Fields.{wagons, entryCount, entryAt, rankAt, mostAt, startAt, settingsAfter}
 use Rattle.job_record.specs.Number.{jobNumber}
-use Rattle.job_record.specs.Values.{settingsOf, drawsOf, jobRank, jobStartCount, jobDrawn}
+use Rattle.job_record.specs.declared.reading.SettingsValues.{SettingsValues}
+use Rattle.job_record.specs.Reading.{settingsFrom, settingsValues}
+use Rattle.job_record.specs.Values.{settingsPlace, drawsPlace, jobRank, jobStartCount, jobDrawn}
 use Rattle.run_limits.specs.Limits.{mostStart}
 use Rattle.run_limits.proofs.Ranks.{meant-low}
 use Rattle.run_limits.proofs.Starts.{start-low}
 use Rattle.job_record.proofs.Sections.{Settings, Draws, head, run}
 use Rattle.job_record.proofs.Whole.{passed}
+use Rattle.job_record.proofs.FieldByField.{SettingsThere, settings-values-are}
 
 pub record Fields (s : List ℕ) : Type 0 where
   pub small : length s ≤ mostBytes
   pub there : 8 ≤ length s
   pub few : wagons s ≤ mostWagons
   pub short : entryCount s ≤ mostEntries
-  pub entries-end : entryAt (entryCount s) + wagons s * 8 ≡ settingsOf s
-  pub settings : Settings s (settingsOf s)
-  pub start-end : settingsOf s + 36 + jobStartCount s * 8 ≡ drawsOf s
-  pub draws : Draws s (drawsOf s) (jobRank s)
-  pub draws-end : drawsOf s + 2 + jobDrawn s * 8 ≡ length s
+  pub entries-end : entryAt (entryCount s) + wagons s * 8 ≡ settingsPlace s
+  pub settings : Settings s (settingsPlace s)
+  pub start-end : settingsPlace s + 36 + jobStartCount s * 8 ≡ drawsPlace s
+  pub draws : Draws s (drawsPlace s) (jobRank s)
+  pub draws-end : drawsPlace s + 2 + jobDrawn s * 8 ≡ length s
 
 pub fields : (s : List ℕ) → jobNumber s ≡ 0 → Fields s
-unfolding settingsOf drawsOf
+unfolding settingsPlace drawsPlace
 fields s e =
     let p = passed s e in
     let h = head s (p .head) in
@@ -48,7 +51,11 @@ fields s e =
 pub start-fits : (s : List ℕ) → jobNumber s ≡ 0 → jobStartCount s ≤ mostStart
 start-fits s e =
     let f = fields s e in
-    start-low (startAt s (settingsOf s)) (wagons s + 1) (jobRank s) (mostAt s (settingsOf s)) (omega (arith, f .few)) (meant-low (wagons s + 1) (rankAt s (settingsOf s)) (omega (arith, f .few)) (f .settings .rank))
+    start-low (startAt s (settingsPlace s)) (wagons s + 1) (jobRank s) (mostAt s (settingsPlace s)) (omega (arith, f .few)) (meant-low (wagons s + 1) (rankAt s (settingsPlace s)) (omega (arith, f .few)) (f .settings .rank))
 
 pub drawn-fits : (s : List ℕ) → jobNumber s ≡ 0 → jobDrawn s ≤ mostDrawn
 drawn-fits s e = let f = fields s e in omega (arith, f .draws-end, f .small)
+
+-- its settings, as they were read
+pub settings-held : (s : List ℕ) → jobNumber s ≡ 0 → (v : SettingsValues) → v ≡ settingsValues (settingsFrom s (settingsPlace s)) → SettingsThere s (settingsPlace s) v
+settings-held s z v e = settings-values-are s (settingsPlace s) refl e (fields s z .settings .there)

@@ -17,13 +17,13 @@ use Rattle.tables.specs.Table.{tableOf}
 use Rattle.tables.specs.Check.{badEntry, badOrder, unmirrored, Placed, hallMagnitude}
 use Rattle.tables.proofs.Checks.{order-placed}
 use Rattle.job_record.specs.Fields.{entryAt, row, column, value, entries, signedFrom}
-use Rattle.job_record.specs.Number.{past, entryNumber, entriesNumbers}
+use Rattle.job_record.specs.Number.{endsBefore, entryNumber, entriesNumbers}
 use Rattle.job_record.proofs.Same.{filled, first-same, order-same, mirror-same, total-same}
 
 module _ (s : List ℕ) (n count whole : ℕ) (few : whole ≤ count) (there : entryAt whole ≤ length s) (cut : whole < count → length s < entryAt whole + 10) where
   judged : (k : ℕ) → k < whole → entryNumber s n k ≡ 14 if badEntry n (row s) (column s) k
   unfolding entryNumber
-  judged k l = sym (moves-on-if 11 (past s (entryAt k + 10)) (14 if badEntry n (row s) (column s) k ∷ []) (le-ltb (length s) (entryAt k + 10) (omega arith)) (answers-last _ refl))
+  judged k l = sym (moves-on-if 11 (endsBefore s (entryAt k + 10)) (14 if badEntry n (row s) (column s) k ∷ []) (le-ltb (length s) (entryAt k + 10) (omega arith)) (answers-last _ refl))
 
   whole-ones : firstOf (entryNumber s n) whole ≡ 14 if badOrder n (row s) (column s) whole
   unfolding badOrder
@@ -31,7 +31,7 @@ module _ (s : List ℕ) (n count whole : ℕ) (few : whole ≤ count) (there : e
 
   cut-one : whole < count → 11 ≡ entryNumber s n whole
   unfolding entryNumber
-  cut-one l = answers-if 10 (past s (entryAt whole + 10)) _ (lt-ltb _ _ (cut l))
+  cut-one l = answers-if 10 (endsBefore s (entryAt whole + 10)) _ (lt-ltb _ _ (cut l))
 
   bad-one : badOrder n (row s) (column s) whole ≡ true → 14 ≡ firstOf (entryNumber s n) count
   unfolding orElse

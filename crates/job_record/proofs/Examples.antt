@@ -16,8 +16,8 @@ use Rattle.job_reader.specs.Bytes.{bigEndian}
 use Rattle.run_limits.specs.Rank.{rankMeant}
 use Rattle.run_limits.specs.Start.{startLength}
 use Rattle.job_record.specs.Fields.{row, column, value}
-use Rattle.job_record.specs.Number.{bounded, frameNumber, versionNumber, entryNumber, momentumNumber, headNumbers, entriesNumbers, costsNumbers, settingsNumbers, drawsNumbers, runNumbers, jobNumber}
-use Rattle.job_record.specs.Values.{settingsOf, drawsOf, jobOf, jobCost, jobRank, jobStartCount, jobStart, jobDrawn, jobDraw}
+use Rattle.job_record.specs.Number.{boundedNumber, frameNumber, versionNumber, entryNumber, momentumNumber, headNumbers, entriesNumbers, costsNumbers, settingsNumbers, drawsNumbers, runNumbers, jobNumber}
+use Rattle.job_record.specs.Values.{settingsPlace, drawsPlace, jobOf, jobCost, jobRank, jobStartCount, jobStart, jobDrawn, jobDraw}
 
 unfoldable pub example : List ℕ
 example =
@@ -29,7 +29,7 @@ example =
     ++ (0 ∷ 1 ∷ []) ++ (0x3f ∷ 0xf0 ∷ []) ++ replicate 14 0
 
 pub example-accepted : jobNumber example ≡ 0
-unfolding example bigEndian jobNumber headNumbers entriesNumbers costsNumbers runNumbers settingsNumbers drawsNumbers frameNumber versionNumber bounded entryNumber momentumNumber orElse first firstOf anyOf anyBelow total before badEntry unmirrored rootFrom leastRoot defaultRank rankMeant startLength
+unfolding example bigEndian jobNumber headNumbers entriesNumbers costsNumbers runNumbers settingsNumbers drawsNumbers frameNumber versionNumber boundedNumber entryNumber momentumNumber orElse first firstOf anyOf anyBelow total before badEntry unmirrored rootFrom leastRoot defaultRank rankMeant startLength
 example-accepted = refl
 
 pub example-job : jobOf example
@@ -47,7 +47,7 @@ pub example-job : jobOf example
       start = 2;
       «draw_count» = 1;
     }
-unfolding example bigEndian jobOf settingsOf drawsOf rootFrom leastRoot defaultRank rankMeant startLength
+unfolding example bigEndian jobOf settingsPlace drawsPlace rootFrom leastRoot defaultRank rankMeant startLength
 example-job = refl
 
 -- H and c; the rank that 0 means, the signs, and the draw
@@ -57,7 +57,7 @@ example-hall = (refl, refl)
 
 pub example-numbers : ((jobRank example ∷ jobStartCount example ∷ jobDrawn example ∷ []) ≡ (2 ∷ 2 ∷ 2 ∷ []))
     × ((jobStart example 0 ∷ jobStart example 1 ∷ jobDraw example 0 ∷ jobDraw example 1 ∷ []) ≡ (one64 ∷ one64 ∷ one64 ∷ zero64 ∷ []))
-unfolding example bigEndian settingsOf drawsOf rootFrom leastRoot defaultRank rankMeant startLength
+unfolding example bigEndian settingsPlace drawsPlace rootFrom leastRoot defaultRank rankMeant startLength
 example-numbers = (refl, refl)
 
 -- the example with other bytes at one place or two, and the number of each: fields are judged as read, and the first number comes
@@ -79,5 +79,5 @@ refused =
     ∷ []
 
 pub refusals : map jobNumber refused ≡ (11 ∷ 12 ∷ 13 ∷ 13 ∷ 14 ∷ 14 ∷ 11 ∷ 14 ∷ 15 ∷ 16 ∷ 17 ∷ 18 ∷ 17 ∷ 18 ∷ 0 ∷ 19 ∷ 19 ∷ 19 ∷ 19 ∷ 11 ∷ 11 ∷ [])
-unfolding refused example bigEndian jobNumber headNumbers entriesNumbers costsNumbers runNumbers settingsNumbers drawsNumbers frameNumber versionNumber bounded entryNumber momentumNumber orElse first firstOf anyOf anyBelow total before badEntry unmirrored rootFrom leastRoot defaultRank rankMeant startLength ofBits ofFields odd climb size span le lt
+unfolding refused example bigEndian jobNumber headNumbers entriesNumbers costsNumbers runNumbers settingsNumbers drawsNumbers frameNumber versionNumber boundedNumber entryNumber momentumNumber orElse first firstOf anyOf anyBelow total before badEntry unmirrored rootFrom leastRoot defaultRank rankMeant startLength ofBits ofFields odd climb size span le lt
 refusals = refl

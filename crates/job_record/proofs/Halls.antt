@@ -35,9 +35,9 @@ mirrored : (s : List ℕ) (n count : ℕ) → first (entriesNumbers s n count) �
 unfolding entriesNumbers
 mirrored s n count e = clear _ 14 (first-head _ _ (first-rest _ _ e))
 
-bounded : (s : List ℕ) (n count : ℕ) → first (costsNumbers s n count) ≡ 0 → ltb mostMagnitude (hallMagnitude n (entries s count) (signedFrom s (entryAt count))) ≡ false
+magnitude-bounded : (s : List ℕ) (n count : ℕ) → first (costsNumbers s n count) ≡ 0 → ltb mostMagnitude (hallMagnitude n (entries s count) (signedFrom s (entryAt count))) ≡ false
 unfolding costsNumbers
-bounded s n count e = clear _ 15 (first-head _ _ (first-rest _ _ e))
+magnitude-bounded s n count e = clear _ 15 (first-head _ _ (first-rest _ _ e))
 
 none : (n : ℕ) (t : Table) (c : ℕ → ℤ) → n ≤ mostWagons → t .count ≤ mostEntries → badOrder n (t .row) (t .column) (t .count) ≡ false → unmirrored t ≡ false
     → ltb mostMagnitude (hallMagnitude n t c) ≡ false → hallNumber mostWagons mostEntries mostMagnitude n t c ≡ 0
@@ -50,7 +50,7 @@ module _ (s : List ℕ) (e : jobNumber s ≡ 0) where
   hall =
       let p = passed s e in
       let h = head s (p .head) in
-      none (wagons s) (jobTable s) (jobCost s) (h .few) (h .short) (ordered s _ _ (p .entries)) (mirrored s (wagons s) _ (p .entries)) (bounded s _ _ (p .costs))
+      none (wagons s) (jobTable s) (jobCost s) (h .few) (h .short) (ordered s _ _ (p .entries)) (mirrored s (wagons s) _ (p .entries)) (magnitude-bounded s _ _ (p .costs))
 
   pub hall-stored : {rows₀ cols₀ : List ℕ} {values₀ c₀ : List ℤ} {start₀ draws₀ : List Float} {rows cols : List ℕ} {values c : List ℤ} {start draws : List Float}
       → Stored s rows₀ cols₀ values₀ c₀ start₀ draws₀ rows cols values c start draws
@@ -68,7 +68,7 @@ module _ (s : List ℕ) (e : jobNumber s ≡ 0) where
       none n (tableOf count rows cols values) (elemZ c) (h .few) (h .short)
       (order-same _ _ _ _ (value s) (value s) count r k n ∙ ordered s n count (p .entries))
       (mirror-same _ _ _ _ _ _ count r k v ∙ mirrored s n count (p .entries))
-      (ap (ltb mostMagnitude) (same-magnitude n count (elemZ values) (value s) (elemZ c) (jobCost s) v g) ∙ bounded s n count (p .costs))
+      (ap (ltb mostMagnitude) (same-magnitude n count (elemZ values) (value s) (elemZ c) (jobCost s) v g) ∙ magnitude-bounded s n count (p .costs))
     where
       same-magnitude : (n count : ℕ) (v v′ c c′ : ℕ → ℤ) → ((i : ℕ) → i < count → v i ≡ v′ i) → ((i : ℕ) → i < n → c i ≡ c′ i)
           → total count (λ i. natAbs (v i)) + 2 * total n (λ i. natAbs (c i)) ≡ total count (λ i. natAbs (v′ i)) + 2 * total n (λ i. natAbs (c′ i))

@@ -4,6 +4,7 @@ pub mod Products
 pub mod Same
 pub mod Entries
 pub mod Whole
+pub mod FieldByField
 pub mod Accepted
 pub mod Halls
 pub mod Examples

@@ -10,6 +10,7 @@ use Rattle.laws.specs.Refusal.{firstOf}
 use Rattle.laws.specs.Sum.{total}
 use Rattle.laws.specs.Lists.{anyBelow, fill}
 use Rattle.laws.proofs.MapFirst.{getD-mapFirst}
+use Rattle.laws.proofs.Totals.{total-ext}
 use Rattle.tables.specs.Check.{badEntry, badOrder, unmirrored}
 
 pub filled : {A : Type 0} (f : ℕ → A) (l : List A) (d : A) (n : ℕ) → n ≤ length l → (i : ℕ) → i < n → getD (fill f n l) i d ≡ f i
@@ -26,9 +27,7 @@ any-same p q zero h = refl
 any-same p q (suc n) h = rw (any-same p q n (λ i l. h i (omega arith)), h n (omega arith))
 
 pub total-same : (f g : ℕ → ℕ) (n : ℕ) → ((i : ℕ) → i < n → f i ≡ g i) → total n f ≡ total n g
-unfolding total
-total-same f g zero h = refl
-total-same f g (suc n) h = rw (total-same f g n (λ i l. h i (omega arith)), h n (omega arith))
+total-same f g n h = total-ext n f g h
 
 -- two tables that agree below the count
 module _ (row column row′ column′ : ℕ → ℕ) (value value′ : ℕ → ℤ) (count : ℕ) (r : (i : ℕ) → i < count → row i ≡ row′ i) (k : (i : ℕ) → i < count → column i ≡ column′ i) where

@@ -1,5 +1,5 @@
 -- The number of a record, from the numbers of its sections; and what holds where it is 0.
-use Prim.Native.Nat.{ℕ, zero, suc, _+_}
+use Prim.Native.Nat.{ℕ, zero, suc}
 use mathlib.Core.Path.{_≡_, refl, sym, ap, _∙_}
 use mathlib.Core.List.{List, _++_}
 use Rattle.laws.specs.Refusal.{first, orElse}
@@ -8,7 +8,7 @@ use Rattle.laws.proofs.Following.{first-append}
 use Rattle.job_record.specs.Fields.{wagons, entryCount, settingsAfter}
 use Rattle.job_record.specs.Number.{headNumbers, entriesNumbers, costsNumbers, runNumbers, jobNumber}
 
-or-join : (a b c : ℕ) → orElse a (orElse b c) ≡ orElse (orElse a b) c
+pub or-join : (a b c : ℕ) → orElse a (orElse b c) ≡ orElse (orElse a b) c
 unfolding orElse
 or-join zero b c = refl
 or-join (suc a) b c = refl

@@ -1,4 +1,5 @@
 pub mod Limits
 pub mod Fields
 pub mod Number
+pub mod Reading
 pub mod Values

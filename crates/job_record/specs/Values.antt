@@ -11,11 +11,11 @@ use Rattle.job_record.specs.Fields.{wagons, entryCount, entryAt, row, co
 use Rattle.job_record.specs.declared.job.Job.{Job}
 
 -- where the settings, the start's doubles and the draw count stand
-unfoldable pub settingsOf : List ℕ → ℕ
-settingsOf s = settingsAfter (wagons s) (entryCount s)
+unfoldable pub settingsPlace : List ℕ → ℕ
+settingsPlace s = settingsAfter (wagons s) (entryCount s)
 
-unfoldable pub drawsOf : List ℕ → ℕ
-drawsOf s = drawsAfter s (wagons s) (settingsOf s)
+unfoldable pub drawsPlace : List ℕ → ℕ
+drawsPlace s = drawsAfter s (wagons s) (settingsPlace s)
 
 -- H and c
 abbrev pub jobTable : List ℕ → Table
@@ -30,34 +30,34 @@ jobOf s =
     record {
       n = wagons s;
       count = entryCount s;
-      rank = rankAt s (settingsOf s);
-      rule = ruleAt s (settingsOf s);
-      «rule_number» = ruleNumberAt s (settingsOf s);
-      most = mostAt s (settingsOf s);
-      minimum = minimumAt s (settingsOf s);
-      «objective_tolerance» = objectiveToleranceAt s (settingsOf s);
-      «stationarity_tolerance» = stationarityToleranceAt s (settingsOf s);
-      width = widthAt s (settingsOf s);
-      start = startAt s (settingsOf s);
-      «draw_count» = bigEndian s (drawsOf s) 2;
+      rank = rankAt s (settingsPlace s);
+      rule = ruleAt s (settingsPlace s);
+      «rule_number» = ruleNumberAt s (settingsPlace s);
+      most = mostAt s (settingsPlace s);
+      minimum = minimumAt s (settingsPlace s);
+      «objective_tolerance» = objectiveToleranceAt s (settingsPlace s);
+      «stationarity_tolerance» = stationarityToleranceAt s (settingsPlace s);
+      width = widthAt s (settingsPlace s);
+      start = startAt s (settingsPlace s);
+      «draw_count» = bigEndian s (drawsPlace s) 2;
     }
 
 -- the rank that the job's means
 abbrev pub jobRank : List ℕ → ℕ
-jobRank s = rankOf s (wagons s) (settingsOf s)
+jobRank s = rankOf s (wagons s) (settingsPlace s)
 
 -- the start's doubles, and the draws' numbers
 abbrev pub jobStartCount : List ℕ → ℕ
-jobStartCount s = startCountOf s (wagons s) (settingsOf s)
+jobStartCount s = startCountOf s (wagons s) (settingsPlace s)
 
 abbrev pub jobStart : List ℕ → ℕ → Float
-jobStart s = doubleFrom s (settingsOf s + 36)
+jobStart s = doubleFrom s (settingsPlace s + 36)
 
 abbrev pub jobDrawn : List ℕ → ℕ
-jobDrawn s = bigEndian s (drawsOf s) 2 * jobRank s
+jobDrawn s = bigEndian s (drawsPlace s) 2 * jobRank s
 
 abbrev pub jobDraw : List ℕ → ℕ → Float
-jobDraw s = doubleFrom s (drawsOf s + 2)
+jobDraw s = doubleFrom s (drawsPlace s + 2)
 
 -- a job stored over the fronts of lent lists
 pub record Stored (s rows₀ cols₀ : List ℕ) (values₀ c₀ : List ℤ) (start₀ draws₀ : List Float) (rows cols : List ℕ) (values c : List ℤ) (start draws : List Float) : Type 0 where

@@ -1,4 +1,5 @@
 // Rows of numbers of a record, stored into slices.
+use crate::places::entry_at;
 use job_reader::fields::f64_at;
 use job_reader::fields::i64_at;
 use job_reader::fields::u8_at;
@@ -23,7 +24,7 @@ pub fn read_entries(
 {
     let mut i = 0;
     while i < count {
-        let at = 8 + i * 10;
+        let at = entry_at(i);
         rows[i] = u8_at(job, at) as u16;
         cols[i] = u8_at(job, at + 1) as u16;
         values[i] = i64_at(job, at + 2);

@@ -2,21 +2,31 @@
 use crate::arrays::read_doubles;
 use crate::arrays::read_entries;
 use crate::arrays::read_signed;
-use job_reader::fields::f64_at;
-use job_reader::fields::u8_at;
-use job_reader::fields::u16_at;
-use job_reader::fields::u32_at;
+use crate::places::entry_at;
+use crate::places::settings_at;
+use crate::reading::HeadValues;
+use crate::reading::SettingsValues;
+use crate::reading::head_values;
+use crate::reading::read_draw_count;
+use crate::reading::read_head;
+use crate::reading::read_settings;
+use crate::reading::settings_values;
+use ieee::bits::double_of;
+use job_reader::place_after;
+use job_reader::value_of;
 use run_limits::rank_meant;
 use run_limits::start_length;
 ghost use mathlib.Core.Path.{_≡_};
-ghost use Prim.Native.Nat.{_+_, _*_, _≤_};
+ghost use Prim.Native.Nat.{_+_, _*_, _≤_, _<_, _^_};
 ghost use lib.ListN.{length};
 ghost use Rattle.laws.specs.Lists.{fill};
 ghost use Rattle.tables.specs.Limits.{mostWagons, mostEntries};
 ghost use Rattle.run_limits.specs.Limits.{mostRank, mostStart};
 ghost use Rattle.job_record.specs.Limits.{mostBytes, mostDrawn};
+ghost use Rattle.job_record.specs.Fields.{wagons, entryCount};
 ghost use Rattle.job_record.specs.Number.{jobNumber};
-ghost use Rattle.job_record.specs.Values.{settingsOf, drawsOf, jobOf, jobRank, jobStartCount, jobStart, jobDrawn, jobDraw, Stored};
+ghost use Rattle.job_record.specs.Reading.{settingsFrom, settingsValues};
+ghost use Rattle.job_record.specs.Values.{settingsPlace, drawsPlace, jobOf, jobRank, jobStartCount, jobStart, jobDrawn, jobDraw, Stored};
 
 // The fields of one number each: the rank as given (0 means the default rank), the rule's code, the start's kind.
 pub struct Job {
@@ -34,12 +44,23 @@ pub struct Job {
     pub draw_count: usize,
 }
 
-// Where the settings stand.
-fn settings_at(job: &[u8]) -> usize
-    requires { ⌜ 8 ≤ length (now job) ⌝ }
-    ensures { λ r. ⌜ (r ≡ settingsOf (now (job .entry))) × (r ≤ 657398) ⌝ }
+// The numbers of an accepted job's head.
+fn accepted_head(job: &[u8]) -> HeadValues
+    requires { ⌜ jobNumber (now job) ≡ 0 ⌝ }
+    ensures { λ r. ⌜ (r .n ≡ wagons (now (job .entry))) × (r .count ≡ entryCount (now (job .entry))) ⌝ }
 {
-    8 + u16_at(job, 6) as usize * 10 + u8_at(job, 5) as usize * 8
+    let head = read_head(job);
+    head_values(head)
+}
+
+// And of its settings.
+fn accepted_settings(job: &[u8]) -> SettingsValues
+    requires { ⌜ jobNumber (now job) ≡ 0 ⌝ }
+    ensures { λ r. ⌜ (r ≡ settingsValues (settingsFrom (now (job .entry)) (settingsPlace (now (job .entry))))) × (r .most < 2 ^ 32) × (r .minimum < 2 ^ 32) ⌝ }
+{
+    let head = accepted_head(job);
+    let f = read_settings(job, settings_at(head.n as usize, head.count as usize));
+    settings_values(f)
 }
 
 // The rank that the job's means.
@@ -47,8 +68,9 @@ pub fn job_rank(job: &[u8]) -> usize
     requires { ⌜ jobNumber (now job) ≡ 0 ⌝ }
     ensures { λ r. ⌜ (r ≡ jobRank (now (job .entry))) × (r ≤ mostRank) ⌝ }
 {
-    let at = settings_at(job);
-    rank_meant(u8_at(job, 5) as usize + 1, u8_at(job, at) as usize)
+    let head = accepted_head(job);
+    let f = accepted_settings(job);
+    rank_meant(head.n as usize + 1, f.rank as usize)
 }
 
 // How many doubles its start has.
@@ -56,22 +78,27 @@ pub fn job_start_count(job: &[u8]) -> usize
     requires { ⌜ jobNumber (now job) ≡ 0 ⌝ }
     ensures { λ r. ⌜ (r ≡ jobStartCount (now (job .entry))) × (r ≤ mostStart) ⌝ }
 {
-    let at = settings_at(job);
+    let head = accepted_head(job);
+    let f = accepted_settings(job);
     let rank = job_rank(job);
-    start_length(
-        u8_at(job, at + 35),
-        u8_at(job, 5) as usize + 1,
-        rank,
-        u32_at(job, at + 10),
-    )
+    start_length(f.start as u8, head.n as usize + 1, rank, f.most as u32)
 }
 
-// Where the draw count stands.
+// Where the start's doubles stand: behind the settings.
+fn start_at(job: &[u8]) -> usize
+    requires { ⌜ jobNumber (now job) ≡ 0 ⌝ }
+    ensures { λ r. ⌜ (r ≡ settingsPlace (now (job .entry)) + 36) × (r ≤ mostBytes) ⌝ }
+{
+    let f = accepted_settings(job);
+    f.next
+}
+
+// Where the draw count stands: behind them.
 fn draws_at(job: &[u8]) -> usize
     requires { ⌜ jobNumber (now job) ≡ 0 ⌝ }
-    ensures { λ r. ⌜ (r ≡ drawsOf (now (job .entry))) × (r ≤ mostBytes) ⌝ }
+    ensures { λ r. ⌜ (r ≡ drawsPlace (now (job .entry))) × (r ≤ mostBytes) ⌝ }
 {
-    settings_at(job) + 36 + job_start_count(job) * 8
+    start_at(job) + job_start_count(job) * 8
 }
 
 // The settings.
@@ -79,21 +106,22 @@ pub fn job_of(job: &[u8]) -> Job
     requires { ⌜ jobNumber (now job) ≡ 0 ⌝ }
     ensures { λ r. ⌜ r ≡ jobOf (now (job .entry)) ⌝ }
 {
-    let at = settings_at(job);
-    let draws = draws_at(job);
+    let head = accepted_head(job);
+    let f = accepted_settings(job);
+    let drawn = read_draw_count(job, draws_at(job));
     Job {
-        n: u8_at(job, 5) as usize,
-        count: u16_at(job, 6) as usize,
-        rank: u8_at(job, at) as usize,
-        rule: u8_at(job, at + 1),
-        rule_number: f64_at(job, at + 2),
-        most: u32_at(job, at + 10),
-        minimum: u32_at(job, at + 14),
-        objective_tolerance: f64_at(job, at + 18),
-        stationarity_tolerance: f64_at(job, at + 26),
-        width: u8_at(job, at + 34) as usize,
-        start: u8_at(job, at + 35),
-        draw_count: u16_at(job, draws) as usize,
+        n: head.n as usize,
+        count: head.count as usize,
+        rank: f.rank as usize,
+        rule: f.rule as u8,
+        rule_number: double_of(f.rule_number),
+        most: f.most as u32,
+        minimum: f.minimum as u32,
+        objective_tolerance: double_of(f.objective_tolerance),
+        stationarity_tolerance: double_of(f.stationarity_tolerance),
+        width: f.width as usize,
+        start: f.start as u8,
+        draw_count: value_of(drawn) as usize,
     }
 }
 
@@ -102,19 +130,21 @@ fn read_start(job: &[u8], start: &mut [f64])
     requires { ⌜ (jobNumber (now job) ≡ 0) × (mostStart ≤ length (now start)) ⌝ }
     ensures { λ _. ⌜ now (start .exit) ≡ fill (jobStart (now (job .entry))) (jobStartCount (now (job .entry))) (now (start .entry)) ⌝ }
 {
-    let at = settings_at(job) + 36;
+    let at = start_at(job);
     let count = job_start_count(job);
     read_doubles(job, at, count, start);
 }
 
-// The draws.
+// The draws: behind their count.
 fn read_draws(job: &[u8], draws: &mut [f64])
     requires { ⌜ (jobNumber (now job) ≡ 0) × (mostDrawn ≤ length (now draws)) ⌝ }
     ensures { λ _. ⌜ now (draws .exit) ≡ fill (jobDraw (now (job .entry))) (jobDrawn (now (job .entry))) (now (draws .entry)) ⌝ }
 {
     let at = draws_at(job);
-    let count = u16_at(job, at) as usize * job_rank(job);
-    read_doubles(job, at + 2, count, draws);
+    let drawn = read_draw_count(job, at);
+    let first = place_after(drawn, at);
+    let count = value_of(drawn) as usize * job_rank(job);
+    read_doubles(job, first, count, draws);
 }
 
 // An accepted job: its settings; H, c, the start's doubles and the draws over the fronts of the slices.
@@ -133,9 +163,10 @@ pub fn read_job(
         × Stored (now (job .entry)) (now (rows .entry)) (now (cols .entry)) (now (values .entry)) (now (c .entry)) (now (start .entry)) (now (draws .entry))
         (now (rows .exit)) (now (cols .exit)) (now (values .exit)) (now (c .exit)) (now (start .exit)) (now (draws .exit)) ⌝ }
 {
-    let count = u16_at(job, 6) as usize;
-    let n = u8_at(job, 5) as usize;
-    let costs = 8 + count * 10;
+    let head = accepted_head(job);
+    let count = head.count as usize;
+    let n = head.n as usize;
+    let costs = entry_at(count);
     read_entries(job, count, rows, cols, values);
     read_signed(job, costs, n, c);
     read_start(job, start);

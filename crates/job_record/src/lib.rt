@@ -3,4 +3,6 @@ pub mod arrays;
 pub mod job;
 pub mod limits;
 pub mod number;
+pub mod places;
+pub mod reading;
 pub mod settings;

@@ -4,71 +4,89 @@ use crate::arrays::read_signed;
 use crate::limits::MOST_BYTES;
 use crate::limits::MOST_ENTRIES;
 use crate::limits::MOST_WAGONS;
-use crate::settings::bounded;
+use crate::places::ENTRY;
+use crate::places::HEAD;
+use crate::places::entry_at;
+use crate::places::settings_at;
+use crate::reading::HeadFields;
+use crate::reading::head_values;
+use crate::reading::read_head;
+use crate::settings::limit_number;
 use crate::settings::run_number;
-use job_reader::fields::u8_at;
-use job_reader::fields::u16_at;
-use job_reader::fields::u32_at;
+use job_reader::Field;
 use tables::check::bad_order;
 use tables::check::hall_too_large;
 use tables::limits::MOST_MAGNITUDE;
 use tables::mirror::unmirrored;
 ghost use mathlib.Core.Path.{_≡_};
-ghost use Prim.Native.Nat.{ℕ, _+_, _*_, _≤_, _<_};
+ghost use mathlib.Core.Bool.{not};
+ghost use Prim.Native.Nat.{ℕ, _+_, _≤_, _<_};
 ghost use lib.ListN.{length};
+ghost use lib.Dec.{eqb};
 ghost use Rattle.laws.specs.Refusal.{first, orElse};
 ghost use Rattle.laws.specs.Lists.{elemZ};
 ghost use Rattle.tables.specs.Limits.{mostWagons, mostEntries};
 ghost use Rattle.job_record.specs.Fields.{entryAt, value};
-ghost use Rattle.job_record.specs.Number.{frameNumber, versionNumber, headNumbers, entriesNumbers, costsNumbers, jobNumber};
+ghost use Rattle.job_record.specs.Reading.{fieldNumber, frameJudged, headJudged};
+ghost use Rattle.job_record.specs.Number.{entriesNumbers, costsNumbers, jobNumber};
 
-// At most 65,536 bytes, and the length of the rest.
-fn frame_number(job: &[u8]) -> u8
-    ensures { λ r. ⌜ r ≡ frameNumber (now (job .entry)) ⌝ }
+// The length of the rest, in a record of `len` bytes.
+fn frame_number(len: usize, rest: Field) -> u8
+    ensures { λ r. ⌜ r ≡ frameJudged len rest ⌝ }
 {
-    let len = job.len();
+    match rest {
+        Field::Short => 11,
+        Field::Value(value, next) => {
+            if len < next {
+                return 11;
+            }
+            if value as usize != len - next {
+                return 11;
+            }
+            0
+        }
+    }
+}
+
+// 11 past the end, 12 where it isn't 1.
+fn version_number(version: Field) -> u8
+    ensures { λ r. ⌜ r ≡ fieldNumber version (λ v. not (eqb v 1)) 12 ⌝ }
+{
+    match version {
+        Field::Short => 11,
+        Field::Value(value, _) => {
+            if value != 1 {
+                return 12;
+            }
+            0
+        }
+    }
+}
+
+// Frame, version, n, entry count, in a record of `len` bytes.
+fn head_number(len: usize, head: HeadFields) -> u8
+    ensures { λ r. ⌜ r ≡ first (headJudged len head) ⌝ }
+{
     if MOST_BYTES < len {
         return 11;
     }
-    if len < 4 {
-        return 11;
-    }
-    if 4 + u32_at(job, 0) as usize != len {
-        return 11;
-    }
-    0
-}
-
-// The numbers of length and version, 11 or 12; 0 for none.
-fn version_number(job: &[u8]) -> u8
-    ensures { λ r. ⌜ r ≡ versionNumber (now (job .entry)) ⌝ }
-{
-    if job.len() < 5 {
-        return 11;
-    }
-    if u8_at(job, 4) != 1 {
-        return 12;
-    }
-    0
-}
-
-// Frame, version, n, entry count.
-fn head_number(job: &[u8]) -> u8
-    ensures { λ r. ⌜ r ≡ first (headNumbers (now (job .entry))) ⌝ }
-{
-    let frame = frame_number(job);
+    let rest = head.rest;
+    let frame = frame_number(len, rest);
     if frame != 0 {
         return frame;
     }
-    let version = version_number(job);
-    if version != 0 {
-        return version;
+    let version = head.version;
+    let unknown = version_number(version);
+    if unknown != 0 {
+        return unknown;
     }
-    let n = bounded(job, 5, 1, MOST_WAGONS, 13);
-    if n != 0 {
-        return n;
+    let n = head.n;
+    let many = limit_number(n, MOST_WAGONS, 13);
+    if many != 0 {
+        return many;
     }
-    bounded(job, 6, 2, MOST_ENTRIES, 13)
+    let count = head.count;
+    limit_number(count, MOST_ENTRIES, 13)
 }
 
 // How many of the entries are there whole.
@@ -76,7 +94,7 @@ fn whole_entries(job: &[u8], count: usize) -> usize
     requires { ⌜ 8 ≤ length (now job) ⌝ }
     ensures { λ r. ⌜ (r ≤ count) × (entryAt r ≤ length (now (job .entry))) × (r < count → length (now (job .entry)) < entryAt r + 10) ⌝ }
 {
-    let there = (job.len() - 8) / 10;
+    let there = (job.len() - HEAD) / ENTRY;
     if there < count {
         return there;
     }
@@ -115,12 +133,11 @@ fn costs_number(job: &[u8], n: usize, count: usize, values: &[i64]) -> u8
     requires { ⌜ (n ≤ mostWagons) × (count ≤ mostEntries) × (count ≤ length (now values)) × ((k : ℕ) → k < count → elemZ (now values) k ≡ value (now job) k) ⌝ }
     ensures { λ r. ⌜ r ≡ first (costsNumbers (now (job .entry)) n count) ⌝ }
 {
-    let at = 8 + count * 10;
-    if job.len() < at + n * 8 {
+    if job.len() < settings_at(n, count) {
         return 11;
     }
     let mut c = [0i64; tables::limits::MOST_WAGONS];
-    read_signed(job, at, n, &mut c);
+    read_signed(job, entry_at(count), n, &mut c);
     if hall_too_large(MOST_MAGNITUDE, n, count, values, &c) {
         return 16;
     }
@@ -146,15 +163,17 @@ fn table_number(job: &[u8], n: usize, count: usize) -> u8
 pub fn job_number(job: &[u8]) -> u8
     ensures { λ r. ⌜ r ≡ jobNumber (now (job .entry)) ⌝ }
 {
-    let head = head_number(job);
-    if head != 0 {
-        return head;
+    let head = read_head(job);
+    let number = head_number(job.len(), head);
+    if number != 0 {
+        return number;
     }
-    let n = u8_at(job, 5) as usize;
-    let count = u16_at(job, 6) as usize;
+    let v = head_values(head);
+    let n = v.n as usize;
+    let count = v.count as usize;
     let table = table_number(job, n, count);
     if table != 0 {
         return table;
     }
-    run_number(job, n, 8 + count * 10 + n * 8)
+    run_number(job, n, settings_at(n, count))
 }

@@ -4,29 +4,34 @@ use crate::limits::LAST_START;
 use crate::limits::MOST_DRAWS;
 use crate::limits::MOST_RANK;
 use crate::limits::MOST_WIDTH;
+use crate::reading::SettingsFields;
+use crate::reading::read_draw_count;
+use crate::reading::read_settings;
+use crate::reading::settings_values;
+use ieee::bits::double_of;
 use job_reader::Field;
-use job_reader::fields::f64_at;
-use job_reader::fields::u8_at;
-use job_reader::fields::u16_at;
-use job_reader::fields::u32_at;
-use job_reader::read_field;
+use job_reader::place_after;
+use job_reader::value_of;
 use run_limits::is_momentum;
 use run_limits::rank_meant;
 use run_limits::start_length;
 ghost use mathlib.Core.Path.{_≡_};
+ghost use mathlib.Core.Bool.{_&&_, _||_, not};
 ghost use Prim.Native.Nat.{_≤_};
+ghost use lib.Dec.{ltb, eqb};
+ghost use Rattle.ieee.specs.Floats.{doubleOf};
 ghost use Rattle.laws.specs.Refusal.{first};
 ghost use Rattle.tables.specs.Limits.{mostWagons};
 ghost use Rattle.run_limits.specs.Limits.{mostRank};
+ghost use Rattle.run_limits.specs.Momentum.{isMomentum};
 ghost use Rattle.job_record.specs.Limits.{mostBytes};
-ghost use Rattle.job_record.specs.Number.{bounded, momentumNumber, settingsNumbers, drawsNumbers, runNumbers};
+ghost use Rattle.job_record.specs.Reading.{isShort, fieldNumber, ruleJudged, startJudged, settingsJudged};
+ghost use Rattle.job_record.specs.Number.{drawsNumbers, runNumbers};
 
-// A field of so many bytes: 11 past the end, `number` above its limit.
-pub fn bounded(job: &[u8], at: usize, width: usize, most: u64, number: u8) -> u8
-    requires { ⌜ width ≤ 8 ⌝ }
-    ensures { λ r. ⌜ r ≡ bounded (now (job .entry)) at width most number ⌝ }
+// A field: 11 past the end, `number` above its limit.
+pub fn limit_number(field: Field, most: u64, number: u8) -> u8
+    ensures { λ r. ⌜ r ≡ fieldNumber field (ltb most) number ⌝ }
 {
-    let field = read_field(job, at, width);
     match field {
         Field::Short => 11,
         Field::Value(value, _) => {
@@ -39,55 +44,104 @@ pub fn bounded(job: &[u8], at: usize, width: usize, most: u64, number: u8) -> u8
 }
 
 // The rule's number: 18 for a momentum out of range.
-fn momentum_number(job: &[u8], at: usize) -> u8
-    requires { ⌜ at ≤ mostBytes ⌝ }
-    ensures { λ r. ⌜ r ≡ momentumNumber (now (job .entry)) at ⌝ }
+fn momentum_number(rule: u64, number: Field) -> u8
+    ensures { λ r. ⌜ r ≡ fieldNumber number (λ bits. eqb rule 4 && not (isMomentum (doubleOf bits))) 18 ⌝ }
 {
-    if job.len() < at + 10 {
-        return 11;
+    match number {
+        Field::Short => 11,
+        Field::Value(bits, _) => {
+            if rule == 4 {
+                if !is_momentum(double_of(bits)) {
+                    return 18;
+                }
+            }
+            0
+        }
     }
-    if u8_at(job, at + 1) == 4 {
-        if !is_momentum(f64_at(job, at + 2)) {
-            return 18;
+}
+
+// Past the end.
+fn is_short(field: Field) -> bool
+    ensures { λ r. ⌜ r ≡ isShort field ⌝ }
+{
+    match field {
+        Field::Short => true,
+        Field::Value(_, _) => false,
+    }
+}
+
+// One of four past the end.
+fn any_short(a: Field, b: Field, c: Field, d: Field) -> bool
+    ensures { λ r. ⌜ r ≡ (isShort a || (isShort b || (isShort c || isShort d))) ⌝ }
+{
+    if is_short(a) {
+        return true;
+    }
+    if is_short(b) {
+        return true;
+    }
+    if is_short(c) {
+        return true;
+    }
+    is_short(d)
+}
+
+// Rank, rule, its number.
+fn rule_number(rank: Field, rule: Field, number: Field) -> u8
+    ensures { λ r. ⌜ r ≡ first (ruleJudged rank rule number) ⌝ }
+{
+    let above = limit_number(rank, MOST_RANK, 17);
+    if above != 0 {
+        return above;
+    }
+    let unknown = limit_number(rule, LAST_RULE, 18);
+    if unknown != 0 {
+        return unknown;
+    }
+    momentum_number(value_of(rule), number)
+}
+
+// W, start, and a rank for a start of kind 1.
+fn start_number(rank: Field, width: Field, start: Field) -> u8
+    ensures { λ r. ⌜ r ≡ first (startJudged rank width start) ⌝ }
+{
+    let wide = limit_number(width, MOST_WIDTH, 19);
+    if wide != 0 {
+        return wide;
+    }
+    let unknown = limit_number(start, LAST_START, 19);
+    if unknown != 0 {
+        return unknown;
+    }
+    if value_of(start) == 1 {
+        if value_of(rank) == 0 {
+            return 17;
         }
     }
     0
 }
 
 // Rank, rule, its number, most, minimum, two tolerances, W, start.
-fn settings_number(job: &[u8], at: usize) -> u8
-    requires { ⌜ at ≤ mostBytes ⌝ }
-    ensures { λ r. ⌜ r ≡ first (settingsNumbers (now (job .entry)) at) ⌝ }
+fn settings_number(f: SettingsFields) -> u8
+    ensures { λ r. ⌜ r ≡ first (settingsJudged f) ⌝ }
 {
-    let rank = bounded(job, at, 1, MOST_RANK, 17);
-    if rank != 0 {
-        return rank;
-    }
-    let rule = bounded(job, at + 1, 1, LAST_RULE, 18);
-    if rule != 0 {
-        return rule;
-    }
-    let number = momentum_number(job, at);
+    let rank = f.rank;
+    let rule = f.rule;
+    let rule_bits = f.rule_number;
+    let number = rule_number(rank, rule, rule_bits);
     if number != 0 {
         return number;
     }
-    if job.len() < at + 34 {
+    let most = f.most;
+    let minimum = f.minimum;
+    let objective = f.objective_tolerance;
+    let stationarity = f.stationarity_tolerance;
+    if any_short(most, minimum, objective, stationarity) {
         return 11;
     }
-    let width = bounded(job, at + 34, 1, MOST_WIDTH, 19);
-    if width != 0 {
-        return width;
-    }
-    let start = bounded(job, at + 35, 1, LAST_START, 19);
-    if start != 0 {
-        return start;
-    }
-    if u8_at(job, at + 35) == 1 {
-        if u8_at(job, at) == 0 {
-            return 17;
-        }
-    }
-    0
+    let width = f.width;
+    let start = f.start;
+    start_number(rank, width, start)
 }
 
 // The start's doubles up to `at`, the draw count there, the draws of rank doubles each, and nothing more.
@@ -98,15 +152,16 @@ fn draws_number(job: &[u8], at: usize, rank: usize) -> u8
     if job.len() < at {
         return 11;
     }
-    let bound = bounded(job, at, 2, MOST_DRAWS, 19);
-    if bound != 0 {
-        return bound;
+    let drawn = read_draw_count(job, at);
+    let limit = limit_number(drawn, MOST_DRAWS, 19);
+    if limit != 0 {
+        return limit;
     }
-    let count = u16_at(job, at) as usize;
+    let count = value_of(drawn) as usize;
     if count == 0 {
         return 19;
     }
-    let end = at + 2 + count * rank * 8;
+    let end = place_after(drawn, at) + count * rank * 8;
     if job.len() < end {
         return 11;
     }
@@ -121,11 +176,13 @@ pub fn run_number(job: &[u8], n: usize, at: usize) -> u8
     requires { ⌜ (n ≤ mostWagons) × (at ≤ mostBytes) ⌝ }
     ensures { λ r. ⌜ r ≡ first (runNumbers (now (job .entry)) n at) ⌝ }
 {
-    let settings = settings_number(job, at);
+    let f = read_settings(job, at);
+    let settings = settings_number(f);
     if settings != 0 {
         return settings;
     }
-    let rank = rank_meant(n + 1, u8_at(job, at) as usize);
-    let count = start_length(u8_at(job, at + 35), n + 1, rank, u32_at(job, at + 10));
-    draws_number(job, at + 36 + count * 8, rank)
+    let v = settings_values(f);
+    let rank = rank_meant(n + 1, v.rank as usize);
+    let count = start_length(v.start as u8, n + 1, rank, v.most as u32);
+    draws_number(job, v.next + count * 8, rank)
 }

@@ -1,14 +1,19 @@
--- Tests that hold somewhere: in a list of conditions (`any-..`), of two (`or-..`), of one of an index (`below-..`).
+-- Tests that hold somewhere: in a list of conditions (`any-..`), of two (`or-..`, `and-..`), of one of an index (`below-..`).
 -- Assumes nothing.
-use Prim.Native.Nat.{ℕ, zero, suc, _<_}
+use Prim.Native.Nat.{ℕ, zero, suc, _+_, _<_, _≤_}
 use mathlib.Core.Path.{_≡_, refl, sym, ap, _∙_}
-use mathlib.Core.Bool.{Bool, true, false, cond, _||_}
+use mathlib.Core.Bool.{Bool, true, false, cond, _&&_, _||_}
 use mathlib.Core.List.{List, [], _∷_}
 use mathlib.Core.Logic.{_⊎_, inl, inr}
 use native.Mathlib.Omega.{arith}
 use native.Mathlib.Nat.{eq-or-lt-of-le, le-of-suc-le-suc}
+use native.Mathlib.Numerals.{add-one}
 use Rattle.laws.specs.Refusal.{anyOf}
 use Rattle.laws.specs.Lists.{anyBelow}
+
+-- no test is both
+pub never : {P : Type 0} → false ≡ true → P
+never e = let z : _≡_ {A = ℕ} 0 1 = cc in absurd (omega arith)
 
 pub any-head : (b : Bool) (rest : List Bool) → anyOf (b ∷ rest) ≡ false → b ≡ false
 unfolding anyOf
@@ -17,7 +22,7 @@ any-head false rest e = refl
 
 pub any-rest : (b : Bool) (rest : List Bool) → anyOf (b ∷ rest) ≡ false → anyOf rest ≡ false
 unfolding anyOf
-any-rest true rest e = absurd (let z : _≡_ {A = ℕ} 0 1 = cc in omega arith)
+any-rest true rest e = never (sym e)
 any-rest false rest e = e
 
 pub any-none : anyOf [] ≡ false
@@ -48,6 +53,21 @@ pub or-left : (a b : Bool) → (a || b) ≡ false → a ≡ false
 or-left true b e = e
 or-left false b e = refl
 
+pub or-right : (a b : Bool) → (a || b) ≡ false → b ≡ false
+or-right true b e = never (sym e)
+or-right false b e = e
+
+pub and-left : (a b : Bool) → a ≡ true → (a && b) ≡ false → b ≡ false
+and-left a b e f = rw e at f
+
+pub and-right : (a b : Bool) → b ≡ false → (a && b) ≡ false
+and-right true b e = e
+and-right false b e = refl
+
+pub and-true : (a b : Bool) → (a && b) ≡ true → (a ≡ true) × (b ≡ true)
+and-true true b e = (refl, e)
+and-true false b e = never e
+
 -- a test that holds somewhere
 module _ (p : ℕ → Bool) where
   pub below-none : (n : ℕ) → ((j : ℕ) → j < n → p j ≡ false) → anyBelow n p ≡ false
@@ -62,7 +82,7 @@ module _ (p : ℕ → Bool) where
     where
       go : (t : Bool) → p n ≡ t → (j ≡ n) ⊎ (j < n) → (j < n → anyBelow n p ≡ true) → cond t true (anyBelow n p) ≡ true
       go true q d later = refl
-      go false q (inl s) later = let no : true ≡ false = sym e ∙ ap p s ∙ q in cc
+      go false q (inl s) later = never (sym q ∙ ap p (sym s) ∙ e)
       go false q (inr k) later = later k
 
   pub below-only : (n j : ℕ) → j < n → ((i : ℕ) → i < n → (i ≡ j → ⊥) → p i ≡ false) → anyBelow n p ≡ p j
@@ -91,9 +111,26 @@ module _ (p : ℕ → Bool) where
 
   pub below-true : (n : ℕ) → anyBelow n p ≡ true → (k : ℕ) × (k < n) × (p k ≡ true)
   unfolding anyBelow
-  below-true zero e = let no : _≡_ {A = ℕ} 0 1 = cc in absurd (omega arith)
+  below-true zero e = never e
   below-true (suc n) e = go (p n) refl e (below-true n)
     where
       go : (t : Bool) → p n ≡ t → cond t true (anyBelow n p) ≡ true → (anyBelow n p ≡ true → (k : ℕ) × (k < n) × (p k ≡ true)) → (k : ℕ) × (k < suc n) × (p k ≡ true)
       go true q e ih = (n, omega arith, q)
       go false q e ih = let (k, h, r) = ih e in (k, omega arith, r)
+
+  -- a loop that looks for a place where it holds: at the start, past a place where it doesn't, at the end
+  pub below-start : anyBelow 0 p ≡ false
+  unfolding anyBelow
+  below-start = refl
+
+  pub below-passed : (k : ℕ) → anyBelow k p ≡ false → p k ≡ false → anyBelow (k + 1) p ≡ false
+  unfolding anyBelow
+  below-passed k e f = rw (add-one, f) e
+
+  pub below-ended : (k n : ℕ) → anyBelow k p ≡ false → k ≤ n → n ≤ k → false ≡ anyBelow n p
+  below-ended k n e up down = let same : n ≡ k = omega arith in rw same (sym e)
+
+  -- a loop that goes on, and keeps whether it held somewhere
+  pub below-next : (n : ℕ) (found : Bool) → found ≡ anyBelow n p → cond (p n) true found ≡ anyBelow (n + 1) p
+  unfolding anyBelow
+  below-next n found e = rw (add-one n, e)

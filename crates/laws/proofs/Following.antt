@@ -1,7 +1,7 @@
 -- An ordered list of refusals, as a function goes along it: it answers the first, or moves on.
 -- Assumes nothing.
 use Prim.Native.Nat.{ℕ, zero, suc, _<_}
-use mathlib.Core.Path.{_≡_, refl}
+use mathlib.Core.Path.{_≡_, refl, sym, _∙_}
 use mathlib.Core.Bool.{Bool, true, false, cond}
 use mathlib.Core.Logic.{_⊎_, inl, inr}
 use native.Mathlib.Nat.{eq-or-lt-of-le, le-of-suc-le-suc}
@@ -9,7 +9,7 @@ use mathlib.Core.List.{List, [], _∷_, _++_}
 use native.Mathlib.Omega.{arith}
 use Rattle.laws.specs.Refusal.{_if_, orElse, first, firstOf}
 use Rattle.laws.specs.Lists.{anyBelow}
-use Rattle.laws.proofs.Refusal.{stop, pass}
+use Rattle.laws.proofs.Refusal.{stop, pass, first-last}
 
 module _ (a : ℕ) (rest : List ℕ) where
   -- by what a call answered
@@ -32,9 +32,7 @@ moves-on-if k b rest e h = rw e h
 
 -- at the last
 pub answers-last : (a : ℕ) {r : ℕ} → r ≡ a → r ≡ first (a ∷ [])
-unfolding first orElse
-answers-last zero e = e
-answers-last (suc a) e = e
+answers-last a e = e ∙ sym (first-last a)
 
 pub passes-last : (k : ℕ) (b : Bool) → b ≡ false → 0 ≡ first (k if b ∷ [])
 unfolding first orElse

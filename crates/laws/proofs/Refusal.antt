@@ -63,6 +63,11 @@ pub first-skip : (k : ℕ) (b : Bool) (rest : List ℕ) → b ≡ false → firs
 unfolding first orElse
 first-skip k b rest e = rw e
 
+pub first-last : (k : ℕ) → first (k ∷ []) ≡ k
+unfolding first orElse
+first-last zero = refl
+first-last (suc k) = refl
+
 -- a row, as a loop goes through it
 module _ (f : ℕ → ℕ) where
   pub passed : (i : ℕ) {r : ℕ} → firstOf f i ≡ 0 → r ≡ f i → r ≡ 0 → firstOf f (i + 1) ≡ 0

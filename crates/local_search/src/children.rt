@@ -5,7 +5,7 @@ use crate::level::insert_row;
 ghost use mathlib.Core.List.{[]};
 ghost use Prim.Native.Nat.{suc, _≤_, _<_};
 ghost use lib.ListN.{length, take};
-ghost use Rattle.local_search.specs.Level.{levelOf, Rising};
+ghost use Rattle.local_search.specs.Level.{levelOf, Ascending};
 ghost use Rattle.local_search.specs.SignSearch.{improvesC, flipC, childAt};
 ghost use Rattle.local_search.specs.Children.{changeOf, listedChildren, parentOf, Appended, Appends, Expands, Kept};
 
@@ -20,7 +20,7 @@ pub fn consider_child(
     count: usize,
     width: usize,
 ) -> usize
-    requires { ⌜ Expands (now changes) (parentOf objective (now parent)) count width (length (now objectives)) (length (now signs)) × (i < length (now parent)) × Rising (take count (now objectives)) ⌝ }
+    requires { ⌜ Expands (now changes) (parentOf objective (now parent)) count width (length (now objectives)) (length (now signs)) × (i < length (now parent)) × Ascending (take count (now objectives)) ⌝ }
     ensures { λ r. ⌜ Kept width (levelOf (length (now (parent .entry))) count (now (objectives .entry)) (now (signs .entry))) (childAt (improvesC (changeOf (now (changes .entry)))) (flipC (changeOf (now (changes .entry)))) (parentOf objective (now (parent .entry))) i) (levelOf (length (now (parent .entry))) r (now (objectives .exit)) (now (signs .exit))) r ⌝ }
 {
     let d = changes[i];
@@ -40,7 +40,7 @@ pub fn expand_parent(
     count: usize,
     width: usize,
 ) -> usize
-    requires { ⌜ Expands (now changes) (parentOf objective (now parent)) count width (length (now objectives)) (length (now signs)) × Rising (take count (now objectives)) ⌝ }
+    requires { ⌜ Expands (now changes) (parentOf objective (now parent)) count width (length (now objectives)) (length (now signs)) × Ascending (take count (now objectives)) ⌝ }
     ensures { λ r. ⌜ Kept width (levelOf (length (now (parent .entry))) count (now (objectives .entry)) (now (signs .entry))) (listedChildren (now (changes .entry)) (parentOf objective (now (parent .entry)))) (levelOf (length (now (parent .entry))) r (now (objectives .exit)) (now (signs .exit))) r ⌝ }
 {
     let mut kept = count;

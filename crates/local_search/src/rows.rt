@@ -1,7 +1,7 @@
 // A choice's row of signs, a byte for each: the only functions that know how a row is stored.
 ghost use mathlib.Core.Path.{_≡_};
 ghost use Prim.Native.Nat.{_+_, _≤_, _<_};
-ghost use lib.ListN.{length, take, getD};
+ghost use lib.ListN.{length, getD};
 ghost use Rattle.local_search.specs.Level.{flipByte, flipSign, shifted};
 
 // The byte of sign `i`.
@@ -57,17 +57,5 @@ pub fn shift_signs(signs: &mut [u8], from: usize, to: usize, m: usize)
     while from < j {
         j -= 1;
         signs[j + m] = signs[j];
-    }
-}
-
-// The first n signs, copied.
-pub fn copy_signs(to: &mut [u8], from: &[u8], n: usize)
-    requires { ⌜ (n ≤ length (now to)) × (n ≤ length (now from)) ⌝ }
-    ensures { λ r. ⌜ take n (now (to .exit)) ≡ take n (now (from .entry)) ⌝ }
-{
-    let mut k = 0;
-    while k < n {
-        to[k] = from[k];
-        k += 1;
     }
 }

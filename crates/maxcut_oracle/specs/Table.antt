@@ -17,6 +17,7 @@ workObjective t rank factor = objOf (workRows t) (workCols t) (workValues t) fac
 unfoldable pub workProduct : Table → ℕ → ℕ → List Float → List Float
 workProduct t m rank factor = productOf (workCols t) (workValues t) (workStarts t m) factor rank m
 
--- the multipliers, and then the diagonal added
+-- the result field `dual_variables` of a run: the multipliers over the table without its diagonal, and then the diagonal added. The function
+-- `dual_variables(Q, V)` of 002, over the whole table, is `wholeMultipliers` (Whole.antt).
 unfoldable pub dualVariables : Table → ℕ → ℕ → List Float → List Float
 dualVariables t m rank factor = added (diagonalOf t m) (multipliers (workProduct t m rank factor) factor rank m)

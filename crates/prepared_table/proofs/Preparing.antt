@@ -3,15 +3,14 @@
 --     work-front                 the entries that stay, cut from the front of their slice
 -- Assumes nothing.
 use mathlib.Core.Path.{_≡_, refl, sym, _∙_}
-use mathlib.Core.Bool.{Bool, true, false, cond}
+use mathlib.Core.Bool.{Bool, true, false}
 use mathlib.Core.List.{List}
 use Prim.Native.Nat.{ℕ, _+_, _*_, _≤_, _<_}
 use native.Mathlib.Omega.{arith}
-use native.Mathlib.Numerals.{add-one}
 use lib.Ieee.{Float}
 use lib.ListN.{length, getD, take, replicate, length-set, length-replicate}
 use lib.Seq.{take-at}
-use Rattle.laws.specs.Lists.{anyBelow, over, putIf}
+use Rattle.laws.specs.Lists.{over, putIf}
 use Rattle.laws.proofs.UpTo.{upTo-keeps}
 use Rattle.laws.proofs.Parts.{row-within}
 use Rattle.laws.proofs.Made.{length-tabulate, getD-tabulate, all-kept, kept-lengths, length-kept}
@@ -85,11 +84,6 @@ module _ (t : Table) where
         put : (b : Bool) (n : ℕ) (a : Float) (xs : List Float) → length (putIf b n a xs) ≡ length xs
         put true n a xs = simp length-set
         put false n a xs = refl
-
--- the turn of a loop that has looked for a test's index below i
-pub below-next : (p : ℕ → Bool) (i : ℕ) (found : Bool) → found ≡ anyBelow i p → cond (p i) true found ≡ anyBelow (i + 1) p
-unfolding anyBelow
-below-next p i found e = rw (add-one, e)
 
 -- a list written over the front of a slice, cut from it
 pub work-front : {A : Type 0} (front xs : List A) (n : ℕ) → length front ≡ n → take n (over front xs) ≡ front

@@ -4,7 +4,7 @@
 --     stops       the record after the sweeps, or just opened where the most is 0, is stopped
 --     finishes    its finish
 use Prim.Native.Nat.{ℕ, zero, suc, _+_, _*_, _≤_, _<_}
-use mathlib.Core.Path.{_≡_, refl, ap, _∙_}
+use mathlib.Core.Path.{_≡_, refl, sym, ap, _∙_}
 use mathlib.Core.Bool.{true, false, cond}
 use mathlib.Core.List.{List}
 use native.Mathlib.Omega.{arith}
@@ -22,13 +22,13 @@ use Rattle.run_record.specs.declared.Run.{Run}
 use Rattle.run_limits.specs.Limits.{mostRank, searchWorkspace}
 use Rattle.run_limits.specs.Momentum.{isMomentum}
 use Rattle.run_limits.specs.Start.{isSigns, drawsFollow, startLength}
-use Rattle.run_record.specs.Numbers.{isStopped, tableShort, tableNumber, badMomentum, sweepNumber, FinishLengths, widthRefused, finishNumber, openRankRefused}
+use Rattle.run_record.specs.Numbers.{isStopped, tableShort, costTableNumber, badMomentum, sweepNumber, FinishLengths, widthRefused, finishNumber, openRankRefused}
 use Rattle.run_limits.proofs.Ranks.{meant-low, meant-some}
 use Rattle.run_sweep.specs.Work.{Work, callWork}
-use Rattle.run_sweep.specs.Sweep.{sweepsUpTo}
+use Rattle.run_sweep.specs.Sweep.{State, sweepsUpTo}
 use Rattle.run_sweep.specs.Running.{Running}
 use Rattle.step_rules.specs.Rule.{ruleOf}
-use Rattle.run_contract.specs.Calls.{firstStage, openSize, openRank, openRun, startFactor, openNumberOf, used}
+use Rattle.run_contract.specs.Calls.{Settings, firstStage, openSize, openRank, openRun, startFactor, openNumberOf, used}
 use Rattle.job_record.specs.Fields.{wagons, entryCount, row, column, value}
 use Rattle.job_record.specs.Number.{jobNumber}
 use Rattle.job_record.specs.Values.{jobOf, jobCost, jobRank, jobStartCount, jobStart, jobDrawn}
@@ -36,6 +36,8 @@ use Rattle.job_record.proofs.Same.{order-same, mirror-same, total-same}
 use Rattle.job_record.proofs.Accepted.{fields}
 use Rattle.job_record.proofs.Halls.{hall}
 use Rattle.record_call.specs.Record.{jobCosts, jobSettings, opened, stopped}
+use Rattle.run_contract.specs.PlainRun.{Plain, plainOpen, plainSweeps, recordOf}
+use Rattle.run_contract.proofs.Follows.{stateOf, sweeps-follow}
 use Rattle.run_contract.proofs.Lengths.{length-start}
 use Rattle.run_contract.proofs.Accepting.{open-accepted}
 use Rattle.record_call.proofs.Stopping.{Sound, Ended, ends, sweeps-long}
@@ -74,10 +76,15 @@ unfolding firstStage
 is-open most h = rw (ne-eqb most 0 (λ z. omega (arith, z)))
 
 -- no sweep up to a most of 0
-none : (most : ℕ) (w : Work) (run : Run) (factor : List Float) → cond (ltb 0 most) (sweepsUpTo most w run factor) (record { run = run; factor = factor }) ≡ sweepsUpTo most w run factor
-unfolding sweepsUpTo
-none zero w run factor = refl
-none (suc most) w run factor = rw (lt-ltb 0 (suc most) (omega arith))
+none : (most : ℕ) (w : Work) (p : Plain) → cond (ltb 0 most) (plainSweeps most w p) p ≡ plainSweeps most w p
+unfolding plainSweeps
+none zero w p = refl
+none (suc most) w p = rw (lt-ltb 0 (suc most) (omega arith))
+
+-- the calls' sweeps of a run just opened are the plain run's
+opened-follows : (o : Settings) (k : ℕ) (w : Work) → stateOf (plainSweeps k w (plainOpen o)) ≡ sweepsUpTo k w (openRun o) (startFactor o)
+unfolding openRun firstStage plainOpen recordOf
+opened-follows o k w = sym (sweeps-follow k w (plainOpen o))
 
 -- an open record has a sweep left
 some-left : (most : ℕ) → isStopped (firstStage most) ≡ false → 0 < most
@@ -86,7 +93,7 @@ some-left zero e = absurd (let z : _≡_ {A = ℕ} 0 1 = cc in omega arith)
 some-left (suc most) e = omega arith
 
 module _ (s : List ℕ) (e : jobNumber s ≡ 0) where
-  pub costs-pass : tableNumber (jobCosts s) ≡ 0
+  pub costs-pass : costTableNumber (jobCosts s) ≡ 0
   unfolding jobCosts
   costs-pass = listed (wagons s) (entryCount s) (row s) (column s) (value s) (jobCost s) ∙ hall s e
 
@@ -161,10 +168,19 @@ module _ (s : List ℕ) (e : jobNumber s ≡ 0) where
       sweep-passes (openRun (jobSettings s)) (jobCosts s) factor (costs-there s) room (is-open (jobOf s .most) some)
       (open-record (openRun (jobSettings s)) (jobCosts s .n) refl rank-some rank-few some refl) costs-pass (rule-good (openRun (jobSettings s)) refl)
 
-  -- where the most is 0 no sweep is made, and none is left
-  pub stopped-is : stopped s ≡ sweepsUpTo (jobOf s .most) (callWork (jobCosts s)) (openRun (jobSettings s)) (startFactor (jobSettings s))
+  -- the plain run's state is what open and sweep leave; where the most is 0 no sweep is made, and none is left
+  pub stopped-is : stateOf (stopped s) ≡ sweepsUpTo (jobOf s .most) (callWork (jobCosts s)) (openRun (jobSettings s)) (startFactor (jobSettings s))
   unfolding stopped opened
-  stopped-is = none (jobOf s .most) (callWork (jobCosts s)) (openRun (jobSettings s)) (startFactor (jobSettings s))
+  stopped-is =
+      ap stateOf (none (jobOf s .most) (callWork (jobCosts s)) (plainOpen (jobSettings s))) ∙ opened-follows (jobSettings s) (jobOf s .most) (callWork (jobCosts s))
+
+  run-is : recordOf (stopped s) ≡ sweepsUpTo (jobOf s .most) (callWork (jobCosts s)) (openRun (jobSettings s)) (startFactor (jobSettings s)) .run
+  unfolding stateOf
+  run-is = ap (λ (x : State). x .run) stopped-is
+
+  factor-is : stopped s .factor ≡ sweepsUpTo (jobOf s .most) (callWork (jobCosts s)) (openRun (jobSettings s)) (startFactor (jobSettings s)) .factor
+  unfolding stateOf
+  factor-is = ap (λ (x : State). x .factor) stopped-is
 
   left : Running (openRun (jobSettings s))
   unfolding openRun jobSettings
@@ -174,14 +190,14 @@ module _ (s : List ℕ) (e : jobNumber s ≡ 0) where
   unfolding openRun jobSettings
   enough = omega arith
 
-  pub stops : Ended (openSize (jobSettings s)) (openRank (jobSettings s)) (ruleOf (jobOf s .rule) (jobOf s .«rule_number»)) (jobOf s .most) (stopped s .run)
+  pub stops : Ended (openSize (jobSettings s)) (openRank (jobSettings s)) (ruleOf (jobOf s .rule) (jobOf s .«rule_number»)) (jobOf s .most) (recordOf (stopped s))
   stops =
-      rw stopped-is
+      rw run-is
       (ends (jobOf s .most) (callWork (jobCosts s)) (openRun (jobSettings s)) (startFactor (jobSettings s)) just-opened left enough)
 
   -- the factor keeps its m rows
   pub factor-whole : length (stopped s .factor) ≡ openSize (jobSettings s) * openRank (jobSettings s)
-  factor-whole = rw stopped-is (sweeps-long (jobOf s .most) (callWork (jobCosts s)) (openRun (jobSettings s)) (startFactor (jobSettings s)) ∙ start-whole)
+  factor-whole = rw factor-is (sweeps-long (jobOf s .most) (callWork (jobCosts s)) (openRun (jobSettings s)) (startFactor (jobSettings s)) ∙ start-whole)
 
   -- ---- finish
 
@@ -199,9 +215,9 @@ module _ (s : List ℕ) (e : jobNumber s ≡ 0) where
 
   pub finishes : (lent : FinishLengths) → jobDrawn s ≤ lent .draws → openSize (jobSettings s) * openRank (jobSettings s) ≤ lent .factor → jobCosts s .n ≤ lent .b
       → jobCosts s .n + 1 ≤ lent .dual → searchWorkspace ≤ lent .workspace
-      → finishNumber (stopped s .run) (jobCosts s) (jobOf s .width) (jobOf s .«draw_count») lent ≡ 0
+      → finishNumber (recordOf (stopped s)) (jobCosts s) (jobOf s .width) (jobOf s .«draw_count») lent ≡ 0
   finishes lent ds fs bs ms ws =
-      let run = stopped s .run in
+      let run = recordOf (stopped s) in
       let sound = stops .sound in
       finish-passes run (jobCosts s) (jobOf s .width) (jobOf s .«draw_count») lent (costs-there s) (draws-fit (run .rank) (lent .draws) (sound .rank-is ∙ rank-is) ds)
       (rw (sound .size-is, sound .rank-is) fs) bs ms ws (stops .is-stopped)

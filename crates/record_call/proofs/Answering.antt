@@ -4,34 +4,30 @@ use mathlib.Core.Path.{_≡_, refl, sym, ap, _∙_}
 use mathlib.Core.Bool.{true, false}
 use mathlib.Core.List.{List, []}
 use native.Mathlib.Omega.{arith}
-use lib.ListN.{length, take, drop}
+use lib.ListN.{length, getD, take, drop}
 use lib.Seq.{take-append-le}
 use borrow.Author.Tests.{lt-ltb, le-ltb}
 use Rattle.laws.specs.Lists.{over}
 use Rattle.laws.proofs.Refusal.{first-here, first-skip, first-found, first-next, first-end}
 use Rattle.laws.proofs.Any.{any-here, any-skip, any-not, any-none}
 use Rattle.run_contract.specs.declared.FinishResult.{FinishResult}
-use Rattle.run_contract.specs.Calls.{finishResult}
 use Rattle.job_record.specs.Number.{jobNumber}
 use Rattle.answer_record.specs.Answer.{answerBytes, refusalBytes}
 use Rattle.answer_record.specs.declared.answer.Answer.{Answer}
-use Rattle.record_call.specs.Record.{jobCosts, stopped, jobResult, jobChoice, fieldsOf, bytesBy, answerOf, leastAnswer, leastWorkspace, tooShort, callNumber, answerAfter}
+use Rattle.record_call.specs.Record.{jobCosts, jobResult, jobChoice, fieldsOf, bytesBy, answerOf, leastAnswer, leastWorkspace, tooShort, callNumber, answerAfter}
 use Rattle.record_call.specs.Promise.{Answers}
-use Rattle.record_call.proofs.Accepted.{few, stops, rank-few}
-use Rattle.record_call.proofs.Promise.{accepted-bytes, choice-size, n-is, promise}
+use Rattle.record_call.proofs.Accepted.{few}
+use Rattle.record_call.proofs.Figures.{n-is, rank-low}
+use Rattle.record_call.proofs.Promise.{accepted-bytes, choice-size, fields-read, choice-read, promise}
 
 -- ---- an accepted job
 
 module _ (s : List ℕ) (e : jobNumber s ≡ 0) where
-  rank-of : jobResult s .rank ≡ stopped s .run .rank
-  unfolding jobResult finishResult
-  rank-of = refl
-
   pub bytes-hold : (x : FinishResult) → x ≡ jobResult s → (x .rank < 256) × (x .n < 256)
   bytes-hold x is =
-      let rank : x .rank ≡ stopped s .run .rank = ap (λ (y : FinishResult). y .rank) is ∙ rank-of in
+      let rank : x .rank ≡ jobResult s .rank = ap (λ (y : FinishResult). y .rank) is in
       let n : x .n ≡ jobCosts s .n = ap (λ (y : FinishResult). y .n) is ∙ n-is s e in
-      (omega (arith, stops s e .sound .rank-is, rank-few s e), omega (arith, few s e))
+      (omega (arith, rank-low s e), omega (arith, few s e))
 
   pub n-fits : (a : Answer) (x : FinishResult) → a ≡ fieldsOf x → x ≡ jobResult s → a .n ≤ 127
   n-fits a x p q = let n : a .n ≡ jobCosts s .n = ap (λ (y : Answer). y .n) p ∙ ap (λ (y : FinishResult). y .n) q ∙ n-is s e in omega (arith, few s e)
@@ -70,6 +66,8 @@ module _ (job workspace answer : List ℕ) where
         numbered = sym (first-here 30 _ _ t);
         written = rw t;
         refused = λ _. refl;
+        kept = refl;
+        read = λ z. absurd (omega (arith, z));
         promised = λ z. absurd (omega (arith, z));
       }
 
@@ -86,6 +84,8 @@ module _ (job workspace answer : List ℕ) where
         numbered = sym (first-skip 31 _ _ t ∙ first-found (jobNumber job) [] (λ z. some (is ∙ z)) ∙ sym is);
         written = rw t (e ∙ ap (λ (x : List ℕ). over x answer) (sym (refusal number some) ∙ ap (λ (k : ℕ). bytesBy k job) is));
         refused = λ _. refl;
+        kept = refl;
+        read = λ z. absurd (some z);
         promised = λ z. absurd (some z);
       }
 
@@ -99,14 +99,15 @@ module _ (job workspace answer : List ℕ) where
   unfolding answerAfter
   answer-left answer′ t is e = rw (t, accepted-bytes job is) e
 
-  pub answers-accepted : (workspace′ answer′ : List ℕ) → tooShort (length workspace) (length answer) ≡ false → jobNumber job ≡ 0
+  pub answers-accepted : ((i : ℕ) → getD job i 0 < 256) → (workspace′ answer′ : List ℕ) → drop leastWorkspace workspace′ ≡ drop leastWorkspace workspace
+      → tooShort (length workspace) (length answer) ≡ false → jobNumber job ≡ 0
       → answer′ ≡ over (answerBytes (fieldsOf (jobResult job)) (jobChoice job)) answer → Answers job workspace answer 0 workspace′ answer′
-  answers-accepted workspace′ answer′ t is e =
-      let none = number-none t is in
-      let left = answer-left answer′ t is e in
+  answers-accepted bytes workspace′ answer′ tail t is e =
       record {
-        numbered = sym none;
-        written = left;
+        numbered = sym (number-none t is);
+        written = answer-left answer′ t is e;
         refused = λ z. absurd (z refl);
-        promised = λ _ some. rw left (promise job (length workspace) answer none some);
+        kept = tail;
+        read = λ _. (rw e (fields-read job is bytes answer), rw e (choice-read job is bytes answer));
+        promised = λ _ some. rw e (promise job is bytes answer some);
       }

@@ -19,7 +19,9 @@ use Rattle.run_record.specs.CostTable.{CostTable, costTable}
 use Rattle.run_sweep.specs.Work.{callWork}
 use Rattle.run_sweep.specs.Sweep.{State, sweepsUpTo}
 use Rattle.run_sweep.proofs.Loop.{sweeps-none}
+use Rattle.run_contract.specs.PlainRun.{recordOf}
 use Rattle.run_contract.proofs.Accepting.{Sweeping, sweep-accepted}
+use Rattle.run_contract.proofs.Follows.{stateOf}
 use Rattle.run_contract.specs.declared.Opened.{Opened}
 use Rattle.run_contract.specs.declared.Opened.the-variants as O
 use Rattle.run_contract.specs.declared.Finished.{Finished}
@@ -136,17 +138,18 @@ module _ {s : List ℕ} {j : Job} {rows cols : List ℕ} {values c : List ℤ} {
   unfolding openRun
   opened-used = sym (start-whole s (d .accepted))
 
-  stopped-used : used (stopped s .run) ≡ length (stopped s .factor)
+  stopped-used : used (recordOf (stopped s)) ≡ length (stopped s .factor)
   stopped-used =
       let sound = stops s (d .accepted) .sound in
       rw (sound .size-is, sound .rank-is) (sym (factor-whole s (d .accepted)))
 
-  pub unswept-run : j .most ≡ 0 → (openRun (jobSettings s) ≡ stopped s .run) × (startFactor (jobSettings s) ≡ stopped s .factor)
+  pub unswept-run : j .most ≡ 0 → (openRun (jobSettings s) ≡ recordOf (stopped s)) × (startFactor (jobSettings s) ≡ stopped s .factor)
+  unfolding stateOf
   unswept-run none =
       let run = openRun (jobSettings s) in
       let factor = startFactor (jobSettings s) in
       let w = callWork (jobCosts s) in
-      let e : stopped s ≡ record { run = run; factor = factor } =
+      let e : stateOf (stopped s) ≡ record { run = run; factor = factor } =
       stopped-is s (d .accepted) ∙ ap (λ (k : ℕ). sweepsUpTo k w run factor) (sym most-is ∙ none) ∙ sweeps-none w run factor in
       (sym (ap (λ (x : State). x .run) e), sym (ap (λ (x : State). x .factor) e))
 
@@ -168,10 +171,11 @@ module _ {s : List ℕ} {j : Job} {rows cols : List ℕ} {values c : List ℤ} {
 
   pub swept-run : {run run′ : Run} {factor factor′ : List Float} → run ≡ openRun (jobSettings s) → factor ≡ startFactor (jobSettings s)
       → run′ ≡ sweepsUpTo (j .most) (callWork costs) run factor .run → factor′ ≡ sweepsUpTo (j .most) (callWork costs) run factor .factor
-      → (run′ ≡ stopped s .run) × (factor′ ≡ stopped s .factor)
+      → (run′ ≡ recordOf (stopped s)) × (factor′ ≡ stopped s .factor)
+  unfolding stateOf
   swept-run {run} {run′} {factor} {factor′} is made after left =
       let run₀ = openRun (jobSettings s) in
-      let e : sweepsUpTo (j .most) (callWork costs) run factor ≡ stopped s =
+      let e : sweepsUpTo (j .most) (callWork costs) run factor ≡ stateOf (stopped s) =
       ap (λ (x : Run). sweepsUpTo (j .most) (callWork costs) x factor) is
       ∙ ap (λ (x : List Float). sweepsUpTo (j .most) (callWork costs) run₀ x) made
       ∙ ap (λ (x : CostTable). sweepsUpTo (j .most) (callWork x) run₀ (startFactor (jobSettings s))) (d .costs-are)
@@ -183,16 +187,16 @@ module _ {s : List ℕ} {j : Job} {rows cols : List ℕ} {values c : List ℤ} {
   unfolding jobDraws
   drawn-long = length-tabulate (jobDraw s) (jobDrawn s)
 
-  result-is : finishResult (stopped s .run) (jobCosts s) (jobOf s .width) (jobOf s .«draw_count») (jobDraws s) (stopped s .factor) ≡ jobResult s
+  result-is : finishResult (recordOf (stopped s)) (jobCosts s) (jobOf s .width) (jobOf s .«draw_count») (jobDraws s) (stopped s .factor) ≡ jobResult s
   unfolding jobResult
   result-is = refl
 
-  choice-is : finishChoice (stopped s .run) (jobCosts s) (jobOf s .width) (jobOf s .«draw_count») (jobDraws s) (stopped s .factor) ≡ jobChoice s
+  choice-is : finishChoice (recordOf (stopped s)) (jobCosts s) (jobOf s .width) (jobOf s .«draw_count») (jobDraws s) (stopped s .factor) ≡ jobChoice s
   unfolding jobChoice
   choice-is = refl
 
   -- nor the finish
-  pub finishes-now : {run : Run} {draws factor : List Float} (b : List ℕ) (dual : List Float) (workspace : List ℕ) → run ≡ stopped s .run → draws ≡ jobDraws s → factor ≡ stopped s .factor
+  pub finishes-now : {run : Run} {draws factor : List Float} (b : List ℕ) (dual : List Float) (workspace : List ℕ) → run ≡ recordOf (stopped s) → draws ≡ jobDraws s → factor ≡ stopped s .factor
       → mostWagons ≤ length b → mostSigns ≤ length dual → leastWorkspace ≤ length workspace
       → finishNumber run costs (j .width) (j .«draw_count») (Calls.finishLengths draws factor b dual workspace) ≡ 0
   finishes-now b dual workspace is ds made br dr wr =
@@ -201,12 +205,12 @@ module _ {s : List ℕ} {j : Job} {rows cols : List ℕ} {values c : List ℤ} {
       let none = finishes s (d .accepted) lengths (omega (arith, drawn-long)) (omega (arith, factor-whole s (d .accepted))) (omega arith) (omega arith) wr in
       rw (is, ds, made, d .costs-are, ap (λ (x : Job). x .width) (d .job-is), ap (λ (x : Job). x .«draw_count») (d .job-is)) none
 
-  pub finished : {run : Run} {draws factor : List Float} {b b′ : List ℕ} {dual dual′ : List Float} {workspace workspace′ : List ℕ} {answer : Finished} → run ≡ stopped s .run → draws ≡ jobDraws s → factor ≡ stopped s .factor
+  pub finished : {run : Run} {draws factor : List Float} {b b′ : List ℕ} {dual dual′ : List Float} {workspace workspace′ : List ℕ} {answer : Finished} → run ≡ recordOf (stopped s) → draws ≡ jobDraws s → factor ≡ stopped s .factor
       → mostWagons ≤ length b → mostSigns ≤ length dual → leastWorkspace ≤ length workspace
       → Finishes run costs (j .width) (j .«draw_count») draws factor b dual workspace answer b′ dual′ workspace′
       → (answer ≡ F.Result (jobResult s)) × (b′ ≡ over (jobChoice s) b)
   finished {run} {draws} {factor} {b} {b′} {dual} {dual′} {workspace} {workspace′} {answer} is ds made br dr wr f =
-      let run₀ = stopped s .run in
+      let run₀ = recordOf (stopped s) in
       let factor₀ = stopped s .factor in
       let width = jobOf s .width in
       let drawCount = jobOf s .«draw_count» in

@@ -1,52 +1,169 @@
--- What a reader of answers finds of the choice and the figures, whatever the other fields hold. Assumes nothing.
-use Prim.Native.Nat.{ℕ, _^_, _<_, _≤_}
-use mathlib.Core.Path.{_≡_}
-use mathlib.Core.List.{List, _++_, append-assoc}
-use lib.ListN.{length, take, drop, length-append}
-use lib.Seq.{take-at, drop-at, length-take-le}
+-- Every field of an accepted job's answer fits its bytes. Assumes nothing.
+--     demanded    demand 3 of what a finish finds
+--     held        the fields of a job's answer
+use Prim.Native.Nat.{ℕ, zero, suc, _+_, _*_, _^_, _≤_, _<_}
+use native.Mathlib.Nat.{lt-of-le-of-lt, pow-suc}
+use native.Mathlib.Omega.{arith}
+use mathlib.Core.Path.{_≡_, refl, sym}
+use mathlib.Core.List.{List}
+use lib.Dec.{T}
+use lib.ListN.{getD}
+use lib.IntN.{ℤ, pos, negℤ, natAbs, _-ℤ_}
+use lib.Ieee.{Float, binary64, fits}
+use lib.Ieee.Fits.{add-fits, sub-fits}
+use lib.Signed.{_≤ℤ_}
 use mir.Syntax.{w64}
 use mir.Val.{SFits}
-use Rattle.laws.specs.Lists.{over}
+use Rattle.laws.proofs.Integer.{integers, abs-parts, add-parts, neg-⁺, neg-⁻, fits-abs}
+use Rattle.laws.proofs.Sums.{sum-bounded}
+use Rattle.laws.proofs.Made.{over-all}
+use Rattle.tables.specs.Table.{Table, magnitudeOf, floorTerm, floorOf}
+use Rattle.tables.specs.Bound.{entrywise}
+use Rattle.tables.specs.Check.{Hall}
+use Rattle.tables.specs.Limits.{mostWagons, mostEntries, mostMagnitude}
+use Rattle.tables.proofs.Checks.{hall-accepted}
+use Rattle.tables.proofs.Shares.{abs-least}
+use Rattle.sign_table.specs.SignTable.{signTable}
+use Rattle.sign_table.proofs.Theorems.{hall-sign-table}
+use Rattle.sign_search.proofs.Lawful.{objective-abs}
+use Rattle.sign_search.proofs.HallTheorems.{hall-mirrors}
+use Rattle.finalize.specs.Finalize.{floatBound, floorEighths, multipliersOf, roundedSigns, roundedCost, searchResult, searchedChoice, searchedCost, searchedRounds}
+use Rattle.finalize.specs.Demand3.{Demand3}
+use Rattle.finalize.proofs.Demand3.{demand3, unsearched}
+use Rattle.run_record.specs.CostTable.{quadratic, linear}
+use Rattle.run_contract.specs.Calls.{finishResult}
+use Rattle.run_contract.specs.PlainRun.{recordOf}
 use Rattle.job_reader.specs.Bytes.{bigEndian}
-use Rattle.job_reader.specs.Encode.{bytesOf}
-use Rattle.job_reader.proofs.Encode.{read-bytes, read-signed}
-use Rattle.answer_record.specs.Answer.{frameBytes, countBytes, floatBytes, eighthBytes, answerBytes, answerOf, choiceOf}
-use Rattle.answer_record.specs.declared.answer.Answer.{Answer}
-use Rattle.answer_record.proofs.Sizes.{length-frame, length-count, length-float, length-eighth}
+use Rattle.job_record.specs.Number.{jobNumber}
+use Rattle.job_record.specs.Values.{jobOf, settingsPlace}
+use Rattle.answer_record.specs.Answer.{Held}
+use Rattle.record_call.specs.Record.{jobCosts, jobDraws, stopped, jobResult, fieldsOf}
+use Rattle.record_call.proofs.Accepted.{costs-pass, few, stops, rank-few}
 
-module _ (a : Answer) (b out : List ℕ) where
-  abbrev written : List ℕ
-  written = over (answerBytes a b) out
+-- ---- what a finish finds, of any hall
 
-  pub floor-back : SFits w64 (a .floor) → answerOf written .floor ≡ a .floor
-  unfolding answerOf answerBytes frameBytes countBytes floatBytes eighthBytes bytesOf bigEndian
-  floor-back h = read-signed (a .floor) h
+module _ {n : ℕ} {h : Table} {c : ℕ → ℤ} (hall : Hall mostWagons mostEntries mostMagnitude n h c) (rank : ℕ) (factor draws : List Float) (drawCount width : ℕ) where
+  small : magnitudeOf (signTable n h c) ≤ 2 ^ 42
+  small = hall-sign-table hall .magnitude
 
-  pub rounded-back : SFits w64 (a .«rounded_cost») → answerOf written .«rounded_cost» ≡ a .«rounded_cost»
-  unfolding answerOf answerBytes frameBytes countBytes floatBytes eighthBytes bytesOf bigEndian
-  rounded-back h = read-signed (a .«rounded_cost») h
+  floor-low : natAbs (floorEighths n h c) ≤ 2 ^ 42
+  unfolding floorEighths
+  floor-low =
+      let t = signTable n h c in
+      let b : natAbs (floorOf t) ≤ 1 * magnitudeOf t =
+      sum-bounded 1 (t .count) (t .count) (floorTerm t) (λ l. natAbs (t .value l)) (λ l. abs-least (t .row l) (t .column l) (t .value l)) (omega arith) in
+      omega (arith, b, small)
 
-  pub cost-back : SFits w64 (a .cost) → answerOf written .cost ≡ a .cost
-  unfolding answerOf answerBytes frameBytes countBytes floatBytes eighthBytes bytesOf bigEndian
-  cost-back h = read-signed (a .cost) h
+  rounded-low : natAbs (roundedCost n h c rank factor draws drawCount) ≤ 2 ^ 43
+  unfolding roundedCost
+  rounded-low = objective-abs (hall-mirrors hall) small (roundedSigns n h c rank factor draws drawCount)
 
-  pub rounds-back : a .rounds < 2 ^ 64 → answerOf written .rounds ≡ a .rounds
-  unfolding answerOf answerBytes frameBytes countBytes floatBytes eighthBytes bytesOf bigEndian
-  rounds-back h = read-bytes 8 (a .rounds) h
+  cost-low : natAbs (searchedCost n h c rank factor draws drawCount width) ≤ 2 ^ 43
+  unfolding searchedCost
+  cost-low = objective-abs (hall-mirrors hall) small (searchResult n h c rank factor draws drawCount width .answer)
 
-  n-back : a .n < 2 ^ 8 → bigEndian written 7 1 ≡ a .n
-  unfolding answerBytes frameBytes countBytes floatBytes eighthBytes bytesOf bigEndian
-  n-back h = read-bytes 1 (a .n) h
+  pub floor-fits : SFits w64 (floorEighths n h c)
+  floor-fits = fits-abs (floorEighths n h c) (lt-of-le-of-lt floor-low (omega arith))
 
-  abbrev front : List ℕ
-  front = frameBytes (a .n) ++ countBytes (a .status) (a .rank) (a .n) (a .sweeps) ++ floatBytes (a .«relaxed_objective») (a .«float_bound») ++ eighthBytes (a .floor) (a .«rounded_cost») (a .cost) (a .rounds)
+  pub rounded-fits : SFits w64 (roundedCost n h c rank factor draws drawCount)
+  rounded-fits = fits-abs (roundedCost n h c rank factor draws drawCount) (lt-of-le-of-lt rounded-low (omega arith))
 
-  front-size : length front ≡ 60
-  front-size = simp (length-append, length-frame, length-count, length-float, length-eighth)
+  pub cost-fits : SFits w64 (searchedCost n h c rank factor draws drawCount width)
+  cost-fits = fits-abs (searchedCost n h c rank factor draws drawCount width) (lt-of-le-of-lt cost-low (omega arith))
 
-  behind : drop 60 written ≡ take (a .n) b ++ drop (length (answerBytes a b)) out
-  unfolding answerBytes
-  behind = rw (append-assoc front (take (a .n) b) (drop (length (front ++ take (a .n) b)) out)) (drop-at front _ 60 front-size)
+  module _ (some : 1 ≤ width) where
+    pub demanded : Demand3 n h c rank factor draws drawCount width (searchedChoice n h c rank factor draws drawCount width) (floorEighths n h c)
+        (roundedCost n h c rank factor draws drawCount) (searchedCost n h c rank factor draws drawCount width) (searchedRounds n h c rank factor draws drawCount width)
+    demanded =
+        demand3 hall rank factor draws drawCount width some
+        {b = searchedChoice n h c rank factor draws drawCount width} {multipliers = multipliersOf n h c rank factor}
+        (record {
+          diagonal-is = refl;
+          bound-is = refl;
+          floor-is = refl;
+          rounded-is = refl;
+          cost-is = refl;
+          rounds-are = refl;
+          choice-is = sym (over-all (searchedChoice n h c rank factor draws drawCount width) (searchedChoice n h c rank factor draws drawCount width) refl);
+          multipliers-are = sym (over-all (multipliersOf n h c rank factor) (multipliersOf n h c rank factor) refl);
+        })
 
-  pub choice-back : a .n < 2 ^ 8 → a .n ≤ length b → choiceOf written ≡ take (a .n) b
-  choice-back h long = rw (n-back h, behind) (take-at (take (a .n) b) (drop (length (answerBytes a b)) out) (a .n) (length-take-le (a .n) b long))
+    rounds-some : searchedRounds n h c rank factor draws drawCount width < 2 ^ 64
+    rounds-some =
+        few (searchedRounds n h c rank factor draws drawCount width) (roundedCost n h c rank factor draws drawCount) (searchedCost n h c rank factor draws drawCount width)
+        (demanded .rounds-few) rounded-low cost-low
+      where
+        few : (rounds : ℕ) (a b : ℤ) → pos (4 * rounds) ≤ℤ (a -ℤ b) → natAbs a ≤ 2 ^ 43 → natAbs b ≤ 2 ^ 43 → rounds < 2 ^ 64
+        few rounds a b d x y = omega (integers, add-parts a (negℤ b), neg-⁺ b, neg-⁻ b, abs-parts a, abs-parts b)
+
+rounds-low : {n : ℕ} {h : Table} {c : ℕ → ℤ} → Hall mostWagons mostEntries mostMagnitude n h c → (rank : ℕ) (factor draws : List Float) (drawCount width : ℕ)
+    → searchedRounds n h c rank factor draws drawCount width < 2 ^ 64
+rounds-low hall rank factor draws drawCount zero = rw (unsearched hall rank factor draws drawCount .2) (omega arith)
+rounds-low hall rank factor draws drawCount (suc width) = rounds-some hall rank factor draws drawCount (suc width) (omega arith)
+
+-- ---- a number of so many bytes
+
+read-low : (s : List ℕ) → ((i : ℕ) → getD s i 0 < 256) → (at n : ℕ) → bigEndian s at n < 256 ^ n
+unfolding bigEndian
+read-low s bytes at zero = omega arith
+read-low s bytes at (suc n) = rw pow-suc (next (bigEndian s at n) (getD s (at + n) 0) (256 ^ n) (read-low s bytes at n) (bytes (at + n)))
+  where
+    next : (v b p : ℕ) → v < p → b < 256 → v * 256 + b < p * 256
+    next v b p h k = omega arith
+
+-- ---- an accepted job
+
+module _ (s : List ℕ) (e : jobNumber s ≡ 0) where
+  pub job-hall : Hall mostWagons mostEntries mostMagnitude (jobCosts s .n) (quadratic (jobCosts s)) (linear (jobCosts s))
+  job-hall = hall-accepted (costs-pass s e)
+
+  pub n-is : jobResult s .n ≡ jobCosts s .n
+  unfolding jobResult finishResult
+  n-is = refl
+
+  pub rank-low : jobResult s .rank ≤ 32
+  unfolding jobResult finishResult
+  rank-low = rw (stops s e .sound .rank-is) (rank-few s e)
+
+  status-low : jobResult s .status ≤ 2
+  unfolding jobResult finishResult
+  status-low = stops s e .sound .status-few
+
+  sweeps-low : jobResult s .sweeps ≤ jobOf s .most
+  unfolding jobResult finishResult
+  sweeps-low = stops s e .sound .sweeps-few
+
+  most-low : ((i : ℕ) → getD s i 0 < 256) → jobOf s .most < 2 ^ 32
+  unfolding jobOf
+  most-low bytes = read-low s bytes (settingsPlace s + 10) 4
+
+  -- each double is a sum or a difference, rounded
+  relaxed-fits : T (fits binary64 (jobResult s .«relaxed_objective»))
+  unfolding jobResult finishResult
+  relaxed-fits = add-fits binary64 _ _
+
+  bound-fits : T (fits binary64 (jobResult s .«float_bound»))
+  unfolding jobResult finishResult floatBound entrywise
+  bound-fits = sub-fits binary64 _ _
+
+  -- of a job that is made of bytes
+  pub held : ((i : ℕ) → getD s i 0 < 256) → Held (fieldsOf (jobResult s))
+  unfolding jobResult finishResult recordOf
+  held bytes =
+      let rank = stopped s .rank in
+      let factor = stopped s .factor in
+      let draws = jobDraws s in
+      let drawCount = jobOf s .«draw_count» in
+      let width = jobOf s .width in
+      record {
+        status = omega (arith, status-low);
+        rank = omega (arith, rank-low);
+        n = omega (arith, n-is, few s e);
+        sweeps = lt-of-le-of-lt sweeps-low (most-low bytes);
+        relaxed = relaxed-fits;
+        bound = bound-fits;
+        floor = floor-fits job-hall rank factor draws drawCount width;
+        rounded = rounded-fits job-hall rank factor draws drawCount width;
+        cost = cost-fits job-hall rank factor draws drawCount width;
+        rounds = rounds-low job-hall rank factor draws drawCount width;
+      }

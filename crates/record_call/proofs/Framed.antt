@@ -19,7 +19,8 @@ use Rattle.answer_record.proofs.Sizes.{length-frame, length-count, length-float
 use Rattle.record_call.specs.Record.{jobResult, jobChoice, fieldsOf, bytesBy, answerOf, leastAnswer, leastWorkspace, tooShort, answerAfter}
 use Rattle.record_call.proofs.Accepted.{few}
 use Rattle.record_call.proofs.Answering.{roomy}
-use Rattle.record_call.proofs.Promise.{choice-size, n-is}
+use Rattle.record_call.proofs.Figures.{n-is}
+use Rattle.record_call.proofs.Promise.{choice-size}
 
 answer-size : (a : Answer) (b : List ℕ) → a .n ≤ length b → length (answerBytes a b) ≡ 60 + a .n
 unfolding answerBytes

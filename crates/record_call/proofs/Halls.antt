@@ -39,10 +39,10 @@ use Rattle.local_search.specs.Level as Level
 use Rattle.local_search.specs.SignSearch as SignSearch
 use Rattle.sign_search.specs.Search as Search
 use Rattle.run_sweep.specs.Work as Work
-use Rattle.run_sweep.specs.Work.{signsOf}
-use Rattle.run_sweep.specs.Sweep as Sweep
+use Rattle.run_sweep.specs.Work.{signTableOf}
 use Rattle.finalize.specs.Finalize as Finalize
 use Rattle.run_contract.specs.Calls as Calls
+use Rattle.run_contract.specs.PlainRun as PlainRun
 use Rattle.job_reader.specs.Bytes as Bytes
 use Rattle.job_reader.specs.Encode as Encode
 use Rattle.job_record.specs.Number as Number
@@ -71,7 +71,7 @@ third =
 
 -- the entries of the sign table, their values as magnitudes
 abbrev stored : List ℕ → List ℕ
-stored s = Lists.tabulate (λ k. natAbs (signsOf (jobCosts s) .value k)) (signsOf (jobCosts s) .count)
+stored s = Lists.tabulate (λ k. natAbs (signTableOf (jobCosts s) .value k)) (signTableOf (jobCosts s) .count)
 
 -- eighths below 0
 abbrev below : ℕ → List ℕ
@@ -103,12 +103,12 @@ unfolding example empty third
     Record.jobCosts Record.jobSettings Record.jobDraws Record.opened Record.stopped Record.jobResult Record.jobChoice Record.answerOf
     Bytes.bigEndian Encode.bytesOf Answer.frameBytes Answer.countBytes Answer.floatBytes Answer.eighthBytes Answer.answerBytes
     Number.jobNumber Number.headNumbers Number.entriesNumbers Number.costsNumbers Number.runNumbers Number.settingsNumbers Number.drawsNumbers Number.frameNumber Number.versionNumber
-    Number.bounded Number.entryNumber Number.momentumNumber Meant.rankMeant Start.startLength Values.settingsOf Values.drawsOf Values.jobOf
+    Number.boundedNumber Number.entryNumber Number.momentumNumber Meant.rankMeant Start.startLength Values.settingsPlace Values.drawsPlace Values.jobOf
     Refusal.orElse Refusal.first Refusal.firstOf Refusal.anyOf Check.before Check.badEntry Check.unmirrored Sum.total Rank.rootFrom Rank.leastRoot Rank.defaultRank
-    Calls.startFactor Calls.firstStage Calls.openRun Calls.finishResult Sweep.sweepsUpTo
+    Calls.startFactor Calls.finishResult PlainRun.plainOpen PlainRun.plainSweeps PlainRun.recordOf
     Initialize.withSigns Initialize.startSigns Objective.objOf Oracle.workObjective Vectors.multiplied Vectors.projected
     Finalize.floorEighths Finalize.floatBound Finalize.diagonalTotal Finalize.roundedCost Finalize.searchedChoice Finalize.searchedCost Finalize.searchedRounds
-    Finalize.choiceOf Finalize.roundedSigns Finalize.searched
+    Finalize.choiceOf Finalize.roundedSigns Finalize.searchResult
     ofBits toBits ofInt ofFields odd climb size span add sub mul div neg lt le Sqrt.sqrtOf Floats.eighthOf Sum.sum Sum.sum₂ Rows.mapFirst Turns.upTo
     Lists.anyBelow Lists.tabulate Lists.kept Table.share Table.least Table.valueAt Table.storedAt Flip.flipChange Cost.decodedByte Bound.boundTerm Bound.boundSum
     Bound.magnitudeSum Bound.margin Bound.entrywise SignTable.absorbed SignTable.signValue Stored.rowPlaces Stored.places SignTable.signKept SignTable.signPlaces

@@ -7,3 +7,4 @@ pub mod Decoding
 pub mod Answering
 pub mod Framed
 pub mod Halls
+pub mod Long

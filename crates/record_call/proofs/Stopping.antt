@@ -18,7 +18,7 @@ use Rattle.run_record.specs.declared.Stage.the-variants.{Open, Stopped}
 use Rattle.run_record.specs.declared.Run.{Run}
 use Rattle.run_record.specs.Numbers.{isStopped}
 use Rattle.run_sweep.specs.Work.{Work}
-use Rattle.run_sweep.specs.Sweep.{State, whileOpen, checkDue, magnitude, stopStatus, newObjective, settledAt, statusFound, statusAfter, advanced, runAfter, sweptOnce, sweepsUpTo}
+use Rattle.run_sweep.specs.Sweep.{State, whileOpen, checkDue, absolute, stopStatus, newObjective, settledAt, statusFound, statusAfter, advanced, runAfter, sweptOnce, sweepsUpTo}
 use Rattle.run_sweep.specs.Running.{Running}
 use Rattle.run_sweep.proofs.Loop.{running-after}
 use Rattle.run_contract.proofs.Lengths.{length-stepped}
@@ -48,7 +48,7 @@ first-low false false false = omega arith
 stop-low : (tests : Bool) (tolerance : Float) (settled : Bool) (previous new : Float) → stopStatus tests tolerance settled previous new ≤ 2
 unfolding stopStatus
 stop-low tests tolerance settled previous new =
-    first-low settled (tests && lt (magnitude (new -ᶠ previous)) tolerance) (tests && lt previous new)
+    first-low settled (tests && lt (absolute (new -ᶠ previous)) tolerance) (tests && lt previous new)
 
 either-low : (b : Bool) (x y : ℕ) → x ≤ 2 → y ≤ 2 → cond b x y ≤ 2
 either-low true x y h k = h

@@ -9,7 +9,7 @@ use lib.Ieee.{Float}
 use borrow.Author.Tests.{le-ltb, eq-eqb, ne-eqb, eqb-true}
 use Rattle.laws.specs.Refusal.{short}
 use Rattle.laws.proofs.Refusal.{first-end, first-next, first-skip}
-use Rattle.laws.proofs.Any.{any-none, any-not, or-none}
+use Rattle.laws.proofs.Any.{any-none, any-not, or-none, and-right}
 use Rattle.tables.specs.Check.{shortTable}
 use Rattle.run_record.specs.declared.Run.{Run}
 use Rattle.run_record.specs.CostTable.{CostTable}
@@ -17,7 +17,7 @@ use Rattle.run_limits.specs.Limits.{mostRank, mostWidth, mostDraws, searchWorks
 use Rattle.run_limits.specs.Rank.{rankMeant}
 use Rattle.run_limits.specs.Momentum.{isMomentum}
 use Rattle.run_limits.specs.Start.{startLength}
-use Rattle.run_record.specs.Numbers.{isStopped, tableShort, factorShort, recordRefused, tableNumber, badMomentum, sweepShort, sweepNumber, drawsRefused, drawsShort, choiceShort, FinishLengths, finishShort, widthRefused, finishNumber, openRankRefused, startShort, openFactorShort, openShort, ruleRefused, openNumber}
+use Rattle.run_record.specs.Numbers.{isStopped, tableShort, factorShort, recordRefused, costTableNumber, badMomentum, sweepShort, sweepNumber, drawsRefused, drawsShort, choiceShort, FinishLengths, finishShort, widthRefused, finishNumber, openRankRefused, startShort, openFactorShort, openShort, ruleRefused, openNumber}
 use Rattle.step_rules.specs.Rule.{ruleOf}
 
 -- a slice that is long enough, whatever its length rests on
@@ -63,7 +63,7 @@ unfolding openRankRefused
 rank-passes rank start h g =
     or-none (ltb mostRank rank) _ (le-ltb mostRank rank h) (and-none (eqb rank 0) (eqb start 1) (λ a b. g (eqb-true start 1 b) (eqb-true rank 0 a)))
 
-pub open-passes : (t : CostTable) (rank rule : ℕ) (number : Float) (most start numbers factor : ℕ) → tableShort t ≡ false → tableNumber t ≡ 0
+pub open-passes : (t : CostTable) (rank rule : ℕ) (number : Float) (most start numbers factor : ℕ) → tableShort t ≡ false → costTableNumber t ≡ 0
     → startLength start (t .n + 1) (rankMeant (t .n + 1) rank) most ≤ numbers → (t .n + 1) * rankMeant (t .n + 1) rank ≤ factor
     → openRankRefused rank start ≡ false → ruleRefused rule number ≡ false → start ≤ 2
     → openNumber t rank rule number most start numbers factor ≡ 0
@@ -76,10 +76,6 @@ open-passes t rank rule number most start numbers factor there table ns fs ranke
 
 open-not : (a b : Bool) → a ≡ true → (not a && b) ≡ false
 open-not a b e = rw e
-
-fails : (a b : Bool) → b ≡ false → (a && b) ≡ false
-fails true b e = e
-fails false b e = refl
 
 module _ (run : Run) (n : ℕ) (size : run .size ≡ n + 1) (some : 1 ≤ run .rank) (few : run .rank ≤ mostRank) where
   zero-not : eqb (run .rank) 0 ≡ false
@@ -99,13 +95,13 @@ module _ (run : Run) (n : ℕ) (size : run .size ≡ n + 1) (some : 1 ≤ run .r
   unfolding recordRefused
   open-record l s =
       any-not _ _ same-size (any-not _ _ zero-not (any-not _ _ (le-ltb mostRank (run .rank) few) (any-not _ _ (le-ltb (run .most) (run .sweeps) (omega arith))
-      (any-not _ _ (fails (not (isStopped (run .stage))) (eqb (run .sweeps) (run .most)) (ne-eqb (run .sweeps) (run .most) (λ e. omega (arith, e)))) (any-not _ _ (le-ltb 2 (run .status) (omega arith))
-      (any-not _ _ (fails (not (isStopped (run .stage))) (not (eqb (run .status) 0)) (ap not (eq-eqb (run .status) 0 s))) any-none))))))
+      (any-not _ _ (and-right (not (isStopped (run .stage))) (eqb (run .sweeps) (run .most)) (ne-eqb (run .sweeps) (run .most) (λ e. omega (arith, e)))) (any-not _ _ (le-ltb 2 (run .status) (omega arith))
+      (any-not _ _ (and-right (not (isStopped (run .stage))) (not (eqb (run .status) 0)) (ap not (eq-eqb (run .status) 0 s))) any-none))))))
 
 -- ---- sweep and finish
 
 pub sweep-passes : (run : Run) (t : CostTable) (factor : ℕ) → tableShort t ≡ false → run .size * run .rank ≤ factor → isStopped (run .stage) ≡ false
-    → recordRefused run (t .n) ≡ false → tableNumber t ≡ 0 → badMomentum (run .rule) ≡ false → sweepNumber run t factor ≡ 0
+    → recordRefused run (t .n) ≡ false → costTableNumber t ≡ 0 → badMomentum (run .rule) ≡ false → sweepNumber run t factor ≡ 0
 unfolding sweepNumber sweepShort factorShort
 sweep-passes run t factor there fs stage sound table rule =
     first-skip 31 _ _ (any-not _ _ there (any-not _ _ (long _ _ _ fs) any-none))
@@ -118,7 +114,7 @@ width-passes width drawCount w some few =
 
 pub finish-passes : (run : Run) (t : CostTable) (width drawCount : ℕ) (lent : FinishLengths) → tableShort t ≡ false
     → drawCount * run .rank ≤ lent .draws → run .size * run .rank ≤ lent .factor → t .n ≤ lent .b → t .n + 1 ≤ lent .dual → searchWorkspace ≤ lent .workspace
-    → isStopped (run .stage) ≡ true → recordRefused run (t .n) ≡ false → tableNumber t ≡ 0 → badMomentum (run .rule) ≡ false → widthRefused width drawCount ≡ false
+    → isStopped (run .stage) ≡ true → recordRefused run (t .n) ≡ false → costTableNumber t ≡ 0 → badMomentum (run .rule) ≡ false → widthRefused width drawCount ≡ false
     → finishNumber run t width drawCount lent ≡ 0
 unfolding finishNumber finishShort drawsShort factorShort choiceShort
 finish-passes run t width drawCount lent there ds fs bs ms ws stage sound table rule settings =

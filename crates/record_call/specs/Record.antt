@@ -10,10 +10,10 @@ use Rattle.laws.specs.Refusal.{first, _if_, anyOf}
 use Rattle.run_limits.specs.Limits.{searchWorkspace}
 use Rattle.run_record.specs.CostTable.{CostTable, costTable}
 use Rattle.run_sweep.specs.Work.{callWork}
-use Rattle.run_sweep.specs.Sweep.{State, sweepsUpTo}
 use Rattle.run_contract.specs.declared.FinishResult.{FinishResult}
 use Rattle.run_contract.specs.Calls as Calls
-use Rattle.run_contract.specs.Calls.{Settings, openRun, startFactor, finishResult, finishChoice}
+use Rattle.run_contract.specs.Calls.{Settings, finishResult, finishChoice}
+use Rattle.run_contract.specs.PlainRun.{Plain, plainOpen, plainSweeps, recordOf}
 use Rattle.job_record.specs.Fields.{wagons, entryCount, row, column, value}
 use Rattle.job_record.specs.Number.{jobNumber}
 use Rattle.job_record.specs.Values.{jobOf, jobCost, jobStartCount, jobStart, jobDrawn, jobDraw}
@@ -37,23 +37,22 @@ jobSettings s =
 unfoldable pub jobDraws : List ℕ → List Float
 jobDraws s = tabulate (jobDraw s) (jobDrawn s)
 
--- ---- the run
+-- ---- the run: 01's plain run (run_contract/specs/PlainRun)
 
--- record and factor after the job's open
-unfoldable pub opened : List ℕ → State
-opened s = record { run = openRun (jobSettings s); factor = startFactor (jobSettings s) }
+-- after the job's open
+unfoldable pub opened : List ℕ → Plain
+opened s = plainOpen (jobSettings s)
 
 -- and, where its most is above 0, a sweep up to the most
-unfoldable pub stopped : List ℕ → State
-stopped s =
-    cond (ltb 0 (jobOf s .most)) (sweepsUpTo (jobOf s .most) (callWork (jobCosts s)) (opened s .run) (opened s .factor)) (opened s)
+unfoldable pub stopped : List ℕ → Plain
+stopped s = cond (ltb 0 (jobOf s .most)) (plainSweeps (jobOf s .most) (callWork (jobCosts s)) (opened s)) (opened s)
 
 -- what a finish gives then, and its choice
 unfoldable pub jobResult : List ℕ → FinishResult
-jobResult s = finishResult (stopped s .run) (jobCosts s) (jobOf s .width) (jobOf s .«draw_count») (jobDraws s) (stopped s .factor)
+jobResult s = finishResult (recordOf (stopped s)) (jobCosts s) (jobOf s .width) (jobOf s .«draw_count») (jobDraws s) (stopped s .factor)
 
 unfoldable pub jobChoice : List ℕ → List ℕ
-jobChoice s = finishChoice (stopped s .run) (jobCosts s) (jobOf s .width) (jobOf s .«draw_count») (jobDraws s) (stopped s .factor)
+jobChoice s = finishChoice (recordOf (stopped s)) (jobCosts s) (jobOf s .width) (jobOf s .«draw_count») (jobDraws s) (stopped s .factor)
 
 -- ---- the answer
 
@@ -74,7 +73,7 @@ fieldsOf x =
     }
 
 -- the number, and the answer's bytes
-pub record Answered : Type 0 where
+pub record JobAnswer : Type 0 where
   pub number : ℕ
   pub bytes : List ℕ
 
@@ -85,7 +84,7 @@ bytesBy (suc k) s = refusalBytes (suc k)
 
 -- of a job's bytes: "An accepted job's answer record holds what a finish gives after that job's open and, where its most is above 0, a sweep up
 -- to the most."
-unfoldable pub answerOf : List ℕ → Answered
+unfoldable pub answerOf : List ℕ → JobAnswer
 answerOf s = record { number = jobNumber s; bytes = bytesBy (jobNumber s) s }
 
 -- ---- the call, lent a workspace of so many bytes and an answer slice

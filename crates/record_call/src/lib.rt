@@ -52,14 +52,15 @@ fn answer_job(job: &[u8], workspace: &mut [u8], answer: &mut [u8])
 }
 
 // Answers a job: 0 and its answer record, or the number of its refusal and that refusal, over the front of `answer`. 31 for a short slice
-// comes first and writes nothing; the workspace is written for an accepted job alone.
+// comes first and writes nothing; the workspace is written for an accepted job alone, and a longer one keeps its tail.
 pub fn answer_record(job: &[u8], workspace: &mut [u8], answer: &mut [u8]) -> u8
     ensures { λ r. ⌜ Answers (now (job .entry)) (now (workspace .entry)) (now (answer .entry)) r (now (workspace .exit)) (now (answer .exit)) ⌝ }
 {
     if answer.len() < LEAST_ANSWER {
         return 31;
     }
-    if workspace.len() < SEARCH_WORKSPACE {
+    let lent = workspace.len();
+    if lent < SEARCH_WORKSPACE {
         return 31;
     }
     let number = job_number(job);
@@ -67,6 +68,6 @@ pub fn answer_record(job: &[u8], workspace: &mut [u8], answer: &mut [u8]) -> u8
         write_refusal(answer, number);
         return number;
     }
-    answer_job(job, workspace, answer);
+    answer_job(job, &mut workspace[0..SEARCH_WORKSPACE], answer);
     0
 }

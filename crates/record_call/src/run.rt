@@ -19,6 +19,7 @@ ghost use lib.ListN.{length};
 ghost use Rattle.laws.specs.Lists.{over};
 ghost use Rattle.tables.specs.Limits.{mostWagons, mostSigns};
 ghost use Rattle.run_contract.specs.Calls.{openSize, openRank};
+ghost use Rattle.run_contract.specs.PlainRun.{recordOf};
 ghost use Rattle.job_record.specs.Limits.{mostDrawn};
 ghost use Rattle.job_record.specs.Number.{jobNumber};
 ghost use Rattle.job_record.specs.Values.{jobOf, jobDrawn};
@@ -40,7 +41,7 @@ fn run_job(
     factor: &mut [f64],
 ) -> Run
     requires { ⌜ Decoded (now job) j (now rows) (now cols) (now values) (now c) (now start) × (length (now factor) ≡ openSize (jobSettings (now job)) * openRank (jobSettings (now job))) ⌝ }
-    ensures { λ r. ⌜ (r ≡ stopped (now (job .entry)) .run) × (now (factor .exit) ≡ stopped (now (job .entry)) .factor) ⌝ }
+    ensures { λ r. ⌜ (r ≡ recordOf (stopped (now (job .entry)))) × (now (factor .exit) ≡ stopped (now (job .entry)) .factor) ⌝ }
 {
     let run = open_accepted(
         j.n,

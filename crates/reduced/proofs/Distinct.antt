@@ -1,39 +1,18 @@
 -- Indices of which none is outside and none twice: how the code finds it, and what it gives.
 -- Assumes nothing.
 use mathlib.Core.Path.{_≡_, refl, sym}
-use mathlib.Core.Bool.{Bool, true, false}
+use mathlib.Core.Bool.{true, false}
 use mathlib.Core.List.{List}
 use Prim.Native.Nat.{ℕ, _+_, _<_, _≤_}
 use native.Mathlib.Omega.{arith}
-use native.Mathlib.Numerals.{add-one}
 use native.Mathlib.Decide.{decLt}
 use lib.ListN.{length, getD, replicate, length-replicate, getD-replicate}
 use lib.Dec.{eqb, leb, ltb}
 use borrow.Author.Tests.{eq-eqb, ne-eqb, eqb-false, ltb-false, leb-false, lt-leb, le-leb, le-ltb}
 use Rattle.laws.specs.Lists.{elem, anyBelow}
-use Rattle.laws.proofs.Any.{below-none, below-at, below-false, any-head, any-rest, any-not, any-none}
+use Rattle.laws.proofs.Any.{below-none, below-at, below-false, below-passed, any-head, any-rest, any-not, any-none}
 use Rattle.reduced.specs.Indices.{outside, twice, indexRefused, putEach, Within, Once, Mapped}
 use Rattle.reduced.proofs.Put.{Last, found, none, put-last}
-
-unequal : true ≡ false → ⊥
-unequal e = let z : _≡_ {A = ℕ} 0 1 = cc in omega arith
-
--- ---- a loop that looks for a test that holds
-
-module _ (p : ℕ → Bool) where
-  pub any-start : anyBelow 0 p ≡ false
-  unfolding anyBelow
-  any-start = refl
-
-  pub any-next : (j : ℕ) → anyBelow j p ≡ false → p j ≡ false → anyBelow (j + 1) p ≡ false
-  unfolding anyBelow
-  any-next j e h = rw (add-one, h) e
-
-  pub any-ended : (j n : ℕ) → anyBelow j p ≡ false → j ≤ n → n ≤ j → false ≡ anyBelow n p
-  any-ended j n e up down = let same : n ≡ j = omega arith in rw same (sym e)
-
-  pub any-found : (n j : ℕ) → j < n → p j ≡ true → true ≡ anyBelow n p
-  any-found n j h e = sym (below-at p n j h e)
 
 -- ---- 20, part by part
 
@@ -50,10 +29,10 @@ module _ (size : ℕ) (indices : List ℕ) where
   module _ (j : ℕ) {x : ℕ} (is : x ≡ elem indices j) where
     pub outside-found : size ≤ x → j < length indices → true ≡ outside size indices
     unfolding outside
-    outside-found h l = any-found (λ j. leb size (elem indices j)) (length indices) j l (le-leb _ _ (rw is at h))
+    outside-found h l = sym (below-at (λ j. leb size (elem indices j)) (length indices) j l (le-leb _ _ (rw is at h)))
 
     pub outside-next : x < size → anyBelow j (λ j. leb size (elem indices j)) ≡ false → anyBelow (j + 1) (λ j. leb size (elem indices j)) ≡ false
-    outside-next h e = any-next (λ j. leb size (elem indices j)) j e (lt-leb _ _ (rw is at h))
+    outside-next h e = below-passed (λ j. leb size (elem indices j)) j e (lt-leb _ _ (rw is at h))
 
 pub within-up : {n m : ℕ} {indices : List ℕ} → n ≤ m → Within n indices → Within m indices
 within-up h w = record { below = λ j l. omega (arith, w .below j l) }
@@ -95,7 +74,7 @@ module _ (map : List ℕ) where
       where
         go : {y : ℕ} → Last (elem map) (λ _. 1) j (elem map j) 0 y → (y ≡ 0 → ⊥) → true ≡ anyBelow (length map) (λ j. anyBelow j (λ i. eqb (elem map i) (elem map j)))
         go (found i b e rest) n =
-            any-found (λ j. anyBelow j (λ i. eqb (elem map i) (elem map j))) (length map) j h (below-at (λ i. eqb (elem map i) (elem map j)) j i b (eq-eqb _ _ e))
+            sym (below-at (λ j. anyBelow j (λ i. eqb (elem map i) (elem map j))) (length map) j h (below-at (λ i. eqb (elem map i) (elem map j)) j i b (eq-eqb _ _ e)))
         go (none rest) n = absurd (n refl)
 
     unmarked : getD seen index 0 ≡ 0 → anyBelow j (λ i. eqb (elem map i) (elem map j)) ≡ false
@@ -107,7 +86,7 @@ module _ (map : List ℕ) where
 
     pub unmarked-next : getD seen index 0 ≡ 0 → anyBelow j (λ k. anyBelow k (λ i. eqb (elem map i) (elem map k))) ≡ false
         → anyBelow (j + 1) (λ k. anyBelow k (λ i. eqb (elem map i) (elem map k))) ≡ false
-    unmarked-next z e = any-next (λ k. anyBelow k (λ i. eqb (elem map i) (elem map k))) j e (unmarked z)
+    unmarked-next z e = below-passed (λ k. anyBelow k (λ i. eqb (elem map i) (elem map k))) j e (unmarked z)
 
 -- ---- 20 whole
 

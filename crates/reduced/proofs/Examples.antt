@@ -11,11 +11,11 @@ use Rattle.laws.specs.Turns.{upTo}
 use Rattle.laws.specs.Refusal.{orElse, first, firstOf, anyOf, short}
 use Rattle.tables.specs.Table.{valueAt, storedAt}
 use Rattle.tables.specs.Stored.{rowPlaces, places, valuesOf}
-use Rattle.tables.specs.Check.{before, badEntry, badOrder}
+use Rattle.tables.specs.Check.{before, badEntry, badOrder, shortTable}
 use Rattle.reduced.specs.Limits.{mostSize, mostEntries}
 use Rattle.reduced.specs.Indices.{outside, twice, indexRefused}
 use Rattle.reduced.specs.Lift.{liftedOf, liftShort, liftNumber}
-use Rattle.reduced.specs.Submatrix.{Slices, slicesOf, tableIn, reducedPlaces, valueIn, entriesShort, inputNumber, submatrixNumber}
+use Rattle.reduced.specs.Submatrix.{Slices, slicesOf, tableIn, reducedPlaces, valueIn, inputNumber, submatrixNumber}
 
 -- four entries of size 3, not symmetric: (0, 0, 2^63 − 1), (0, 2, −2^63), (1, 1, 7), (2, 0, 0)
 four : Slices
@@ -51,7 +51,7 @@ numbers =
     ∷ []
 
 numbers-are : numbers ≡ (0 ∷ 31 ∷ 13 ∷ 14 ∷ 20 ∷ 20 ∷ 20 ∷ 20 ∷ [])
-unfolding numbers four submatrixNumber inputNumber entriesShort indexRefused outside twice badOrder badEntry before first orElse anyOf short anyBelow
+unfolding numbers four submatrixNumber inputNumber shortTable indexRefused outside twice badOrder badEntry before first orElse anyOf short anyBelow
 numbers-are = refl
 
 -- at 01's limits, with empty slices: size 1,024 accepted, 1,025 is 20; 4,479 entries are 13, and 4,478 are asked of the slices
@@ -67,7 +67,7 @@ limits =
     ∷ []
 
 limits-are : limits ≡ (0 ∷ 20 ∷ 13 ∷ 31 ∷ [])
-unfolding limits none submatrixNumber inputNumber entriesShort indexRefused outside twice badOrder badEntry before first orElse anyOf short anyBelow
+unfolding limits none submatrixNumber inputNumber shortTable indexRefused outside twice badOrder badEntry before first orElse anyOf short anyBelow
 limits-are = refl
 
 -- 1.0, 2.0, 3.0, 9.0

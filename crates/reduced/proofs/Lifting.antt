@@ -2,7 +2,7 @@
 -- Assumes nothing.
 use mathlib.Core.Path.{_≡_, refl, sym, _∙_}
 use mathlib.Core.Bool.{Bool, true, false}
-use mathlib.Core.List.{List, [], _∷_}
+use mathlib.Core.List.{List, []}
 use Prim.Native.Nat.{ℕ, _<_, _≤_}
 use native.Mathlib.Omega.{arith}
 use lib.ListN.{length}
@@ -10,13 +10,14 @@ use lib.Dec.{ltb}
 use lib.Ieee.{Float, nan}
 use borrow.Author.Tests.{ltb-false, le-ltb}
 use Rattle.laws.specs.Lists.{elem, fill}
-use Rattle.laws.specs.Refusal.{_if_, first, short}
-use Rattle.laws.proofs.Refusal.{clear, first-here, first-skip, first-next, first-found, first-end, first-head, first-rest}
+use Rattle.laws.specs.Refusal.{_if_, short}
+use Rattle.laws.proofs.Refusal.{clear, first-here, first-skip, first-last, first-end, first-head, first-rest}
 use Rattle.laws.proofs.Any.{any-head, any-rest, any-not, any-none}
 use Rattle.laws.proofs.MapFirst.{length-fill, getD-mapFirst}
+use Rattle.ieee.specs.Floats.{at, zero64}
 use Rattle.reduced.specs.Limits.{mostSize}
 use Rattle.reduced.specs.Indices.{indexRefused, putEach, Within, Mapped}
-use Rattle.reduced.specs.Lift.{zero64, elemF, liftedOf, liftShort, liftNumber, Lifts, LiftLent, LiftedAt, by-map, by-fixed, by-none}
+use Rattle.reduced.specs.Lift.{liftedOf, liftShort, liftNumber, Lifts, LiftLent, LiftedAt, by-map, by-fixed, by-none}
 use Rattle.reduced.proofs.Put.{Last, found, none, length-put, put-last, put-beyond, beyond-mapFirst}
 use Rattle.reduced.proofs.Distinct.{index-mapped, mapped-index}
 
@@ -61,11 +62,7 @@ judged size map fixed values solution lifted e f n = record { long = sym e ∙ f
 module _ {size : ℕ} {map fixed : List ℕ} {values solution lifted : List Float} {r : ℕ} (j : Judged size map fixed values solution lifted r) where
   is-number : r ≡ liftNumber mostSize size map fixed (length values) (length solution) (length lifted)
   unfolding liftNumber
-  is-number = go (indexRefused mostSize size map fixed) (j .number) ∙ sym (first-skip 31 _ _ (j .long))
-    where
-      go : (t : Bool) → r ≡ 20 if t → r ≡ first (20 if t ∷ [])
-      go true s = s ∙ sym (first-found 20 [] (λ z. omega arith))
-      go false s = s ∙ sym (first-next 0 [] refl ∙ first-end)
+  is-number = j .number ∙ sym (first-skip 31 _ _ (j .long) ∙ first-last _)
 
   pub lifts-index : (r ≡ 0 → ⊥) → Lifts size map fixed values solution lifted r lifted
   lifts-index n = record { numbered = is-number; refused = λ _. refl; accepted = λ z. absurd (n z) }
@@ -85,7 +82,7 @@ module _ {size : ℕ} {map fixed : List ℕ} {values solution lifted : List Floa
     lift-map xs same = (record { below = λ k h. omega (arith, lifts-mapped .map-within .below k h, lift-size) }, lift-lent (j .long) .solution-there)
 
     pub lifts-done : {cleared fixed′ lifted′ : List Float} → cleared ≡ fill (λ _. zero64) size lifted
-        → fixed′ ≡ putEach (elem fixed) (elemF values) (length fixed) cleared → lifted′ ≡ putEach (elem map) (elemF solution) (length map) fixed′
+        → fixed′ ≡ putEach (elem fixed) (at values) (length fixed) cleared → lifted′ ≡ putEach (elem map) (at solution) (length map) fixed′
         → Lifts size map fixed values solution lifted 0 lifted′
     unfolding liftedOf
     lifts-done a b d = record { numbered = sym z ∙ is-number; refused = λ n. absurd (n refl); accepted = λ _. rw (d, b, a) }
@@ -112,31 +109,31 @@ module _ {size : ℕ} {map fixed : List ℕ} {values solution lifted : List Floa
   accepted = lift-accepted (sym (call .numbered) ∙ ok)
 
   fixed′ : List Float
-  fixed′ = putEach (elem fixed) (elemF values) (length fixed) (fill (λ _. zero64) size lifted)
+  fixed′ = putEach (elem fixed) (at values) (length fixed) (fill (λ _. zero64) size lifted)
 
-  pub lifted-at : (k : ℕ) → k < size → LiftedAt map fixed values solution k (elemF lifted′ k)
+  pub lifted-at : (k : ℕ) → k < size → LiftedAt map fixed values solution k (at lifted′ k)
   unfolding liftedOf fixed′
   lifted-at k h =
       rw (call .accepted ok)
       (go
-      (put-last (elem map) (elemF solution) (length map) fixed′ k nan (rw (length-put (elem fixed) (elemF values) (length fixed) (fill (λ _. zero64) size lifted), length-fill (λ _. zero64) lifted size) room))
-      (put-last (elem fixed) (elemF values) (length fixed) (fill (λ _. zero64) size lifted) k nan (rw (length-fill (λ _. zero64) lifted size) room))
+      (put-last (elem map) (at solution) (length map) fixed′ k nan (rw (length-put (elem fixed) (at values) (length fixed) (fill (λ _. zero64) size lifted), length-fill (λ _. zero64) lifted size) room))
+      (put-last (elem fixed) (at values) (length fixed) (fill (λ _. zero64) size lifted) k nan (rw (length-fill (λ _. zero64) lifted size) room))
       (getD-mapFirst (λ _ _. zero64) size lifted k nan h room))
     where
       room : k < length lifted
       room = omega (arith, accepted .0 .lifted-there (accepted .1 .small))
 
-      go : {x y d : Float} → Last (elem map) (elemF solution) (length map) k y x → Last (elem fixed) (elemF values) (length fixed) k d y → d ≡ zero64
+      go : {x y d : Float} → Last (elem map) (at solution) (length map) k y x → Last (elem fixed) (at values) (length fixed) k d y → d ≡ zero64
           → LiftedAt map fixed values solution k x
       go (found j b e rest) l z = by-map j b e
       go (none out) (found j b e rest) z = by-fixed j out b e rest
       go (none out) (none free) z = rw z (by-none out free)
 
   -- a place from the size on is as it was
-  pub lifted-tail : (k : ℕ) → size ≤ k → elemF lifted′ k ≡ elemF lifted k
+  pub lifted-tail : (k : ℕ) → size ≤ k → at lifted′ k ≡ at lifted k
   unfolding liftedOf fixed′
   lifted-tail k h =
       rw (call .accepted ok)
-      (put-beyond (elem map) (elemF solution) (length map) fixed′ k nan (λ i b. omega (arith, accepted .1 .map-within .below i b))
-      ∙ put-beyond (elem fixed) (elemF values) (length fixed) (fill (λ _. zero64) size lifted) k nan (λ i b. omega (arith, accepted .1 .fixed-within .below i b))
+      (put-beyond (elem map) (at solution) (length map) fixed′ k nan (λ i b. omega (arith, accepted .1 .map-within .below i b))
+      ∙ put-beyond (elem fixed) (at values) (length fixed) (fill (λ _. zero64) size lifted) k nan (λ i b. omega (arith, accepted .1 .fixed-within .below i b))
       ∙ beyond-mapFirst (λ _ _. zero64) size lifted k nan h)

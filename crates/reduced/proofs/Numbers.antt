@@ -2,31 +2,25 @@
 -- Assumes nothing.
 use mathlib.Core.Path.{_≡_, refl, sym, ap, _∙_}
 use mathlib.Core.Bool.{Bool, true, false}
-use mathlib.Core.List.{List, [], _∷_}
-use Prim.Native.Nat.{ℕ, zero, suc, _<_, _≤_}
+use mathlib.Core.List.{List, []}
+use Prim.Native.Nat.{ℕ, _<_, _≤_}
 use native.Mathlib.Omega.{arith}
 use lib.ListN.{length}
 use lib.Dec.{ltb}
 use borrow.Author.Tests.{ltb-false, lt-ltb, le-ltb}
 use Rattle.laws.specs.Lists.{elem}
-use Rattle.laws.specs.Refusal.{_if_, first, short}
-use Rattle.laws.proofs.Refusal.{clear, first-here, first-skip, first-next, first-found, first-end, first-head, first-rest}
-use Rattle.laws.proofs.Any.{any-head, any-rest, any-not, any-none}
+use Rattle.laws.specs.Refusal.{_if_}
+use Rattle.laws.proofs.Refusal.{clear, first-here, first-skip, first-next, first-last, first-end, first-head, first-rest}
 use Rattle.tables.specs.Table.{Lent}
 use Rattle.tables.specs.Stored.{Wrote, Room}
 use Rattle.tables.specs.Check.{badOrder}
-use Rattle.tables.proofs.Checks.{order-range, order-rising, order-passes}
+use Rattle.tables.proofs.Checks.{order-range, order-rising, order-passes, table-lent, lent-table}
 use Rattle.reduced.specs.Limits.{mostSize, mostEntries}
 use Rattle.reduced.specs.Indices.{indexRefused}
 use Rattle.reduced.specs.declared.from_principal_submatrix.Reduced.the-variants.{Count, Refused}
-use Rattle.reduced.specs.Submatrix.{Slices, tableIn, valueIn, reducedPlaces, entriesShort, slicesShort, inputNumber, submatrixNumber, Reduces, Input, Acceptable}
+use Rattle.reduced.specs.Submatrix.{Slices, tableIn, valueIn, reducedPlaces, slicesShort, inputNumber, submatrixNumber, Reduces, Input, Acceptable}
 use Rattle.reduced.specs.Scatter.{Reducible}
 use Rattle.reduced.proofs.Distinct.{index-mapped, mapped-index, within-up}
-
--- a list of one number
-first-one : (k : ℕ) → k ≡ first (k ∷ [])
-first-one zero = sym (first-next 0 [] refl ∙ first-end)
-first-one (suc k) = sym (first-found (suc k) [] (λ z. omega arith))
 
 -- ---- 13, 14, 20
 
@@ -42,28 +36,16 @@ module _ (mostSize mostEntries size count : ℕ) (rows cols map fixed : List ℕ
 
     pub input-index : {r : ℕ} → o ≡ false → r ≡ 20 if indexRefused mostSize size map fixed → r ≡ inputNumber mostSize mostEntries size count rows cols map fixed
     unfolding inputNumber
-    input-index z e = e ∙ first-one _ ∙ sym (first-skip 13 _ _ (le-ltb _ _ few) ∙ first-skip 14 _ _ (sym is ∙ z))
+    input-index z e = e ∙ sym (first-skip 13 _ _ (le-ltb _ _ few) ∙ first-skip 14 _ _ (sym is ∙ z) ∙ first-last _)
 
 -- ---- 31
 
 module _ {mostEntries count : ℕ} {s : Slices} where
   pub slices-lent : slicesShort mostEntries count s ≡ false → count ≤ mostEntries → Lent count (s .rows) (s .cols) (s .values)
-  unfolding entriesShort short
-  slices-lent e h =
-      let at : (n : ℕ) → short (ltb mostEntries count) count n ≡ false → count ≤ n = λ n q. ltb-false _ _ (rw (le-ltb mostEntries count h) at q) in
-      let e₁ = any-rest (short (ltb mostEntries count) count (length (s .rows))) _ e in
-      let e₂ = any-rest (short (ltb mostEntries count) count (length (s .cols))) _ e₁ in
-      record {
-        rows-there = at _ (any-head (short (ltb mostEntries count) count (length (s .rows))) _ e);
-        cols-there = at _ (any-head (short (ltb mostEntries count) count (length (s .cols))) _ e₁);
-        values-there = at _ (any-head (short (ltb mostEntries count) count (length (s .values))) _ e₂);
-      }
+  slices-lent e h = table-lent e h
 
   pub lent-slices : count ≤ mostEntries → Lent count (s .rows) (s .cols) (s .values) → slicesShort mostEntries count s ≡ false
-  unfolding entriesShort short
-  lent-slices h l =
-      rw (le-ltb mostEntries count h)
-      (any-not _ _ (le-ltb _ _ (l .rows-there)) (any-not _ _ (le-ltb _ _ (l .cols-there)) (any-not _ _ (le-ltb _ _ (l .values-there)) any-none)))
+  lent-slices h l = lent-table h l
 
 -- ---- the returns
 
@@ -97,7 +79,7 @@ judged size count from map fixed to e f g h n = record { from-long = sym e ∙ f
 module _ {size count : ℕ} {from : Slices} {map fixed : List ℕ} {to : Slices} {r : ℕ} (j : Judged size count from map fixed to r) where
   is-number : r ≡ submatrixNumber mostSize mostEntries size count from map fixed to
   unfolding submatrixNumber
-  is-number = j .number ∙ first-one _ ∙ sym (first-skip 31 _ _ (j .from-long) ∙ first-skip 31 _ _ (j .to-long))
+  is-number = j .number ∙ sym (first-skip 31 _ _ (j .from-long) ∙ first-skip 31 _ _ (j .to-long) ∙ first-last _)
 
   pub reduces-input : (r ≡ 0 → ⊥) → Reduces size count from map fixed to (Refused r) to
   reduces-input n = record { numbered = is-number; refused = λ _. refl; accepted = λ z. absurd (n z) }

@@ -3,25 +3,19 @@ use Prim.Native.Nat.{ℕ, _<_, _≤_}
 use mathlib.Core.Path.{_≡_}
 use mathlib.Core.Bool.{Bool, false}
 use mathlib.Core.List.{List, [], _∷_}
-use lib.ListN.{length, getD}
+use lib.ListN.{length}
 use lib.Dec.{ltb}
-use lib.Ieee.{Float, nan, binary64, ofBits}
+use lib.Ieee.{Float}
 use Rattle.laws.specs.Lists.{elem, fill}
 use Rattle.laws.specs.Refusal.{_if_, first, anyOf, short}
+use Rattle.ieee.specs.Floats.{at, zero64}
 use Rattle.reduced.specs.Limits.{mostSize}
 use Rattle.reduced.specs.Indices.{indexRefused, putEach}
-
--- 0.0, and an element of a slice of doubles; past its end, which no accepted call reads, the code's reading has NaN
-abbrev pub zero64 : Float
-zero64 = ofBits binary64 0
-
-abbrev pub elemF : List Float → ℕ → Float
-elemF l i = getD l i nan
 
 -- 0.0 below the original size, then the fixed values at their indices, then the reduced solution at the mapped indices; the tail stays
 unfoldable pub liftedOf : ℕ → List ℕ → List ℕ → List Float → List Float → List Float → List Float
 liftedOf size map fixed values solution lifted =
-    putEach (elem map) (elemF solution) (length map) (putEach (elem fixed) (elemF values) (length fixed) (fill (λ _. zero64) size lifted))
+    putEach (elem map) (at solution) (length map) (putEach (elem fixed) (at values) (length fixed) (fill (λ _. zero64) size lifted))
 
 -- 31: a value for each fixed index, a number for each mapped one, and as many places as the original size, which may itself be refused
 unfoldable pub liftShort : ℕ → ℕ → List ℕ → List ℕ → ℕ → ℕ → ℕ → Bool
@@ -49,7 +43,7 @@ pub record LiftLent (most size : ℕ) (map fixed : List ℕ) (values solution li
 
 -- what stands at k: the solution of the new index that is mapped to k, else the last value that is fixed at k, else 0.0
 pub data LiftedAt (map fixed : List ℕ) (values solution : List Float) (k : ℕ) : Float → Type 0 where
-  by-map : (j : ℕ) → j < length map → elem map j ≡ k → LiftedAt map fixed values solution k (elemF solution j)
+  by-map : (j : ℕ) → j < length map → elem map j ≡ k → LiftedAt map fixed values solution k (at solution j)
   by-fixed : (j : ℕ) → ((i : ℕ) → i < length map → elem map i ≡ k → ⊥) → j < length fixed → elem fixed j ≡ k
-      → ((i : ℕ) → j < i → i < length fixed → elem fixed i ≡ k → ⊥) → LiftedAt map fixed values solution k (elemF values j)
+      → ((i : ℕ) → j < i → i < length fixed → elem fixed i ≡ k → ⊥) → LiftedAt map fixed values solution k (at values j)
   by-none : ((i : ℕ) → i < length map → elem map i ≡ k → ⊥) → ((i : ℕ) → i < length fixed → elem fixed i ≡ k → ⊥) → LiftedAt map fixed values solution k zero64

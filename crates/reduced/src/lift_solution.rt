@@ -6,9 +6,10 @@ ghost use mathlib.Core.Path.{_≡_};
 ghost use Prim.Native.Nat.{_≤_};
 ghost use lib.ListN.{length};
 ghost use Rattle.laws.specs.Lists.{elem, fill};
+ghost use Rattle.ieee.specs.Floats.{at, zero64};
 ghost use Rattle.reduced.specs.Limits.{mostSize};
 ghost use Rattle.reduced.specs.Indices.{putEach, Within};
-ghost use Rattle.reduced.specs.Lift.{zero64, elemF, liftShort, Lifts};
+ghost use Rattle.reduced.specs.Lift.{liftShort, Lifts};
 
 // 0.0 at the first places.
 fn clear(size: usize, lifted: &mut [f64])
@@ -25,7 +26,7 @@ fn clear(size: usize, lifted: &mut [f64])
 // Each value at its index, in order.
 fn put_each(indices: &[u16], values: &[f64], lifted: &mut [f64])
     requires { ⌜ Within (length (now lifted)) (now indices) × (length (now indices) ≤ length (now values)) ⌝ }
-    ensures { λ _. ⌜ now (lifted .exit) ≡ putEach (elem (now (indices .entry))) (elemF (now (values .entry))) (length (now (indices .entry))) (now (lifted .entry)) ⌝ }
+    ensures { λ _. ⌜ now (lifted .exit) ≡ putEach (elem (now (indices .entry))) (at (now (values .entry))) (length (now (indices .entry))) (now (lifted .entry)) ⌝ }
 {
     let mut j = 0;
     while j < indices.len() {

@@ -1,5 +1,5 @@
 -- The first of the least: a loop that keeps it, and what it is.
---     least-next       the turn of a loop that keeps g at the first least of f
+--     least-next       the turn of a loop that keeps the first least of f, and g there
 --     least-within, least-least, least-first   it is an index, none has less, and each one before it has more
 -- Assumes nothing.
 use mathlib.Core.Path.{_≡_, refl, sym, ap, _∙_}
@@ -19,16 +19,18 @@ use Rattle.laws.proofs.Parts.{setRow-next}
 use Rattle.laws.proofs.Made.{length-tabulate}
 use Rattle.laws.proofs.Integer.{integers, ltZ-true, ltZ-false}
 use Rattle.factor.specs.Vectors.{unit}
+use Rattle.local_search.specs.Level.{below}
+use Rattle.local_search.specs.Children.{parentOf, better}
 use Rattle.rounding.specs.Rounding.{roundedSign, drawSigns, signsOf, roundedSols, firstLeast}
 
 pick : {A : Type 0} (g : ℕ → A) (b : Bool) (x y : ℕ) → cond b (g x) (g y) ≡ g (cond b x y)
 pick g true x y = refl
 pick g false x y = refl
 
-pub least-next : {A : Type 0} (f : ℕ → ℤ) (g : ℕ → A) (k : ℕ) (least : ℤ) (best : A) → least ≡ f (firstLeast f k) → best ≡ g (firstLeast f k)
-    → cond (ltZ (f (k + 1)) least) (g (k + 1)) best ≡ g (firstLeast f (k + 1))
-unfolding firstLeast
-least-next f g k least best e h = rw (add-one, e, h) (pick g (ltZ (f (suc k)) (f (firstLeast f k))) (suc k) (firstLeast f k))
+pub least-next : (f : ℕ → ℤ) (g : ℕ → List ℕ) (k : ℕ) (least : ℤ) (best : List ℕ) → least ≡ f (firstLeast f k) → best ≡ g (firstLeast f k)
+    → better (parentOf least best) (parentOf (f (k + 1)) (g (k + 1))) ≡ parentOf (f (firstLeast f (k + 1))) (g (firstLeast f (k + 1)))
+unfolding firstLeast below
+least-next f g k least best e h = rw (add-one, e, h) (pick (λ (j : ℕ). parentOf (f j) (g j)) (ltZ (f (suc k)) (f (firstLeast f k))) (suc k) (firstLeast f k))
 
 -- what it is
 module _ (f : ℕ → ℤ) where

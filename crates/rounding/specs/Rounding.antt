@@ -14,12 +14,12 @@ use Rattle.factor.specs.Vectors.{unit}
 use Rattle.tables.specs.Table.{Table, signAt, objectiveOf}
 
 -- a sign's byte, by the test whether the product is above 0.0: 0 is +, 1 is −, and a NaN is −
-abbrev pub signByte : Bool → ℕ
-signByte true = 0
-signByte false = 1
+abbrev pub plusByte : Bool → ℕ
+plusByte true = 0
+plusByte false = 1
 
 abbrev pub roundedSign : List Float → ℕ → List Float → ℕ → ℕ
-roundedSign factor rank direction i = signByte (Ieee.lt zero64 (dotOf (rowOf rank factor i) direction))
+roundedSign factor rank direction i = plusByte (Ieee.lt zero64 (dotOf (rowOf rank factor i) direction))
 
 -- the signs of m rows: each row's product with the draw divided by its norm
 unfoldable pub drawSigns : List Float → ℕ → ℕ → List Float → List ℕ

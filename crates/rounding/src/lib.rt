@@ -1,27 +1,26 @@
 // The rounding of draws: each draw's signs, and the first draw of least objective (002, `compute_rounded_sol`).
 
 ghost use mathlib.Core.Path.{_≡_};
-ghost use mathlib.Core.Bool.{cond};
 ghost use mathlib.Core.List.{_++_};
 ghost use Prim.Native.Nat.{_+_, _*_, _≤_, _<_, _^_};
 ghost use lib.Ieee as Ieee;
 ghost use lib.ListN.{length, drop};
-ghost use lib.Signed.{ltZ};
 ghost use Rattle.laws.specs.Rows.{setRow};
 ghost use Rattle.laws.specs.Lists.{tabulate};
 ghost use Rattle.ieee.specs.Floats.{zero64};
 ghost use Rattle.factor.specs.Vectors.{unit};
 ghost use Rattle.tables.specs.Table.{tableOf, Lent, InRange, magnitudeOf};
-ghost use Rattle.rounding.specs.Rounding.{signByte, roundedSign, drawSigns, signsOf, roundedSols, drawObjective, roundedSol, roundedObjective};
+ghost use Rattle.rounding.specs.Rounding.{plusByte, roundedSign, drawSigns, signsOf, roundedSols, drawObjective, roundedSol, roundedObjective};
 use factor::rows::copy;
 use factor::rows::normalize;
 use factor::rows::row;
 use factor::sums::dot;
+use local_search::least::keep_better;
 use tables::objective::obj_rounded;
 
 // A sign's byte: 0 is +, 1 is −.
 fn sign_byte(product: f64) -> u8
-    ensures { λ r. ⌜ r ≡ signByte (Ieee.lt zero64 product) ⌝ }
+    ensures { λ r. ⌜ r ≡ plusByte (Ieee.lt zero64 product) ⌝ }
 {
     if product > 0.0 {
         return 0;
@@ -105,31 +104,6 @@ pub fn compute_rounded_sols(
     }
 }
 
-// The signs, copied.
-fn copy_signs(out: &mut [u8], source: &[u8])
-    requires { ⌜ length (now out) ≡ length (now source) ⌝ }
-    ensures { λ _. ⌜ now (out .exit) ≡ now (source .entry) ⌝ }
-{
-    let mut j = 0;
-    while j < out.len() {
-        out[j] = source[j];
-        j += 1;
-    }
-}
-
-// The signs in the place of the best, if their objective is below the least; the least then. An equal one doesn't win.
-fn keep_better(objective: i64, least: i64, signs: &[u8], best: &mut [u8]) -> i64
-    requires { ⌜ length (now best) ≡ length (now signs) ⌝ }
-    ensures { λ r. ⌜ r ≡ cond (ltZ objective least) objective least ⌝ }
-    ensures { λ _. ⌜ now (best .exit) ≡ cond (ltZ objective least) (now (signs .entry)) (now (best .entry)) ⌝ }
-{
-    if objective < least {
-        copy_signs(best, signs);
-        return objective;
-    }
-    least
-}
-
 // The signs of draw k and their objective.
 fn evaluate_draw(
     count: usize,
@@ -204,7 +178,7 @@ pub fn compute_rounded_sol(
             direction,
             signs,
         );
-        least = keep_better(objective, least, signs, best);
+        least = keep_better(least, best, objective, signs);
         k += 1;
     }
     least

@@ -1,14 +1,14 @@
 -- What holds where a call is accepted: the table is a hall in slices that hold it, and every other slice is long enough. Assumes nothing.
 use Prim.Native.Nat.{ℕ, _+_, _*_, _≤_, _<_}
 use mathlib.Core.Path.{_≡_, sym, ap}
-use mathlib.Core.Bool.{Bool, true, false, not, _&&_, _||_}
+use mathlib.Core.Bool.{false, not}
 use native.Mathlib.Numerals.{add-one}
 use native.Mathlib.Omega.{arith}
 use borrow.Author.Tests.{ltb-false, le-ltb, eqb-true, eqb-false, not-false}
 use lib.Dec.{ltb, eqb}
 use lib.ListN.{length}
 use Rattle.laws.proofs.Refusal.{clear, first-head, first-rest}
-use Rattle.laws.proofs.Any.{any-head, any-rest, any-not, any-none, or-left}
+use Rattle.laws.proofs.Any.{any-head, any-rest, any-not, any-none, or-left, or-right, and-left}
 use Rattle.tables.specs.Limits.{mostWagons, mostEntries, mostMagnitude}
 use Rattle.tables.specs.Table.{Lent}
 use Rattle.tables.specs.Check.{Hall}
@@ -25,14 +25,6 @@ use Rattle.run_record.proofs.Ranked.{taken-low}
 use Rattle.run_sweep.specs.Running.{Running}
 use Rattle.finalize.specs.Contracts.{Fits}
 use Rattle.run_contract.specs.Calls.{Settings, openSize, openRank, openNumberOf, used}
-
-or-right : (a b : Bool) → (a || b) ≡ false → b ≡ false
-or-right true b e = absurd (let z : _≡_ {A = ℕ} 0 1 = cc in omega arith)
-or-right false b e = e
-
-and-right : (a b : Bool) → a ≡ true → (a && b) ≡ false → b ≡ false
-and-right true b t e = e
-and-right false b t e = absurd (let z : _≡_ {A = ℕ} 0 1 = cc in omega arith)
 
 less : (a b : ℕ) → a ≤ b → (a ≡ b → ⊥) → a < b
 less a b l n = omega arith
@@ -69,7 +61,7 @@ agrees run n e =
       size-test = any-head _ _ e;
       some-test = any-head _ _ ranks;
       few-test = any-head _ _ (any-rest _ _ ranks);
-      runs = λ open′. less (run .sweeps) (run .most) (ltb-false _ _ (any-head _ _ limits)) (eqb-false _ _ (and-right _ _ (ap not open′) (any-head _ _ (any-rest _ _ limits))));
+      runs = λ open′. less (run .sweeps) (run .most) (ltb-false _ _ (any-head _ _ limits)) (eqb-false _ _ (and-left _ _ (ap not open′) (any-head _ _ (any-rest _ _ limits))));
     }
 
 size-of : {run : Run} {n : ℕ} → Agrees run n → run .size ≡ n + 1

@@ -54,7 +54,8 @@ sweep-has run t k factor zero e =
 sweep-has run t k factor (suc m) e =
     (run, factor, record { numbered = sym e; refused = λ n. (refl, refl); accepted = λ z. absurd (omega arith) })
 
-abbrev resultOr : FinishResult → Finished → FinishResult
+-- the result that an answer holds, or another
+abbrev pub resultOr : FinishResult → Finished → FinishResult
 resultOr other (F.Result x) = x
 resultOr other (F.Refused number) = other
 
@@ -104,6 +105,7 @@ module _ (run : Run) (t : CostTable) (width drawCount : ℕ) (draws factor : Lis
           numbered = sym e;
           refused = λ n. absurd (n refl);
           accepted = λ z. (refl, refl, refl);
+          kept = refl;
           demand-3 = λ x is w. subst Kept (ap (resultOr result) is) (keeps-demand (good .hall) w);
         },
       )
@@ -115,6 +117,7 @@ module _ (run : Run) (t : CostTable) (width drawCount : ℕ) (draws factor : Lis
       numbered = sym e;
       refused = λ n. (refl, refl, refl);
       accepted = λ z. absurd (omega arith);
+      kept = refl;
       demand-3 = λ x is w. let no : _≡_ {A = ℕ} 1 0 = ap Kind is in absurd (omega arith);
     },
   )

@@ -41,9 +41,9 @@ use Rattle.run_record.specs.CostTable.{CostTable, costTable}
 use Rattle.run_record.specs.Numbers as Numbers
 use Rattle.run_record.specs.Numbers.{isStopped}
 use Rattle.run_sweep.specs.Work as Work
-use Rattle.run_sweep.specs.Sweep as Sweep
 use Rattle.finalize.specs.Finalize as Finalize
 use Rattle.run_contract.specs.Calls as Calls
+use Rattle.run_contract.specs.Schedule as Schedule
 use Rattle.run_contract.specs.Calls.{Settings, settingsOf}
 use Rattle.run_contract.specs.PlainRun as PlainRun
 use Rattle.run_contract.specs.PlainRun.{Call, sweep, finish, plainOpen, plainTrace, Given, Seen}
@@ -99,11 +99,11 @@ unfolding plainOpen PlainRun.sweptFactor PlainRun.swept PlainRun.checked PlainRu
     Refusal.orElse Refusal.first Refusal.anyOf Refusal.short Numbers.tableShort Numbers.factorRefused Numbers.factorShort Numbers.recordRefused Numbers.sweepShort
     Numbers.sweepNumber Numbers.drawsRefused Numbers.drawsShort Numbers.choiceShort Numbers.finishShort Numbers.widthRefused Numbers.finishNumber
     Check.badSize Check.before Check.badEntry Check.badOrder Check.unmirrored Check.hallNumber Check.shortTable Sum.total
-    Work.workOf Work.callWork Sweep.checkDue Sweep.stopStatus Sweep.newObjective Sweep.stationary Rule.stepped Steps.gradStep
+    Work.workOf Work.callWork Schedule.isDue Schedule.verdict PlainRun.objectiveAt PlainRun.lookAt Rule.stepped Steps.gradStep
     Checking.residualRow Checking.residualOf Checking.frobenius Checking.thresholdOf Objective.objOf Oracle.workObjective Initialize.startRows
     Vectors.subScaled Vectors.multiplied Vectors.projected Multiply.gradOf
     Finalize.floorEighths Finalize.floatBound Finalize.diagonalTotal Finalize.multipliersOf Finalize.roundedCost Finalize.searchedChoice Finalize.searchedCost Finalize.searchedRounds
-    Finalize.choiceOf Finalize.roundedSigns Finalize.searched
+    Finalize.choiceOf Finalize.roundedSigns Finalize.searchResult
     ofBits toBits ofInt add sub mul div neg lt le Sqrt.sqrtOf Floats.eighthOf Sum.sum Sum.sum₂ Rows.mapFirst Turns.upTo
     Lists.anyBelow Lists.tabulate Lists.kept Table.share Table.least Table.valueAt Table.storedAt Flip.flipChange Cost.decodedByte Bound.boundTerm Bound.boundSum
     Bound.magnitudeSum Bound.margin Bound.entrywise SignTable.absorbed SignTable.signValue Stored.rowPlaces Stored.places SignTable.signKept SignTable.signPlaces

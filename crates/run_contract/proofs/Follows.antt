@@ -10,8 +10,11 @@ use Rattle.laws.specs.Refusal.{anyOf}
 use Rattle.run_record.specs.declared.Stage.{Stage}
 use Rattle.run_record.specs.declared.Stage.the-variants.{Open, Stopped}
 use Rattle.run_sweep.specs.Work.{Work}
-use Rattle.run_sweep.specs.Sweep.{State, checkDue, settledAt, statusFound, lastAfter, stageAfter, statusAfter, advanced, runAfter, whileOpen, sweepsUpTo}
-use Rattle.run_contract.specs.PlainRun.{Plain, sweptFactor, swept, standing, stops, foundStatus, objectiveAt, checked, atMost, ifOpen, plainSweeps, recordOf}
+use Rattle.step_rules.specs.Rule.{testsObjective}
+use Rattle.run_sweep.specs.Sweep.{State, checkDue, stopStatus, newObjective, stationary, settledAt, statusFound, lastAfter, stageAfter, statusAfter, advanced, runAfter, whileOpen, sweepsUpTo}
+use Rattle.run_contract.specs.Schedule.{isDue}
+use Rattle.run_contract.specs.PlainRun.{Plain, sweptFactor, swept, standing, stops, lookAt, foundStatus, objectiveAt, checked, atMost, ifOpen, plainSweeps, recordOf}
+use Rattle.run_contract.proofs.Scheduled.{due-same, momentum-none, verdict-same}
 
 -- record and factor of a plain run's state
 unfoldable pub stateOf : Plain → State
@@ -60,10 +63,32 @@ turns-at w p false status new = closes w p false (eqb (p .sweeps + 1) (p .most))
 turns-at w p true zero new = closes w p true (eqb (p .sweeps + 1) (p .most)) zero new
 turns-at w p true (suc s) new = closes w p true (eqb (p .sweeps + 1) (p .most)) (suc s) new
 
+-- the check after one more sweep finds what the port's does
+abbrev portObjective : Work → Plain → Float
+portObjective w p = newObjective w (p .size) (p .rank) (sweptFactor w p)
+
+abbrev portStatus : Work → Plain → ℕ
+portStatus w p = stopStatus (testsObjective (p .rule)) (p .objective-tolerance) (settledAt (recordOf p) w (sweptFactor w p)) (p .last) (portObjective w p)
+
+objective-same : (w : Work) (p : Plain) → objectiveAt w (swept w p) ≡ portObjective w p
+unfolding objectiveAt swept newObjective
+objective-same w p = refl
+
+found-same : (w : Work) (p : Plain) → foundStatus w (swept w p) ≡ portStatus w p
+unfolding lookAt objectiveAt swept settledAt stationary newObjective recordOf
+found-same w p =
+    verdict-same (lookAt w (swept w p))
+    ∙ ap (λ (tests : Bool). stopStatus tests (p .objective-tolerance) (settledAt (recordOf p) w (sweptFactor w p)) (p .last) (portObjective w p)) (momentum-none (p .rule))
+
 -- one sweep: the plain run's three steps are the record that the port makes
 pub turns : (w : Work) (p : Plain) → stateOf (turned w p) ≡ record { run = runAfter (recordOf p) w (sweptFactor w p); factor = sweptFactor w p }
-unfolding checked swept runAfter advanced statusFound lastAfter stageAfter statusAfter settledAt recordOf
-turns w p = turns-at w p (checkDue (p .sweeps + 1) (p .minimum) (p .most)) (foundStatus w (swept w p)) (objectiveAt w (swept w p))
+unfolding checked swept runAfter advanced statusFound lastAfter stageAfter statusAfter recordOf
+turns w p =
+    let full = eqb (p .sweeps + 1) (p .most) in
+    turns-at w p (isDue (p .sweeps + 1) (p .minimum) (p .most)) (foundStatus w (swept w p)) (objectiveAt w (swept w p))
+    ∙ ap (λ (due : Bool). stateMade w p due full (foundStatus w (swept w p)) (objectiveAt w (swept w p))) (due-same (p .sweeps + 1) (p .minimum) (p .most))
+    ∙ ap (λ (status : ℕ). stateMade w p (checkDue (p .sweeps + 1) (p .minimum) (p .most)) full status (objectiveAt w (swept w p))) (found-same w p)
+    ∙ ap (λ (new : Float). stateMade w p (checkDue (p .sweeps + 1) (p .minimum) (p .most)) full (portStatus w p) new) (objective-same w p)
 
 by-stage : (stage : Stage) (a : State) (next p : Plain) → a ≡ stateOf next → whileOpen stage a (stateOf p) ≡ stateOf (ifOpen stage next p)
 by-stage Open a next p e = e

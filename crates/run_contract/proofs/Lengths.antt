@@ -13,15 +13,16 @@ use Rattle.laws.specs.Rows.{rowOf, setRow}
 use Rattle.laws.proofs.UpTo.{upTo-keeps}
 use Rattle.laws.proofs.MapFirst.{length-mapFirst}
 use Rattle.laws.proofs.Made.{length-tabulate}
-use Rattle.ieee.specs.Floats.{_/ᶠ_, at, zero64, one64, hundredth}
+use Rattle.ieee.specs.Floats.{at, zero64, hundredth}
 use Rattle.ieee.specs.Sqrt.{sqrtOf}
 use Rattle.tables.specs.Table.{Table}
 use Rattle.tables.specs.Cost.{decodedByte}
 use Rattle.sign_table.specs.SignTable.{signTable}
 use Rattle.factor.specs.Norms.{squaredNorm}
-use Rattle.factor.specs.Vectors.{subScaled, scaled, multiplied, divided, unit, unitRow, projected}
+use Rattle.factor.specs.Vectors.{subScaled, multiplied, divided, unit, unitRow, projected}
 use Rattle.factor.specs.Multiply.{gradOf}
-use Rattle.coordinate_sweep.specs.Sweep.{exactRow, momentumRow, normalized, pickRow, wrote, updateRow, gradientAt, rowTo, rowBy, sweptRow, sweepTo}
+use Rattle.coordinate_sweep.proofs.TwoRows.{length-updated}
+use Rattle.coordinate_sweep.specs.Sweep.{updateRow, gradientAt, rowTo, rowBy, sweptRow, sweepTo}
 use Rattle.step_rules.specs.declared.StepRule.{StepRule}
 use Rattle.step_rules.specs.declared.StepRule.the-variants.{Grad, GradAdv, Coord, CoordNoStep, CoordMomentum}
 use Rattle.step_rules.specs.Steps.{gradStep, advAlpha, advBy, advStep, neighboursAt, coordBy, coordRow, coordTo}
@@ -65,16 +66,6 @@ unfolding coordBy
 length-coordBy alpha g rank factor i =
     let row = rowOf rank factor i in
     length-setRow rank factor i (unit (subScaled alpha g row)) (length-unit (subScaled alpha g row) ∙ length-subScaled alpha g row)
-
-length-picked : (written still : Bool) (g : List Float) (inv beta : Float) (row : List Float) → length (pickRow written still g inv beta row) ≡ length row
-unfolding exactRow normalized scaled momentumRow
-length-picked false still g inv beta row = refl
-length-picked true true g inv beta row = length-mapFirst _ _ row
-length-picked true false g inv beta row = length-mapFirst _ _ (momentumRow g inv beta row) ∙ length-mapFirst _ _ row
-
-length-updated : (beta : Float) (g : List Float) (norm : Float) (row : List Float) → length (updateRow beta g norm row) ≡ length row
-unfolding updateRow
-length-updated beta g norm row = length-picked (wrote norm) (Ieee.eq beta zero64) g (one64 /ᶠ norm) beta row
 
 length-rowBy : (beta : Float) (g : List Float) (rank : ℕ) (factor : List Float) (i : ℕ) → length (rowBy beta g rank factor i) ≡ length factor
 unfolding rowBy rowTo

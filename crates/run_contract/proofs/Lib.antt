@@ -1,7 +1,13 @@
 pub mod Accepting
+pub mod Allowed
+pub mod Assured
+pub mod Refused
+pub mod Answered
 pub mod Lengths
+pub mod Scheduled
 pub mod Follows
 pub mod Opening
 pub mod OnLists
 pub mod Chains
+pub mod Tails
 pub mod Examples

@@ -5,7 +5,7 @@ use mathlib.Core.Bool.{cond}
 use mathlib.Core.List.{List}
 use lib.Dec.{eqb}
 use lib.Ieee.{Float}
-use lib.ListN.{length, take}
+use lib.ListN.{length, take, drop}
 use Rattle.laws.specs.Lists.{over}
 use Rattle.ieee.specs.Floats.{_+ᶠ_}
 use Rattle.step_rules.specs.Rule.{ruleOf}
@@ -15,10 +15,11 @@ use Rattle.run_record.specs.declared.Stage.{Stage}
 use Rattle.run_record.specs.declared.Stage.the-variants.{Open, Stopped}
 use Rattle.run_record.specs.declared.Run.{Run}
 use Rattle.run_record.specs.CostTable.{CostTable, quadratic, linear}
+use Rattle.run_limits.specs.Limits.{searchWorkspace}
 use Rattle.run_limits.specs.Rank.{rankMeant}
 use Rattle.run_limits.specs.Start.{isSigns, drawsFollow}
 use Rattle.run_record.specs.Numbers.{openNumber, sweepNumber, FinishLengths, finishNumber}
-use Rattle.run_sweep.specs.Work.{signsOf, callWork}
+use Rattle.run_sweep.specs.Work.{signTableOf, callWork}
 use Rattle.run_sweep.specs.Sweep.{sweepsUpTo}
 use Rattle.finalize.specs.Finalize.{diagonalTotal, floatBound, floorEighths, roundedCost, searchedChoice, searchedCost, searchedRounds, multipliersOf}
 use Rattle.finalize.specs.Demand3.{Demand3}
@@ -90,7 +91,7 @@ openRun o =
       rank = openRank o;
       rule = ruleOf (o .rule) (o .number);
       sweeps = 0;
-      «last_objective» = workObjective (signsOf (o .table)) (openRank o) (startFactor o);
+      «last_objective» = workObjective (signTableOf (o .table)) (openRank o) (startFactor o);
       «objective_tolerance» = o .objective-tolerance;
       «stationarity_tolerance» = o .stationarity-tolerance;
       most = o .most;
@@ -160,6 +161,8 @@ pub record Finishes (run : Run) (t : CostTable) (width drawCount : ℕ) (draws f
       → (answer ≡ F.Result (finishResult run t width drawCount draws (take (used run) factor)))
       × (b′ ≡ over (finishChoice run t width drawCount draws (take (used run) factor)) b)
       × (dual′ ≡ over (finishMultipliers run t (take (used run) factor)) dual)
+  -- a longer workspace keeps its tail; what lies before is any after an accepted finish
+  pub kept : drop searchWorkspace workspace′ ≡ drop searchWorkspace workspace
   -- demand 3
   pub demand-3 : (x : FinishResult) → answer ≡ F.Result x → 1 ≤ width
       → Demand3 (t .n) (quadratic t) (linear t) (run .rank) (take (used run) factor) draws drawCount width b′ (x .floor) (x .«rounded_cost») (x .cost) (x .rounds)

@@ -12,7 +12,8 @@ use Rattle.run_contract.specs.declared.Finished.the-variants as F
 use Rattle.run_contract.specs.Calls.{Sweeps, Finishes, finishedNumber}
 use Rattle.run_contract.specs.PlainRun.{SweepCall, FinishCall, Call, sweep, finish, Given, Seen}
 
--- a slice of so many numbers is lent that has the kept factor as far as both go; what lies behind the factor is any
+-- a slice of so many numbers is lent that has the kept factor as far as both go; what lies behind the factor is any. Any such slice is meant
+-- (`lends-agree`, proofs/Allowed)
 pub record Lends (kept : List Float) (lent : ℕ) (factor : List Float) : Type 0 where
   pub sized : length factor ≡ lent
   pub same : take (length kept) factor ≡ take lent kept
@@ -30,13 +31,14 @@ abbrev pub givenOf : Finished → ℕ → List ℕ → List Float → Option Giv
 givenOf (F.Result result) n b′ dual′ = some (record { result = result; b = take n b′; dual = take (suc n) dual′ })
 givenOf (F.Refused number) n b′ dual′ = none
 
--- the slices that a finish writes, of the lengths that the call says
+-- the slices that a finish writes, of the lengths that the call says; what they hold is any (`sized-any`)
 pub record Sized (call : FinishCall) (b : List ℕ) (dual : List Float) (workspace : List ℕ) : Type 0 where
   pub b-sized : length b ≡ call .b-length
   pub dual-sized : length dual ≡ call .dual-length
   pub workspace-sized : length workspace ≡ call .workspace-length
 
--- from a run record and its factor, a list of calls, and what is seen after each; a finish is given record and factor to read only
+-- from a run record and its factor, a list of calls, and what is seen after each; a finish is given record and factor to read only. No case asks
+-- more than these (`sweeps-any`, `finishes-any`)
 pub data Chain : Run → List Float → List Call → List Seen → Type 0 where
   ends : {run : Run} {kept : List Float} → Chain run kept [] []
   sweeps : {run : Run} {kept : List Float} {call : SweepCall} {calls : List Call} {seen : List Seen}

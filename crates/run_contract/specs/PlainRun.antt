@@ -1,23 +1,31 @@
 -- 01's plain run ("Run", second paragraph): sweep by sweep, on a state of its own. Definitions only.
+--
+-- What it shares with the contracts of open, sweep and finish: the table as a sweep takes it (`callWork`, and `signTableOf` for the last objective at
+-- the open), one sweep of a rule (`stepped`), a check's objective, residual and threshold (`checkObjective`, `checkResidual`, `checkThreshold`),
+-- 000's objective of a start (`workObjective`), the start's factor with the size and rank meant (`startFactor`, `openSize`, `openRank`), the rule
+-- of a number (`ruleOf`), what an accepted finish gives of a factor (`finishResult`, `finishChoice`, `finishMultipliers`), and the numbers
+-- (`sweepNumber`, `finishNumber`), which proofs/Answered.antt shows to be 01's. When a check is due, its stop tests, how sweeps done, last
+-- objective, stage and status move, and what a refused call leaves are its own, here and in specs/Schedule.antt.
 use Prim.Native.Nat.{ℕ, zero, suc, _+_}
-use mathlib.Core.Bool.{Bool, _&&_, cond}
+use mathlib.Core.Bool.{cond}
 use mathlib.Core.List.{List, [], _∷_}
 use mathlib.Core.Option.{Option, some, none}
 use lib.ListN.{length}
-use lib.Dec.{leb, eqb}
+use lib.Dec.{eqb}
 use lib.Ieee.{Float}
+use Rattle.maxcut_oracle.specs.Check.{checkObjective, checkResidual, checkThreshold}
 use Rattle.maxcut_oracle.specs.Table.{workObjective}
 use Rattle.step_rules.specs.declared.StepRule.{StepRule}
-use Rattle.step_rules.specs.Rule.{ruleOf, testsObjective, stepped}
+use Rattle.step_rules.specs.Rule.{ruleOf, stepped}
 use Rattle.run_record.specs.declared.Stage.{Stage}
 use Rattle.run_record.specs.declared.Stage.the-variants.{Open, Stopped}
 use Rattle.run_record.specs.declared.Run.{Run}
 use Rattle.run_record.specs.CostTable.{CostTable}
 use Rattle.run_record.specs.Numbers.{sweepNumber, FinishLengths, finishNumber}
-use Rattle.run_sweep.specs.Work.{Work, signsOf, callWork}
-use Rattle.run_sweep.specs.Sweep.{checkDue, stopStatus, newObjective, stationary}
+use Rattle.run_sweep.specs.Work.{Work, signTableOf, callWork}
 use Rattle.run_contract.specs.declared.FinishResult.{FinishResult}
 use Rattle.run_contract.specs.Calls.{Settings, openSize, openRank, startFactor, finishResult, finishChoice, finishMultipliers}
+use Rattle.run_contract.specs.Schedule.{isDue, coordinateMomentum, Look, verdict}
 
 -- "Its state: factor, size, rank, rule, tolerances, limits, sweeps done, last objective, stage, status."
 pub record Plain : Type 0 where
@@ -71,7 +79,7 @@ plainOpen o =
       most = o .most;
       minimum = o .minimum;
       sweeps = 0;
-      last = workObjective (signsOf (o .table)) (openRank o) (startFactor o);
+      last = workObjective (signTableOf (o .table)) (openRank o) (startFactor o);
       stage = cond (eqb (o .most) 0) Stopped Open;
       status = 0;
     }
@@ -118,16 +126,26 @@ standing p last stage status =
       status = status;
     }
 
--- what a check looks at: the objective, and, from the minimum on, whether the residual is small
-abbrev pub objectiveAt : Work → Plain → Float
-objectiveAt w p = newObjective w (p .size) (p .rank) (p .factor)
+-- what a check looks at: the objective, and the rest that its stop tests take
+unfoldable pub objectiveAt : Work → Plain → Float
+objectiveAt w p = checkObjective (w .cols) (w .values) (w .starts) (p .size) (p .rank) (p .factor)
 
-abbrev pub settled : Work → Plain → Bool
-settled w p = leb (p .minimum) (p .sweeps) && stationary w (p .size) (p .rank) (p .factor) (p .stationarity-tolerance)
+unfoldable pub lookAt : Work → Plain → Look
+lookAt w p =
+    record {
+      iterations = p .sweeps;
+      min-iterations = p .minimum;
+      residual = checkResidual (w .cols) (w .values) (w .starts) (p .size) (p .rank) (p .factor);
+      threshold = checkThreshold (w .cols) (w .values) (w .starts) (p .size) (p .rank) (p .factor) (p .stationarity-tolerance);
+      momentum = coordinateMomentum (p .rule);
+      new = objectiveAt w p;
+      previous = p .last;
+      tolerance = p .objective-tolerance;
+    }
 
 -- the status that the check finds, 0 where the run goes on
 abbrev pub foundStatus : Work → Plain → ℕ
-foundStatus w p = stopStatus (testsObjective (p .rule)) (p .objective-tolerance) (settled w p) (p .last) (objectiveAt w p)
+foundStatus w p = verdict (lookAt w p)
 
 -- a check keeps its objective; a status above 0 stops the run with it
 abbrev pub stops : ℕ → Float → Plain → Plain
@@ -136,7 +154,7 @@ stops (suc status) new p = standing p new Stopped (suc status)
 
 -- "a check that is due acts as above"
 unfoldable pub checked : Work → Plain → Plain
-checked w p = cond (checkDue (p .sweeps) (p .minimum) (p .most)) (stops (foundStatus w p) (objectiveAt w p) p) p
+checked w p = cond (isDue (p .sweeps) (p .minimum) (p .most)) (stops (foundStatus w p) (objectiveAt w p) p) p
 
 -- "at the most the stage is stopped"
 unfoldable pub atMost : Plain → Plain

@@ -1,3 +1,5 @@
 pub mod Short
 pub mod Ranked
 pub mod Holds
+pub mod Deciding
+pub mod Answered

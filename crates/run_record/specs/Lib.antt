@@ -1,3 +1,4 @@
 pub mod CostTable
 pub mod Numbers
 pub mod Lengths
+pub mod Conditions

@@ -1,7 +1,7 @@
 -- The refusal numbers of open, sweep and finish: for each call the first of its numbers, in 01's order, whose condition holds. Assumes nothing.
 use Prim.Native.Nat.{ℕ, _+_, _*_}
 use mathlib.Core.Bool.{Bool, true, false, not, _&&_, _||_}
-use mathlib.Core.List.{[], _∷_}
+use mathlib.Core.List.{List, [], _∷_}
 use lib.ListN.{length}
 use lib.Dec.{ltb, eqb}
 use lib.Ieee.{Float}
@@ -38,22 +38,27 @@ factorRefused n size rank = anyOf (ltb mostWagons n ∷ not (eqb size (n + 1)) �
 unfoldable pub factorShort : ℕ → ℕ → ℕ → ℕ → Bool
 factorShort n size rank lent = short (factorRefused n size rank) (size * rank) lent
 
--- 33: run record and table disagree in size, and what else a record can't be
-unfoldable pub recordRefused : Run → ℕ → Bool
-recordRefused run n =
-    anyOf
-    (not (eqb (run .size) (n + 1))
-    ∷ eqb (run .rank) 0
+-- 33 of the record alone: its rank, its sweeps done, its status
+abbrev pub ownFaults : Run → List Bool
+ownFaults run =
+    eqb (run .rank) 0
     ∷ ltb mostRank (run .rank)
     ∷ ltb (run .most) (run .sweeps)
     ∷ (not (isStopped (run .stage)) && eqb (run .sweeps) (run .most))
     ∷ ltb 2 (run .status)
     ∷ (not (isStopped (run .stage)) && not (eqb (run .status) 0))
-    ∷ [])
+    ∷ []
+
+unfoldable pub ownRefused : Run → Bool
+ownRefused run = anyOf (ownFaults run)
+
+-- 33: run record and table disagree in size, or that
+unfoldable pub recordRefused : Run → ℕ → Bool
+recordRefused run n = anyOf (not (eqb (run .size) (n + 1)) ∷ ownFaults run)
 
 -- 13 to 16, of the table given
-abbrev pub tableNumber : CostTable → ℕ
-tableNumber t = hallNumber mostWagons mostEntries mostMagnitude (t .n) (quadratic t) (linear t)
+abbrev pub costTableNumber : CostTable → ℕ
+costTableNumber t = hallNumber mostWagons mostEntries mostMagnitude (t .n) (quadratic t) (linear t)
 
 -- 18 of a record's rule: only rule 4 has a momentum
 abbrev pub badMomentum : StepRule → Bool
@@ -73,7 +78,7 @@ sweepNumber run t factor =
     (31 if sweepShort run t factor
     ∷ 32 if isStopped (run .stage)
     ∷ 33 if recordRefused run (t .n)
-    ∷ tableNumber t
+    ∷ costTableNumber t
     ∷ 18 if badMomentum (run .rule)
     ∷ [])
 
@@ -115,7 +120,7 @@ finishNumber run t width drawCount lent =
     (31 if finishShort run t drawCount lent
     ∷ 32 if not (isStopped (run .stage))
     ∷ 33 if recordRefused run (t .n)
-    ∷ tableNumber t
+    ∷ costTableNumber t
     ∷ 18 if badMomentum (run .rule)
     ∷ 19 if widthRefused width drawCount
     ∷ [])
@@ -143,7 +148,7 @@ unfoldable pub openNumber : CostTable → ℕ → ℕ → Float → ℕ → ℕ 
 openNumber t rank rule number most start numbers factor =
     first
     (31 if openShort t rank most start numbers factor
-    ∷ tableNumber t
+    ∷ costTableNumber t
     ∷ 17 if openRankRefused rank start
     ∷ 18 if ruleRefused rule number
     ∷ 19 if ltb 2 start

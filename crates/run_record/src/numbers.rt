@@ -3,7 +3,7 @@ ghost use mathlib.Core.Path.{_≡_};
 ghost use mathlib.Core.Bool.{false};
 ghost use Rattle.run_record.specs.CostTable.{costTable};
 ghost use Rattle.run_record.specs.Lengths.{lengthsOf};
-ghost use Rattle.run_record.specs.Numbers.{tableShort, recordRefused, tableNumber, badMomentum, sweepNumber, drawsRefused, widthRefused, finishNumber, ruleRefused, openNumber};
+ghost use Rattle.run_record.specs.Numbers.{tableShort, ownRefused, recordRefused, costTableNumber, badMomentum, sweepNumber, drawsRefused, widthRefused, finishNumber, ruleRefused, openNumber};
 use super::Run;
 use super::is_stopped;
 use super::lengths::FinishSlices;
@@ -19,17 +19,10 @@ use run_limits::is_momentum;
 use step_rules::StepRule;
 use tables::limits;
 
-// Whether no run of n wagons can have this record.
-fn record_refused(run: Run, n: usize) -> bool
-    ensures { λ r. ⌜ r ≡ recordRefused run n ⌝ }
+// Whether no run of any size can have this record.
+fn own_refused(run: Run) -> bool
+    ensures { λ r. ⌜ r ≡ ownRefused run ⌝ }
 {
-    let size = run.size;
-    if size == 0 {
-        return true;
-    }
-    if size - 1 != n {
-        return true;
-    }
     if run.rank == 0 {
         return true;
     }
@@ -49,10 +42,24 @@ fn record_refused(run: Run, n: usize) -> bool
     open_and(stage, run.status != 0)
 }
 
+// Whether no run of n wagons can have this record.
+fn record_refused(run: Run, n: usize) -> bool
+    ensures { λ r. ⌜ r ≡ recordRefused run n ⌝ }
+{
+    let size = run.size;
+    if size == 0 {
+        return true;
+    }
+    if size - 1 != n {
+        return true;
+    }
+    own_refused(run)
+}
+
 // 13 to 16, of a table whose slices are long enough.
 fn table_number(n: usize, count: usize, rows: &[u16], cols: &[u16], values: &[i64], c: &[i64]) -> u8
     requires { ⌜ tableShort (costTable n count (now rows) (now cols) (now values) (now c)) ≡ false ⌝ }
-    ensures { λ r. ⌜ r ≡ tableNumber (costTable n count (now (rows .entry)) (now (cols .entry)) (now (values .entry)) (now (c .entry))) ⌝ }
+    ensures { λ r. ⌜ r ≡ costTableNumber (costTable n count (now (rows .entry)) (now (cols .entry)) (now (values .entry)) (now (c .entry))) ⌝ }
 {
     tables::check::hall_number(
         limits::MOST_WAGONS,

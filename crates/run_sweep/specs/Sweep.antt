@@ -17,8 +17,8 @@ use Rattle.run_sweep.specs.Work.{Work}
 unfoldable pub checkDue : ℕ → ℕ → ℕ → Bool
 checkDue sweeps minimum most = anyOf (eqb sweeps 1 ∷ eqb sweeps minimum ∷ eqb sweeps most ∷ eqb (sweeps % 20) 0 ∷ [])
 
-abbrev pub magnitude : Float → Float
-magnitude x = cond (lt x zero64) (neg x) x
+abbrev pub absolute : Float → Float
+absolute x = cond (lt x zero64) (neg x) x
 
 -- the status with which a check stops the run, 0 where it goes on: 1 for a small residual from the minimum on; for a rule that tests the
 -- objective 1 for a small change, 2 for a rise
@@ -26,7 +26,7 @@ unfoldable pub stopStatus : Bool → Float → Bool → Float → Float → ℕ
 stopStatus tests tolerance settled previous new =
     first
     (1 if settled
-    ∷ 1 if (tests && lt (magnitude (new -ᶠ previous)) tolerance)
+    ∷ 1 if (tests && lt (absolute (new -ᶠ previous)) tolerance)
     ∷ 2 if (tests && lt previous new)
     ∷ [])
 

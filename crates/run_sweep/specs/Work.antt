@@ -22,8 +22,8 @@ unfoldable pub workOf : Table → ℕ → Work
 workOf q m = work (workRows q) (workCols q) (workValues q) (workStarts q m)
 
 -- of (H, c)
-abbrev pub signsOf : CostTable → Table
-signsOf t = signTable (t .n) (quadratic t) (linear t)
+abbrev pub signTableOf : CostTable → Table
+signTableOf t = signTable (t .n) (quadratic t) (linear t)
 
 unfoldable pub callWork : CostTable → Work
-callWork t = workOf (signsOf t) (t .n + 1)
+callWork t = workOf (signTableOf t) (t .n + 1)

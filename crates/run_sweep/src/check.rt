@@ -8,7 +8,7 @@ ghost use lib.ListN.{length};
 ghost use Rattle.factor.specs.Shapes.{Shaped};
 ghost use Rattle.step_rules.specs.Rule.{testsObjective};
 ghost use Rattle.run_sweep.specs.Work.{work};
-ghost use Rattle.run_sweep.specs.Sweep.{checkDue, magnitude, stopStatus, stageAfter, statusAfter, advanced, runAfter};
+ghost use Rattle.run_sweep.specs.Sweep.{checkDue, absolute, stopStatus, stageAfter, statusAfter, advanced, runAfter};
 use run_record::Run;
 use run_record::Stage;
 
@@ -29,8 +29,8 @@ fn check_due(sweeps: u32, minimum: u32, most: u32) -> bool
 }
 
 // The absolute value.
-fn magnitude(x: f64) -> f64
-    ensures { λ r. ⌜ r ≡ magnitude x ⌝ }
+fn absolute(x: f64) -> f64
+    ensures { λ r. ⌜ r ≡ absolute x ⌝ }
 {
     if x < 0.0 { -x } else { x }
 }
@@ -43,7 +43,7 @@ fn stop_status(tests: bool, tolerance: f64, settled: bool, previous: f64, new: f
         return 1;
     }
     if tests {
-        if magnitude(new - previous) < tolerance {
+        if absolute(new - previous) < tolerance {
             return 1;
         }
         if previous < new { 2 } else { 0 }

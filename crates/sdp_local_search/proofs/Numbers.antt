@@ -2,63 +2,47 @@
 use Prim.Native.Nat.{ℕ, _≤_}
 use native.Mathlib.Omega.{arith}
 use borrow.Author.Tests.{ltb-false, le-ltb}
-use mathlib.Core.Bool.{Bool, true, false}
+use mathlib.Core.Bool.{Bool, false}
 use mathlib.Core.List.{List}
 use mathlib.Core.Path.{_≡_, refl}
-use lib.Dec.{ltb}
 use lib.IntN.{ℤ}
 use lib.ListN.{length}
-use Rattle.laws.specs.Refusal.{short}
 use Rattle.laws.proofs.Any.{any-head, any-rest}
 use Rattle.laws.proofs.Refusal.{first-head, first-rest, clear}
 use Rattle.tables.specs.Table.{Table, tableOf, Lent}
 use Rattle.tables.specs.Check.{Accepted}
-use Rattle.tables.proofs.Checks.{table-accepted}
-use Rattle.sign_search.specs.Contracts.{Sound, Room}
+use Rattle.tables.proofs.Checks.{long-enough, table-lent, table-accepted}
+use Rattle.run_limits.specs.Limits.{searchWorkspace}
+use Rattle.sign_search.specs.Contracts.{Sound}
 use Rattle.sign_search.proofs.Theorems.{accepted-mirrors}
 use Rattle.sign_search.proofs.TurnLaws.{rising-climbs}
 use Rattle.sdp_local_search.specs.BeamSearch.{Limits, baseLimits, searchShort, searchRefusal}
 
-short-fits : (refused : Bool) (needed lent : ℕ) → short refused needed lent ≡ false → refused ≡ false → needed ≤ lent
-unfolding short
-short-fits true needed lent e r = let no : true ≡ false = r in cc-absurd no
-  where
-    cc-absurd : true ≡ false → needed ≤ lent
-    cc-absurd e = let z : _≡_ {A = ℕ} 0 1 = cc in absurd (omega arith)
-short-fits false needed lent e r = ltb-false lent needed e
-
 -- the slices are long enough for what is in range
-pub record Long (most : Limits) (m count rows cols values start out workspace : ℕ) : Type 0 where
-  pub rows-long : count ≤ most .entries → count ≤ rows
-  pub cols-long : count ≤ most .entries → count ≤ cols
-  pub values-long : count ≤ most .entries → count ≤ values
+pub record Long (most : Limits) (m count : ℕ) (rows cols : List ℕ) (values : List ℤ) (start out workspace : ℕ) : Type 0 where
+  pub table-long : count ≤ most .entries → Lent count rows cols values
   pub start-long : m ≤ most .signs → m ≤ start
   pub out-long : m ≤ most .signs → m ≤ out
   pub workspace-long : most .workspace ≤ workspace
 
-pub slices-long : (most : Limits) (m count rows cols values start out workspace : ℕ) → searchShort most m count rows cols values start out workspace ≡ false
+pub slices-long : {most : Limits} {m count : ℕ} {rows cols : List ℕ} {values : List ℤ} {start out workspace : ℕ}
+    → searchShort most m count (length rows) (length cols) (length values) start out workspace ≡ false
     → Long most m count rows cols values start out workspace
 unfolding searchShort
-slices-long most m count rows cols values start out workspace e =
+slices-long {most = most} {m = m} e =
     let e₁ = any-rest _ _ e in
     let e₂ = any-rest _ _ e₁ in
     let e₃ = any-rest _ _ e₂ in
-    let e₄ = any-rest _ _ e₃ in
-    let e₅ = any-rest _ _ e₄ in
     record {
-      rows-long = λ h. short-fits (ltb (most .entries) count) count rows (any-head _ _ e) (le-ltb (most .entries) count h);
-      cols-long = λ h. short-fits (ltb (most .entries) count) count cols (any-head _ _ e₁) (le-ltb (most .entries) count h);
-      values-long = λ h. short-fits (ltb (most .entries) count) count values (any-head _ _ e₂) (le-ltb (most .entries) count h);
-      start-long = λ h. short-fits (ltb (most .signs) m) m start (any-head _ _ e₃) (le-ltb (most .signs) m h);
-      out-long = λ h. short-fits (ltb (most .signs) m) m out (any-head _ _ e₄) (le-ltb (most .signs) m h);
-      workspace-long = short-fits false (most .workspace) workspace (any-head _ _ e₅) refl;
+      table-long = λ h. table-lent (any-head _ _ e) h;
+      start-long = λ h. long-enough (any-head _ _ e₁) (le-ltb (most .signs) m h);
+      out-long = λ h. long-enough (any-head _ _ e₂) (le-ltb (most .signs) m h);
+      workspace-long = long-enough (any-head _ _ e₃) refl;
     }
 
-pub lent-table : (rows cols : List ℕ) (values : List ℤ) (m count start out workspace : ℕ)
+pub search-lent : (m : ℕ) {count : ℕ} {rows cols : List ℕ} {values : List ℤ} (start out workspace : ℕ)
     → searchShort baseLimits m count (length rows) (length cols) (length values) start out workspace ≡ false → count ≤ 4478 → Lent count rows cols values
-lent-table rows cols values m count start out workspace e h =
-    let l = slices-long baseLimits m count (length rows) (length cols) (length values) start out workspace e in
-    record { rows-there = l .rows-long h; cols-there = l .cols-long h; values-there = l .values-long h }
+search-lent m start out workspace e h = slices-long e .table-long h
 
 -- where no number applies
 module _ (most : Limits) (m width : ℕ) (tooShort : Bool) (t : Table) (e : searchRefusal most m width tooShort t ≡ 0) where
@@ -74,26 +58,30 @@ module _ (most : Limits) (m width : ℕ) (tooShort : Bool) (t : Table) (e : sear
   unfolding searchRefusal
   narrow = ltb-false (most .width) width (clear _ 18 (first-head _ _ (first-rest _ _ (first-rest _ _ e))))
 
--- what the search then asks
-module _ (m count : ℕ) (rows cols : List ℕ) (values : List ℤ) (width start out workspace : ℕ)
-    (e : searchRefusal baseLimits m width (searchShort baseLimits m count (length rows) (length cols) (length values) start out workspace) (tableOf count rows cols values) ≡ 0) where
-  ok : Accepted 128 4478 4398046511104 m (tableOf count rows cols values)
-  ok = accepted-table baseLimits m width _ (tableOf count rows cols values) e
-
-  long : Long baseLimits m count (length rows) (length cols) (length values) start out workspace
-  long = slices-long baseLimits m count (length rows) (length cols) (length values) start out workspace (not-short baseLimits m width _ (tableOf count rows cols values) e)
-
-  pub call-lent : Lent count rows cols values
-  call-lent = record { rows-there = long .rows-long (ok .entries); cols-there = long .cols-long (ok .entries); values-there = long .values-long (ok .entries) }
-
-  pub call-sound : Sound m (tableOf count rows cols values)
-  call-sound = record { mirrors = accepted-mirrors ok; climbs = rising-climbs (tableOf count rows cols values) (ok .rising); small = ok .magnitude }
-
-  pub call-room : Room 128 m width workspace
-  call-room = record { signs-few = ok .signs; width-few = narrow baseLimits m width _ (tableOf count rows cols values) e; level-room = omega (arith, long .workspace-long) }
-
+-- what the search then asks, of a call with slices of these lengths
+pub record Ready (m count : ℕ) (rows cols : List ℕ) (values : List ℤ) (width start out workspace : ℕ) : Type 0 where
+  pub lent : Lent count rows cols values
+  pub sound : Sound m (tableOf count rows cols values)
+  pub signs-few : m ≤ 128
+  pub width-few : width ≤ 128
   pub start-there : m ≤ start
-  start-there = long .start-long (ok .signs)
-
   pub out-there : m ≤ out
-  out-there = long .out-long (ok .signs)
+  pub workspace-there : searchWorkspace ≤ workspace
+
+pub call-ready : (m count : ℕ) (rows cols : List ℕ) (values : List ℤ) (width start out workspace : ℕ)
+    → searchRefusal baseLimits m width (searchShort baseLimits m count (length rows) (length cols) (length values) start out workspace) (tableOf count rows cols values) ≡ 0
+    → Ready m count rows cols values width start out workspace
+call-ready m count rows cols values width start out workspace e =
+    let t = tableOf count rows cols values in
+    let tooShort = searchShort baseLimits m count (length rows) (length cols) (length values) start out workspace in
+    let ok = accepted-table baseLimits m width tooShort t e in
+    let long : Long baseLimits m count rows cols values start out workspace = slices-long (not-short baseLimits m width tooShort t e) in
+    record {
+      lent = long .table-long (ok .entries);
+      sound = record { mirrors = accepted-mirrors ok; climbs = rising-climbs t (ok .rising); small = ok .magnitude };
+      signs-few = ok .signs;
+      width-few = narrow baseLimits m width tooShort t e;
+      start-there = long .start-long (ok .signs);
+      out-there = long .out-long (ok .signs);
+      workspace-there = long .workspace-long;
+    }

@@ -19,7 +19,7 @@ use Rattle.sdp_local_search.specs.BeamSearch.{baseLimits, signByte, sign
 use Rattle.sdp_local_search.specs.Call.{callNumber, BeamSearches}
 use Rattle.sdp_local_search.specs.declared.BeamSearched.{BeamSearched}
 use Rattle.sdp_local_search.specs.declared.BeamSearched.the-variants.{Found as Answer}
-use Rattle.sdp_local_search.proofs.Numbers.{call-sound}
+use Rattle.sdp_local_search.proofs.Numbers.{call-ready}
 
 -- ---- bytes 0 and 1
 
@@ -62,7 +62,7 @@ module _ {m count : ℕ} {rows cols : List ℕ} {values : List ℤ} {width : ℕ
   table = tableOf count rows cols values
 
   mirrors : Mirrors m table
-  mirrors = call-sound m count rows cols values width (length start) (length out) (length workspace) none .mirrors
+  mirrors = call-ready m count rows cols values width (length start) (length out) (length workspace) none .sound .mirrors
 
   abbrev found : Found (List ℕ)
   found = beamSearch table width (signBytes m start)
@@ -70,12 +70,12 @@ module _ {m count : ℕ} {rows cols : List ℕ} {values : List ℤ} {width : ℕ
   -- the signs lent out
   lent-out : take m out′ ≡ found .answer
   lent-out =
-      ap (take m) (call .accepted none .writes)
+      ap (take m) (call .writes none)
       ∙ take-at (found .answer) (drop (length (found .answer)) out) m (answer-long mirrors (signBytes m start) (start-long m start) width some)
 
   -- their objective is the one answered, with the rounds
   pub call-answers : r ≡ Answer (objectiveIn table (take m out′)) (found .rounds)
-  call-answers = call .accepted none .answers ∙ ap (λ (x : List ℕ). Answer (objectiveIn table x) (found .rounds)) (sym lent-out)
+  call-answers = call .answers none ∙ ap (λ (x : List ℕ). Answer (objectiveIn table x) (found .rounds)) (sym lent-out)
 
   -- each is 0 or 1
   pub call-bits : Bits (take m out′)

@@ -7,7 +7,7 @@ use Rattle.laws.specs.Lists.{elem, tabulate}
 use Rattle.laws.specs.Refusal.{_if_, first, anyOf, short}
 use Rattle.run_limits.specs.Limits.{mostWidth, searchWorkspace}
 use Rattle.tables.specs.Table.{Table}
-use Rattle.tables.specs.Check.{tableNumber}
+use Rattle.tables.specs.Check.{shortTable, tableNumber}
 
 -- what a call takes at most: signs, entries, the sum of the absolute values, width; and the bytes of workspace that it asks
 pub record Limits : Type 0 where
@@ -24,9 +24,7 @@ baseLimits = record { signs = 128; entries = 4478; magnitude = 2 ^ 42; width = m
 unfoldable pub searchShort : Limits → ℕ → ℕ → ℕ → ℕ → ℕ → ℕ → ℕ → ℕ → Bool
 searchShort most m count rows cols values start out workspace =
     anyOf
-    (short (ltb (most .entries) count) count rows
-    ∷ short (ltb (most .entries) count) count cols
-    ∷ short (ltb (most .entries) count) count values
+    (shortTable (most .entries) count rows cols values
     ∷ short (ltb (most .signs) m) m start
     ∷ short (ltb (most .signs) m) m out
     ∷ short false (most .workspace) workspace

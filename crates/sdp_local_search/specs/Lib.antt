@@ -1,3 +1,2 @@
 pub mod BeamSearch
-pub mod Accepted
 pub mod Call

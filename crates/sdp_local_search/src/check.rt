@@ -1,11 +1,11 @@
 // The numbers of the call: 31, 13 to 16, 19. Nothing is written.
 use run_limits::MOST_WIDTH;
 use run_limits::SEARCH_WORKSPACE;
+use tables::check::short_table;
 use tables::check::table_number;
+use tables::check::too_short;
 ghost use mathlib.Core.Path.{_≡_};
 ghost use lib.ListN.{length};
-ghost use lib.Dec.{ltb};
-ghost use Rattle.laws.specs.Refusal.{short};
 ghost use Rattle.tables.specs.Table.{tableOf};
 ghost use Rattle.sdp_local_search.specs.BeamSearch.{baseLimits, searchShort, searchRefusal};
 
@@ -15,54 +15,29 @@ const MOST_ENTRIES: usize = 4478;
 
 const MOST_MAGNITUDE: u64 = 4398046511104;
 
-// Whether x is above its limit.
-fn above(limit: usize, x: usize) -> bool
-    ensures { λ r. ⌜ r ≡ ltb limit x ⌝ }
-{
-    limit < x
-}
-
-// Whether fewer are lent than are needed, where what is needed rests on no refused number.
-fn is_short(refused: bool, needed: usize, lent: usize) -> bool
-    ensures { λ r. ⌜ r ≡ short refused needed lent ⌝ }
-{
-    if refused {
-        return false;
-    }
-    lent < needed
-}
-
-// Whether a slice is too short.
-fn slices_short(
+// 31: a slice is too short; the lengths are those of the slices behind the table's.
+fn search_short(
     m: usize,
     count: usize,
-    rows: usize,
-    cols: usize,
-    values: usize,
+    rows: &[u16],
+    cols: &[u16],
+    values: &[i64],
     start: usize,
     out: usize,
     workspace: usize,
 ) -> bool
-    ensures { λ r. ⌜ r ≡ searchShort baseLimits m count rows cols values start out workspace ⌝ }
+    ensures { λ r. ⌜ r ≡ searchShort baseLimits m count (length (now (rows .entry))) (length (now (cols .entry))) (length (now (values .entry))) start out workspace ⌝ }
 {
-    let entries = above(MOST_ENTRIES, count);
-    let signs = above(MOST_SIGNS, m);
-    if is_short(entries, count, rows) {
+    if short_table(MOST_ENTRIES, count, rows, cols, values) {
         return true;
     }
-    if is_short(entries, count, cols) {
+    if too_short(MOST_SIGNS < m, m, start) {
         return true;
     }
-    if is_short(entries, count, values) {
+    if too_short(MOST_SIGNS < m, m, out) {
         return true;
     }
-    if is_short(signs, m, start) {
-        return true;
-    }
-    if is_short(signs, m, out) {
-        return true;
-    }
-    is_short(false, SEARCH_WORKSPACE, workspace)
+    too_short(false, SEARCH_WORKSPACE, workspace)
 }
 
 // The first number that applies; the lengths are those of the other slices.
@@ -79,16 +54,7 @@ pub fn search_refusal(
 ) -> u8
     ensures { λ r. ⌜ r ≡ searchRefusal baseLimits m width (searchShort baseLimits m count (length (now (rows .entry))) (length (now (cols .entry))) (length (now (values .entry))) start out workspace) (tableOf count (now (rows .entry)) (now (cols .entry)) (now (values .entry))) ⌝ }
 {
-    if slices_short(
-        m,
-        count,
-        rows.len(),
-        cols.len(),
-        values.len(),
-        start,
-        out,
-        workspace,
-    ) {
+    if search_short(m, count, rows, cols, values, start, out, workspace) {
         return 31;
     }
     let table = table_number(

@@ -3,7 +3,8 @@ mod check;
 mod signs;
 
 use crate::check::search_refusal;
-use crate::signs::search_accepted;
+use crate::signs::search_from;
+use run_limits::SEARCH_WORKSPACE;
 ghost use Rattle.sdp_local_search.specs.BeamSearch.{baseLimits};
 ghost use Rattle.sdp_local_search.specs.Call.{BeamSearches};
 
@@ -14,7 +15,7 @@ pub enum BeamSearched {
 }
 
 // 01's local search from the first m signs of `start`, of which any byte but 0 is −. The signs of the answer go to `out`, as 0 and 1.
-// The workspace is 16,384 bytes at least.
+// The workspace is 16,384 bytes at least; a longer one keeps its tail.
 pub fn beam_search(
     m: usize,
     count: usize,
@@ -42,6 +43,15 @@ pub fn beam_search(
     if refusal != 0 {
         return BeamSearched::Refused(refusal);
     }
-    let found = search_accepted(m, count, rows, cols, values, width, start, out, workspace);
+    let found = search_from(
+        count,
+        rows,
+        cols,
+        values,
+        width,
+        start,
+        &mut out[0..m],
+        &mut workspace[0..SEARCH_WORKSPACE],
+    );
     BeamSearched::Found(found.least, found.rounds)
 }

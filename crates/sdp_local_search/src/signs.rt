@@ -5,9 +5,8 @@ ghost use mathlib.Core.Path.{_≡_};
 ghost use Prim.Native.Nat.{_≤_};
 ghost use lib.ListN.{length};
 ghost use Rattle.tables.specs.Table.{tableOf, Lent};
-ghost use Rattle.sign_search.specs.Contracts.{Sound, Room, Found-by};
+ghost use Rattle.sign_search.specs.Contracts.{Sound, LevelRoom, Found-by};
 ghost use Rattle.sdp_local_search.specs.BeamSearch.{signByte, signBytes};
-ghost use Rattle.sdp_local_search.specs.Accepted.{FoundInto};
 
 // A sign as 0 or 1: any byte but 0 is 1.
 fn sign_byte(x: u8) -> u8
@@ -17,7 +16,7 @@ fn sign_byte(x: u8) -> u8
 }
 
 // The first signs of `start`, as many as `kept` holds, each as 0 or 1.
-fn copy_signs(start: &[u8], kept: &mut [u8])
+fn read_signs(start: &[u8], kept: &mut [u8])
     requires { ⌜ length (now kept) ≤ length (now start) ⌝ }
     ensures { λ _. ⌜ now (kept .exit) ≡ signBytes (length (now (kept .entry))) (now (start .entry)) ⌝ }
 {
@@ -28,8 +27,8 @@ fn copy_signs(start: &[u8], kept: &mut [u8])
     }
 }
 
-// Searches from the start's signs, in as many bytes as there are signs.
-fn search_from(
+// Searches from the first signs of `start`, as many as `kept` holds, which takes the answer's.
+pub fn search_from(
     count: usize,
     rows: &[u16],
     cols: &[u16],
@@ -39,36 +38,9 @@ fn search_from(
     kept: &mut [u8],
     workspace: &mut [u8],
 ) -> Searched
-    requires { ⌜ Room 128 (length (now kept)) width (length (now workspace)) × Sound (length (now kept)) (tableOf count (now rows) (now cols) (now values)) × Lent count (now rows) (now cols) (now values) × (length (now kept) ≤ length (now start)) ⌝ }
+    requires { ⌜ LevelRoom 128 (length (now kept)) width (length (now workspace)) × Sound (length (now kept)) (tableOf count (now rows) (now cols) (now values)) × Lent count (now rows) (now cols) (now values) × (length (now kept) ≤ length (now start)) ⌝ }
     ensures { λ r. ⌜ Found-by (tableOf count (now (rows .entry)) (now (cols .entry)) (now (values .entry))) width (signBytes (length (now (kept .entry))) (now (start .entry))) (r .least) (r .rounds) (now (kept .exit)) ⌝ }
 {
-    copy_signs(start, kept);
+    read_signs(start, kept);
     search_signs(count, rows, cols, values, width, kept, workspace)
-}
-
-// Searches from the first m signs of `start`; the answer's signs go to the first m bytes of `out`.
-pub fn search_accepted(
-    m: usize,
-    count: usize,
-    rows: &[u16],
-    cols: &[u16],
-    values: &[i64],
-    width: usize,
-    start: &[u8],
-    out: &mut [u8],
-    workspace: &mut [u8],
-) -> Searched
-    requires { ⌜ Room 128 m width (length (now workspace)) × Sound m (tableOf count (now rows) (now cols) (now values)) × Lent count (now rows) (now cols) (now values) × (m ≤ length (now start)) × (m ≤ length (now out)) ⌝ }
-    ensures { λ r. ⌜ FoundInto (tableOf count (now (rows .entry)) (now (cols .entry)) (now (values .entry))) width (signBytes m (now (start .entry))) (r .least) (r .rounds) (now (out .entry)) (now (out .exit)) ⌝ }
-{
-    search_from(
-        count,
-        rows,
-        cols,
-        values,
-        width,
-        start,
-        &mut out[0..m],
-        workspace,
-    )
 }

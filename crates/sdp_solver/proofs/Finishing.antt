@@ -1,12 +1,14 @@
 -- An accepted finish's answer, put together from the figures that `finalize` gave. Assumes nothing.
 use Prim.Native.Nat.{ℕ, suc, _+_, _*_}
-use mathlib.Core.List.{List}
-use mathlib.Core.Path.{_≡_, refl, sym, ap, subst}
+use mathlib.Core.List.{List, _++_}
+use mathlib.Core.Path.{_≡_, refl, sym, ap, _∙_, subst}
 use native.Mathlib.Numerals.{add-one}
 use lib.IntN.{ℤ}
 use lib.Ieee.{Float}
-use lib.ListN.{take}
+use lib.ListN.{length, take, drop}
+use lib.Seq.{length-take-le, drop-at}
 use Rattle.ieee.specs.Floats.{_+ᶠ_}
+use Rattle.run_limits.specs.Limits.{searchWorkspace}
 use Rattle.run_record.specs.declared.Run.{Run}
 use Rattle.run_record.specs.CostTable.{CostTable, quadratic, linear}
 use Rattle.run_record.specs.Numbers.{finishNumber}
@@ -14,16 +16,12 @@ use Rattle.finalize.specs.Contracts.{Finalizes}
 use Rattle.finalize.specs.Demand3.{Demand3}
 use Rattle.finalize.proofs.Demand3.{demand3}
 use Rattle.run_contract.specs.declared.FinishResult.{FinishResult}
-use Rattle.run_contract.specs.declared.Finished.{Finished}
-use Rattle.run_contract.specs.declared.Finished.the-variants.{Result, Refused}
+use Rattle.run_contract.specs.declared.Finished.the-variants.{Result}
 use Rattle.run_contract.specs.Calls.{used, finishLengths, finishResult, Finishes}
 use Rattle.run_contract.proofs.Accepting.{Finishable, finish-accepted}
+use Rattle.run_contract.proofs.Chains.{resultOr}
 
-abbrev resultOr : FinishResult → Finished → FinishResult
-resultOr other (Result x) = x
-resultOr other (Refused number) = other
-
-module _ (run : Run) (t : CostTable) (width drawCount : ℕ) (draws factor : List Float) (b : List ℕ) (dual : List Float) (workspace : List ℕ) {b′ : List ℕ} {dual′ : List Float} (workspace′ : List ℕ)
+module _ (run : Run) (t : CostTable) (width drawCount : ℕ) (draws factor : List Float) (b : List ℕ) (dual : List Float) (workspace : List ℕ) {b′ : List ℕ} {dual′ : List Float}
     {diagonal bound : Float} {floor rounded cost : ℤ} {rounds : ℕ}
     (ok : finishNumber run t width drawCount (finishLengths draws factor b dual workspace) ≡ 0)
     (f : Finalizes (t .n) (quadratic t) (linear t) (run .rank) width drawCount draws (take (suc (t .n) * run .rank) factor) b b′ dual dual′ diagonal bound floor rounded cost rounds) where
@@ -53,12 +51,15 @@ module _ (run : Run) (t : CostTable) (width drawCount : ℕ) (draws factor : Lis
   unfolding finishResult
   result-is = let g = figures in rw (g .diagonal-is, g .bound-is, g .floor-is, g .rounded-is, g .cost-is, g .rounds-are)
 
-  pub finishes : Finishes run t width drawCount draws factor b dual workspace (Result madeResult) b′ dual′ workspace′
-  finishes =
+  -- of the workspace the front alone was lent on
+  pub finishes : (front : List ℕ) → length front ≡ length (take searchWorkspace workspace)
+      → Finishes run t width drawCount draws factor b dual workspace (Result madeResult) b′ dual′ (front ++ drop searchWorkspace workspace)
+  finishes front e =
       record {
         numbered = sym ok;
         refused = λ n. absurd (n refl);
         accepted = λ z. (ap (λ (x : FinishResult). Result x) result-is, figures .choice-is, figures .multipliers-are);
+        kept = drop-at front (drop searchWorkspace workspace) searchWorkspace (e ∙ length-take-le searchWorkspace workspace (accepted .fits .space-room));
         demand-3 = λ x e w.
             subst (λ (x : FinishResult). Demand3 (t .n) (quadratic t) (linear t) (run .rank) (take (used run) factor) draws drawCount width b′ (x .floor) (x .«rounded_cost») (x .cost) (x .rounds))
             (ap (resultOr madeResult) e) (demand3 (accepted .hall) (run .rank) _ _ _ _ w figures);

@@ -14,7 +14,7 @@ use Rattle.initialize.specs.Initialize.{startBy, startWithin}
 use Rattle.maxcut_oracle.specs.Table.{workObjective}
 use Rattle.run_record.specs.declared.Stage.{Stage}
 use Rattle.run_record.specs.declared.Run.{Run}
-use Rattle.run_sweep.specs.Work.{signsOf}
+use Rattle.run_sweep.specs.Work.{signTableOf}
 use Rattle.run_contract.specs.Calls.{Settings, openSize, openRank, firstStage, startFactor, openRun, openNumberOf}
 use Rattle.run_contract.proofs.Accepting.{open-accepted}
 use Rattle.run_contract.proofs.Lengths.{length-start}
@@ -56,10 +56,10 @@ module _ (o : Settings) (factor : List Float) (ok : openNumberOf o (length facto
     started d e = e ∙ rw (d, m) start-at
 
     pub opened : {rule : StepRule} {last : Float} {stage : Stage} (factor′ : List Float) → factor′ ≡ over (startFactor o) factor
-        → rule ≡ ruleOf (o .rule) (o .number) → stage ≡ firstStage (o .most) → last ≡ workObjective (signsOf (o .table)) meant (take (openSize o * meant) factor′)
+        → rule ≡ ruleOf (o .rule) (o .number) → stage ≡ firstStage (o .most) → last ≡ workObjective (signTableOf (o .table)) meant (take (openSize o * meant) factor′)
         → madeRun o meant rule last stage ≡ openRun o
     unfolding openRun
     opened factor′ f r s l =
         let front : take (openSize o * openRank o) factor′ ≡ startFactor o = ap (take (openSize o * openRank o)) f ∙ take-at (startFactor o) _ _ start-long in
-        let last-is = l ∙ ap (λ k. workObjective (signsOf (o .table)) k (take (openSize o * k) factor′)) m ∙ ap (workObjective (signsOf (o .table)) (openRank o)) front in
+        let last-is = l ∙ ap (λ k. workObjective (signTableOf (o .table)) k (take (openSize o * k) factor′)) m ∙ ap (workObjective (signTableOf (o .table)) (openRank o)) front in
         rw (r, s, last-is, m)

@@ -11,13 +11,13 @@ use Rattle.tables.specs.Limits.{mostSigns, mostSignEntries, mostSignMagnitude}
 use Rattle.tables.specs.Table.{InRange}
 use Rattle.tables.specs.Check.{Accepted}
 use Rattle.factor.specs.Shapes.{Shaped, ObjFits}
-use Rattle.sign_table.proofs.Theorems.{house-sign-table}
+use Rattle.sign_table.proofs.Theorems.{hall-sign-table}
 use Rattle.prepared_table.proofs.Preparing as preparing
 use Rattle.prepared_table.proofs.Preparing.{work-front}
 use Rattle.maxcut_oracle.specs.Objective.{objOf}
 use Rattle.maxcut_oracle.specs.Table.{workObjective}
 use Rattle.run_record.specs.CostTable.{CostTable}
-use Rattle.run_sweep.specs.Work.{Work, work, workOf, signsOf, callWork}
+use Rattle.run_sweep.specs.Work.{Work, work, workOf, signTableOf, callWork}
 use Rattle.sdp_solver.specs.Usable.{Usable}
 
 pub record Cut (t : CostTable) (stay : ℕ) (rows cols : List ℕ) (values : List Float) (starts : List ℕ) : Type 0 where
@@ -28,36 +28,36 @@ pub record Cut (t : CostTable) (stay : ℕ) (rows cols : List ℕ) (values : Lis
   pub is : work (take stay rows) (take stay cols) (take stay values) (take (t .n + 2) starts) ≡ callWork t
 
 module _ {t : CostTable} (u : Usable t) where
-  accepted : Accepted mostSigns mostSignEntries mostSignMagnitude (suc (t .n)) (signsOf t)
-  accepted = house-sign-table (u .hall)
+  accepted : Accepted mostSigns mostSignEntries mostSignMagnitude (suc (t .n)) (signTableOf t)
+  accepted = hall-sign-table (u .hall)
 
-  in-range : InRange (t .n + 1) (signsOf t)
+  in-range : InRange (t .n + 1) (signTableOf t)
   in-range = rw (add-one (t .n)) (accepted .in-range)
 
   work-few : length (callWork t .rows) ≤ mostSignEntries
   unfolding callWork workOf
-  work-few = omega (arith, preparing.length-workRows (signsOf t), accepted .entries)
+  work-few = omega (arith, preparing.length-workRows (signTableOf t), accepted .entries)
 
   same-cols : length (callWork t .cols) ≡ length (callWork t .rows)
   unfolding callWork workOf
-  same-cols = preparing.length-workCols (signsOf t)
+  same-cols = preparing.length-workCols (signTableOf t)
 
   same-values : length (callWork t .values) ≡ length (callWork t .rows)
   unfolding callWork workOf
-  same-values = preparing.length-workValues (signsOf t)
+  same-values = preparing.length-workValues (signTableOf t)
 
   starts-many : length (callWork t .starts) ≡ t .n + 2
   unfolding callWork workOf
-  starts-many = omega (arith, preparing.length-workStarts (signsOf t) (t .n + 1))
+  starts-many = omega (arith, preparing.length-workStarts (signTableOf t) (t .n + 1))
 
   pub shaped : (rank : ℕ) (factor : List Float) → length factor ≡ (t .n + 1) * rank
       → Shaped (callWork t .cols) (callWork t .values) (callWork t .starts) factor (t .n + 1) rank
   unfolding callWork workOf
-  shaped rank factor l = preparing.work-shaped (signsOf t) (t .n + 1) factor rank in-range l
+  shaped rank factor l = preparing.work-shaped (signTableOf t) (t .n + 1) factor rank in-range l
 
   pub fits : (rank : ℕ) → ObjFits (callWork t .rows) (callWork t .cols) (callWork t .values) rank ((t .n + 1) * rank)
   unfolding callWork workOf
-  fits rank = preparing.work-fits (signsOf t) (t .n + 1) rank in-range
+  fits rank = preparing.work-fits (signTableOf t) (t .n + 1) rank in-range
 
   pub cut : {stay : ℕ} (rows cols : List ℕ) (values : List Float) (starts : List ℕ) {rows′ cols′ starts′ : List ℕ} {values′ : List Float}
       → (stay ≡ length (callWork t .rows)) × (rows′ ≡ over (callWork t .rows) rows) × (cols′ ≡ over (callWork t .cols) cols) × (values′ ≡ over (callWork t .values) values) × (starts′ ≡ over (callWork t .starts) starts)
@@ -90,6 +90,6 @@ module _ {t : CostTable} (u : Usable t) where
     pub cut-fits : (rank : ℕ) → ObjFits (take stay rows) (take stay cols) (take stay values) rank ((t .n + 1) * rank)
     cut-fits rank = subst (λ (w : Work). ObjFits (w .rows) (w .cols) (w .values) rank ((t .n + 1) * rank)) (sym (k .is)) (fits rank)
 
-    pub cut-objective : (rank : ℕ) (factor : List Float) → objOf (take stay rows) (take stay cols) (take stay values) factor rank ≡ workObjective (signsOf t) rank factor
+    pub cut-objective : (rank : ℕ) (factor : List Float) → objOf (take stay rows) (take stay cols) (take stay values) factor rank ≡ workObjective (signTableOf t) rank factor
     unfolding workObjective callWork workOf
     cut-objective rank factor = ap (λ (w : Work). objOf (w .rows) (w .cols) (w .values) factor rank) (k .is)

@@ -2,6 +2,7 @@
 use finalize::finalize;
 use run_contract::FinishResult;
 use run_contract::Finished;
+use run_limits::SEARCH_WORKSPACE;
 use run_record::Run;
 use run_record::lengths::FinishSlices;
 use run_record::numbers::finish_number;
@@ -47,7 +48,7 @@ pub fn finish_accepted(
         factor,
         b,
         dual_variables,
-        workspace,
+        &mut workspace[0..SEARCH_WORKSPACE],
     );
     FinishResult {
         status: run.status,

@@ -15,7 +15,7 @@ ghost use Prim.Native.Nat.{_+_, _*_};
 ghost use lib.ListN.{length};
 ghost use Rattle.maxcut_oracle.specs.Table.{workObjective};
 ghost use Rattle.run_record.specs.CostTable.{costTable};
-ghost use Rattle.run_sweep.specs.Work.{signsOf};
+ghost use Rattle.run_sweep.specs.Work.{signTableOf};
 ghost use Rattle.run_contract.specs.Calls.{firstStage, settingsOf, openNumberOf, Opens};
 ghost use Rattle.run_contract.specs.declared.Opened.the-variants.{Started};
 ghost use Rattle.sdp_solver.specs.Usable.{Usable};
@@ -43,7 +43,7 @@ fn first_objective(
     factor: &[f64],
 ) -> f64
     requires { ⌜ Usable (costTable n count (now rows) (now cols) (now values) (now c)) × (length (now factor) ≡ (n + 1) * rank) ⌝ }
-    ensures { λ r. ⌜ r ≡ workObjective (signsOf (costTable n count (now (rows .entry)) (now (cols .entry)) (now (values .entry)) (now (c .entry)))) rank (now (factor .entry)) ⌝ }
+    ensures { λ r. ⌜ r ≡ workObjective (signTableOf (costTable n count (now (rows .entry)) (now (cols .entry)) (now (values .entry)) (now (c .entry)))) rank (now (factor .entry)) ⌝ }
 {
     let mut work_rows = room::indices();
     let mut work_cols = room::indices();

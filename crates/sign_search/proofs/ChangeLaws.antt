@@ -7,31 +7,27 @@ use native.Mathlib.Omega.{arith}
 use borrow.Author.Tests.{eq-eqb, ne-eqb}
 use lib.Dec.{eqb}
 use mathlib.Core.Bool.{Bool, true, false, cond}
-use mathlib.Core.List.{List}
+use mathlib.Core.List.{List, [], _∷_}
 use mathlib.Core.Path.{_≡_, refl, sym, ap, ap₂, _∙_}
 use lib.IntN.{ℤ, pos, negsuc, negℤ, natAbs, _+ℤ_, _*ℤ_, +ℤ-idr, +ℤ-assoc}
-use lib.ListN.{length, getD, set, length-set}
-use lib.Seq.{getD-set-same, getD-set-other}
+use lib.ListN.{length, getD, set, drop, length-set}
+use lib.Seq.{getD-set-same, getD-set-other, drop-set-lt}
 use mir.Syntax.{w64}
 use mir.Val.{SFits}
+use Rattle.laws.specs.Lists.{fill}
+use Rattle.laws.specs.Rows.{mapFirst}
 use Rattle.laws.specs.Sum.{sum, total, only}
 use Rattle.tables.specs.Table.{Table, sign, signAt}
 use Rattle.tables.specs.Flip.{flipShare, flipTerm}
-use Rattle.laws.proofs.Integer.{parts, differences, ring, times-one, abs-add, abs-mul, fits-abs}
-use Rattle.laws.proofs.Sums.{sum-more, sum-bounded, total-le}
+use Rattle.laws.proofs.Integer.{parts, differences, ring, times-one, abs-add, abs-mul, abs-cond, fits-abs}
+use Rattle.laws.proofs.MapFirst.{getD-mapFirst, length-fill}
+use Rattle.laws.proofs.Sums.{only-zero, sum-more, sum-bounded, total-le}
 use Rattle.tables.proofs.Shares.{abs-sign, sign-vector}
 use Rattle.tables.proofs.Flips.{flip-entries}
 use Rattle.sign_search.specs.Search.{changeIn}
-use Rattle.sign_search.specs.Contracts.{Usable, Cleared, RowTurned, Summed, Changes}
+use Rattle.sign_search.specs.Contracts.{SumsFit, Cleared, RowTurned, Summed, Changes, changesOver}
 
 -- ---- one entry
-
-only-zero : (a b : ℕ) → only a b (pos 0) ≡ pos 0
-only-zero a b = go (eqb a b)
-  where
-    go : (t : Bool) → cond t (pos 0) (pos 0) ≡ pos 0
-    go true = refl
-    go false = refl
 
 module _ (i a j : ℕ) (x y v : ℤ) where
   flip-elsewhere : (i ≡ a → ⊥) → flipShare i a j x y v ≡ pos 0
@@ -45,10 +41,6 @@ module _ (i a j : ℕ) (x y v : ℤ) where
   flip-other : i ≡ a → (i ≡ j → ⊥) → flipShare i a j x y v ≡ negsuc 3 *ℤ v *ℤ x *ℤ y
   unfolding flipShare
   flip-other e d = rw (eq-eqb i a e, ne-eqb i j d)
-
-abs-cond : (b : Bool) (x y : ℤ) (n : ℕ) → natAbs x ≤ n → natAbs y ≤ n → natAbs (cond b x y) ≤ n
-abs-cond true x y n h k = h
-abs-cond false x y n h k = k
 
 pub abs-flip : (i a j s t : ℕ) (v : ℤ) → natAbs (flipShare i a j (sign s) (sign t) v) ≤ 4 * natAbs v
 unfolding flipShare
@@ -74,17 +66,49 @@ off-diagonal i j x y v d = regroup v (sign x) (sign y) ∙ sym (flip-other i i j
     regroup : (v a b : ℤ) → negsuc 3 *ℤ (v *ℤ a *ℤ b) ≡ negsuc 3 *ℤ v *ℤ a *ℤ b
     regroup v a b = rw (parts v, parts a, parts b) (simp differences (omega ring))
 
--- ---- cleared
+-- ---- a list written from the front
 
-pub cleared-none : (changes : List ℤ) → Cleared 0 changes
-cleared-none changes = record { zero-at = λ i h. absurd (omega arith) }
+pub cleared : (m : ℕ) (l l′ : List ℤ) → m ≤ length l → l′ ≡ fill (λ i. pos 0) m l → Cleared m l′
+cleared m l l′ room e = record { zero-at = λ i h. rw e (getD-mapFirst (λ j _. pos 0) m l i (pos 0) h (omega arith)) }
 
-pub cleared-more : (k : ℕ) (changes : List ℤ) → k < length changes → Cleared k changes → Cleared (k + 1) (set changes k (pos 0))
-cleared-more k changes room p = record { zero-at = λ i h. go i h (ℕ-discrete i k) }
+filled : (f : ℕ → ℤ) (m : ℕ) (l l′ : List ℤ) → m ≤ length l′ → length l′ ≡ length l → ((i : ℕ) → i < m → getD l′ i (pos 0) ≡ f i) → drop m l′ ≡ drop m l
+    → l′ ≡ fill f m l
+unfolding mapFirst
+filled f zero l l′ room e is tail = tail
+filled f (suc m) [] (y ∷ ys) room e is tail = let o : _≡_ {A = ℕ} (suc (length ys)) 0 = e in absurd (omega arith)
+filled f (suc m) (x ∷ xs) (y ∷ ys) room e is tail =
+    ap₂ _∷_ (is 0 (omega arith)) (filled (λ i. f (suc i)) m xs ys (omega arith) (omega arith) (λ i h. is (suc i) (omega arith)) tail)
+
+refilled : (f g : ℕ → ℤ) (m : ℕ) (l : List ℤ) → fill f m (fill g m l) ≡ fill f m l
+unfolding mapFirst
+refilled f g zero l = refl
+refilled f g (suc m) [] = refl
+refilled f g (suc m) (x ∷ xs) = ap (λ (r : List ℤ). f 0 ∷ r) (refilled (λ i. f (suc i)) (λ i. g (suc i)) m xs)
+
+module _ (t : Table) (x : List ℕ) (changes changes′ : List ℤ) where
+  pub changes-laid : Changes t x changes′ → length changes′ ≡ length changes → drop (length x) changes′ ≡ drop (length x) changes → changes′ ≡ changesOver t x changes
+  unfolding changesOver
+  changes-laid p e tail = filled (changeIn t x) (length x) changes changes′ (p .many) e (p .are) tail
+
+  pub changes-are : length x ≤ length changes → changes′ ≡ changesOver t x changes → Changes t x changes′
+  unfolding changesOver
+  changes-are room e = record {
+    many = rw (e, length-fill (changeIn t x) changes (length x)) room;
+    are = λ i h. rw e (getD-mapFirst (λ j _. changeIn t x j) (length x) changes i (pos 0) h (omega arith));
+  }
+
+  -- it makes no difference that the list was cleared first
+  pub over-cleared : (after : List ℤ) → changes′ ≡ fill (λ i. pos 0) (length x) changes → after ≡ changesOver t x changes′ → after ≡ changesOver t x changes
+  unfolding changesOver
+  over-cleared after e q = q ∙ rw e (refilled (changeIn t x) (λ i. pos 0) (length x) changes)
+
+-- where a row's sum is laid down, the tail stays
+pub turned-tail : (m row i : ℕ) (held next : ℤ) (before after : List ℤ) → row < m → RowTurned row i held next before after → drop m after ≡ drop m before
+turned-tail m row i held next before after h r = ap (drop m) (r .after-is) ∙ go (eqb i row)
   where
-    go : (i : ℕ) → i < k + 1 → Dec (i ≡ k) → getD (set changes k (pos 0)) i (pos 0) ≡ pos 0
-    go i h (yes e) = rw e (getD-set-same changes k (pos 0) (pos 0) room)
-    go i h (no d) = getD-set-other changes k i (pos 0) (pos 0) d ∙ p .zero-at i (omega arith)
+    go : (b : Bool) → drop m (cond b before (set before row (getD before row (pos 0) +ℤ held))) ≡ drop m before
+    go true = refl
+    go false = drop-set-lt m before row _ h
 
 -- ---- summed
 
@@ -107,7 +131,7 @@ module _ (t : Table) (x : List ℕ) where
     sums = λ i l. ap₂ _+ℤ_ (p .zero-at i l) (only-zero row i);
   }
 
-  module _ (k row : ℕ) (held : ℤ) (changes : List ℤ) (ok : Usable (length x) t) (p : Summed t x k row held changes) where
+  module _ (k row : ℕ) (held : ℤ) (changes : List ℤ) (ok : SumsFit (length x) t) (p : Summed t x k row held changes) where
     -- the row's sum, laid down
     laid : getD changes row (pos 0) +ℤ held ≡ sum k (term row)
     laid = ap (λ (z : ℤ). getD changes row (pos 0) +ℤ z) (sym (rw (eq-eqb row row refl))) ∙ p .sums row (p .row-in)
@@ -176,7 +200,7 @@ module _ (t : Table) (x : List ℕ) where
       are = λ i l. rw q (laid-sums i l ∙ ap (λ (n : ℕ). sum n (term i)) e ∙ flip-entries (ok .in-range) (signAt x) i l (sign-vector x));
     }
 
-  pub changes-none : (changes : List ℤ) → Usable (length x) t → t .count ≡ 0 → length x ≤ length changes → Cleared (length x) changes → Changes t x changes
+  pub changes-none : (changes : List ℤ) → SumsFit (length x) t → t .count ≡ 0 → length x ≤ length changes → Cleared (length x) changes → Changes t x changes
   unfolding changeIn sum
   changes-none changes ok e room p = record {
     many = room;

@@ -9,13 +9,13 @@ use mathlib.Core.Logic.{⊎-elim}
 use mathlib.Core.Bool.{Bool, true, false, cond, not}
 use mathlib.Core.List.{List}
 use mathlib.Core.Path.{_≡_, refl, sym, ap, ap₂, _∙_}
-use lib.IntN.{ℤ, pos, negsuc, negℤ, natAbs, _+ℤ_, _-ℤ_, _*ℤ_, *ℤ-zero, +ℤ-idl, +ℤ-idr, +ℤ-assoc}
+use lib.IntN.{ℤ, pos, negsuc, negℤ, natAbs, _+ℤ_, _-ℤ_, _*ℤ_, *ℤ-zero, +ℤ-idr, +ℤ-assoc}
 use lib.ListN.{length, getD, set, length-set}
 use lib.Seq.{getD-set-same, getD-set-other}
 use mir.Syntax.{w64}
 use mir.Val.{SFits}
 use Rattle.laws.specs.Sum.{sum, only}
-use Rattle.laws.proofs.Integer.{parts, differences, ring, square-one, times-one, abs-add, abs-mul, abs-neg, fits-abs}
+use Rattle.laws.proofs.Integer.{parts, differences, ring, square-one, times-one, abs-add, abs-mul, fits-abs}
 use Rattle.laws.proofs.Sums.{sum-more, sum-ext, sum-zero, sum-add, sum-scale, sum-only, sum-bounded}
 use Rattle.tables.specs.Table.{Table, Symmetric, SignVector, Rising, magnitudeOf, valueAt, sign, signAt, sameSign}
 use Rattle.tables.specs.Flip.{flipped, flipChange, flipTerm}
@@ -24,7 +24,7 @@ use Rattle.tables.proofs.Shares.{abs-sign, sign-vector}
 use Rattle.local_search.specs.Level.{flipByte, flipSign}
 use Rattle.local_search.proofs.LevelLaws.{flipped-length}
 use Rattle.sign_search.specs.Search.{changeIn, Mirrors}
-use Rattle.sign_search.specs.Contracts.{Usable, Sound, Changes, RowStart, Turned, turnWeight, turnTerm, Agree, Climbs}
+use Rattle.sign_search.specs.Contracts.{SumsFit, Sound, Changes, RowStart, Turned, turnWeight, turnTerm, Agree, Climbs}
 use Rattle.sign_search.proofs.Lawful.{signs-flip}
 use Rattle.sign_search.proofs.ChangeLaws.{abs-flip}
 
@@ -185,7 +185,7 @@ module _ (t : Table) (x : List ℕ) (i : ℕ) where
         )))
 
 -- a change that i64 holds
-pub change-abs : {t : Table} (x : List ℕ) → Usable (length x) t → (i : ℕ) → i < length x → natAbs (changeIn t x i) ≤ 2 ^ 44
+pub change-abs : {t : Table} (x : List ℕ) → SumsFit (length x) t → (i : ℕ) → i < length x → natAbs (changeIn t x i) ≤ 2 ^ 44
 unfolding changeIn
 change-abs {t} x ok i h =
     rw (← (flip-entries (ok .in-range) (signAt x) i h (sign-vector x)))
@@ -234,10 +234,6 @@ pub not-true : (b : Bool) → not b ≡ true → b ≡ false
 not-true true e = sym e
 not-true false e = refl
 
-pub not-false : (b : Bool) → not b ≡ false → b ≡ true
-not-false true e = refl
-not-false false e = sym e
-
 -- the first i signs of x are those of y
 pub agree-more : (i : ℕ) (x y : List ℕ) → Agree i x y → sameSign (getD x i 0) (getD y i 0) ≡ true → Agree (i + 1) x y
 agree-more i x y p e = record { long = p .long; same = λ j h. go j h (ℕ-discrete j i) }
@@ -274,11 +270,8 @@ module _ {count : ℕ} {row : ℕ → ℕ} (climbs : Climbs count row) (i mid : 
   pub rows-above : i ≤ row mid → (j : ℕ) → mid ≤ j → j < count → i ≤ row j
   rows-above h j k l = omega (arith, climbs .climb mid j k l)
 
-pub negation-fits : (v : ℤ) → natAbs v ≤ 2 ^ 44 → SFits w64 (pos 0 -ℤ v)
-negation-fits v h = rw (+ℤ-idl (negℤ v)) (fits-abs (negℤ v) (rw (abs-neg v) (omega arith)))
-
 -- what the code asks of a table whose checks have passed
-pub usable-of : {m : ℕ} {t : Table} → Sound m t → Usable m t
+pub usable-of : {m : ℕ} {t : Table} → Sound m t → SumsFit m t
 usable-of s = record { in-range = s .mirrors .in-range; small = s .small }
 
 pub rising-climbs : (t : Table) → Rising t → Climbs (t .count) (t .row)

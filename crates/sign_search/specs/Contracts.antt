@@ -6,6 +6,7 @@ use mathlib.Core.Path.{_≡_}
 use lib.Dec.{eqb}
 use lib.IntN.{ℤ, pos, natAbs, _+ℤ_, _*ℤ_}
 use lib.ListN.{length, getD, set}
+use Rattle.laws.specs.Lists.{fill}
 use Rattle.laws.specs.Sum.{sum, total, only}
 use Rattle.tables.specs.Table.{Table, InRange, magnitudeOf, signAt}
 use Rattle.tables.specs.Flip.{flipTerm}
@@ -15,7 +16,7 @@ use Rattle.local_search.specs.SignSearch.{improvesC, childrenC, Safe, searchedF
 use Rattle.sign_search.specs.Search.{objectiveIn, changeIn, heightIn, Mirrors, beamSearch}
 
 -- a table of m signs whose sums an i64 holds
-pub record Usable (m : ℕ) (t : Table) : Type 0 where
+pub record SumsFit (m : ℕ) (t : Table) : Type 0 where
   pub in-range : InRange m t
   pub small : magnitudeOf t ≤ 2 ^ 42
 
@@ -50,6 +51,10 @@ pub record Changes (t : Table) (x : List ℕ) (changes : List ℤ) : Type 0 wher
   pub many : length x ≤ length changes
   pub are : (i : ℕ) → i < length x → getD changes i (pos 0) ≡ changeIn t x i
 
+-- the same laid down from the front of a list, whose tail stays
+unfoldable pub changesOver : Table → List ℕ → List ℤ → List ℤ
+changesOver t x changes = fill (changeIn t x) (length x) changes
+
 -- ---- the changes after a flip
 
 -- the first entry of row i or of a later row
@@ -78,7 +83,7 @@ pub record Agree (i : ℕ) (x y : List ℕ) : Type 0 where
 
 -- what it takes to add row i's entries, from `from` up to `to`, to the changes
 pub record Turns (t : Table) (x : List ℕ) (i from to : ℕ) (changes : List ℤ) : Type 0 where
-  pub usable : Usable (length x) t
+  pub usable : SumsFit (length x) t
   pub sign : i < length x
   pub starts : RowStart (t .count) (t .row) i from
   pub ends : RowStart (t .count) (t .row) (suc i) to
@@ -106,7 +111,7 @@ pub record RowAppends (t : Table) (start : Choice) (changes objectives signs : �
   pub changes-room : length (start .signs) ≤ changes
   pub objectives-room : length (start .signs) ≤ objectives
   pub signs-room : length (start .signs) * length (start .signs) ≤ signs
-  pub table : Usable (length (start .signs)) t
+  pub table : SumsFit (length (start .signs)) t
   pub safe : TableSafe t start
 
 -- what it takes to make a level from another one of `count` choices
@@ -147,7 +152,7 @@ abbrev pub searchedIn : Table → ℕ → Choice → Found Choice
 searchedIn t width start = searchedFrom (changeIn t) (improvesC (changeIn t)) width (heightIn t (start .signs)) start
 
 -- the room that the search takes: level 1 holds m choices of m signs, and every later one `width`
-pub record Room (most m width level : ℕ) : Type 0 where
+pub record LevelRoom (most m width level : ℕ) : Type 0 where
   pub signs-few : m ≤ most
   pub width-few : width ≤ most
   pub level-room : most * most ≤ level

@@ -17,7 +17,7 @@ objectiveIn t x = objectiveOf t (signAt x)
 unfoldable pub changeIn : Table → List ℕ → ℕ → ℤ
 changeIn t x i = flipChange (length x) (valueAt t) (signAt x) i
 
--- how far the objective stands above the floor: a search from x has fewer levels than that (`levels-end` in proofs/Theorems)
+-- how far the objective stands above the floor: a search from x has at most as many levels (`levels-end` in proofs/Theorems)
 unfoldable pub heightIn : Table → List ℕ → ℕ
 heightIn t x = natAbs (objectiveIn t x -ℤ floorOf t)
 

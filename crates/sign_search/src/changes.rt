@@ -7,14 +7,15 @@ ghost use lib.ListN.{length, getD};
 ghost use lib.IntN.{pos, natAbs, _+ℤ_, _*ℤ_};
 ghost use mir.Syntax.{w64};
 ghost use mir.Val.{SFits};
+ghost use Rattle.laws.specs.Lists.{fill};
 ghost use Rattle.tables.specs.Table.{tableOf, Lent, sign, signAt};
 ghost use Rattle.tables.specs.Flip.{flipShare, flipTerm};
-ghost use Rattle.sign_search.specs.Contracts.{Usable, Cleared, RowTurned, Changes};
+ghost use Rattle.sign_search.specs.Contracts.{SumsFit, Cleared, RowTurned, changesOver};
 
-// Sets the first m changes to 0.
+// Sets the first m changes to 0; those behind them stay.
 pub fn clear(changes: &mut [i64], m: usize)
     requires { ⌜ m ≤ length (now changes) ⌝ }
-    ensures { λ r. ⌜ Cleared m (now (changes .exit)) ⌝ }
+    ensures { λ r. ⌜ now (changes .exit) ≡ fill (λ i. pos 0) m (now (changes .entry)) ⌝ }
 {
     let mut i = 0;
     while i < m {
@@ -51,7 +52,7 @@ fn change_term(
     signs: &[u8],
     k: usize,
 ) -> i64
-    requires { ⌜ (k < entries) × Usable (length (now signs)) (tableOf entries (now rows) (now cols) (now values)) × Lent entries (now rows) (now cols) (now values) ⌝ }
+    requires { ⌜ (k < entries) × SumsFit (length (now signs)) (tableOf entries (now rows) (now cols) (now values)) × Lent entries (now rows) (now cols) (now values) ⌝ }
     ensures { λ r. ⌜ r ≡ flipTerm (tableOf entries (now (rows .entry)) (now (cols .entry)) (now (values .entry))) (signAt (now (signs .entry))) (getD (now (rows .entry)) k 0) k ⌝ }
 {
     let i = rows[k];
@@ -86,8 +87,8 @@ fn sum_rows(
     signs: &[u8],
     changes: &mut [i64],
 )
-    requires { ⌜ Usable (length (now signs)) (tableOf entries (now rows) (now cols) (now values)) × (length (now signs) ≤ length (now changes)) × (0 < entries) × Cleared (length (now signs)) (now changes) × Lent entries (now rows) (now cols) (now values) ⌝ }
-    ensures { λ r. ⌜ Changes (tableOf entries (now (rows .entry)) (now (cols .entry)) (now (values .entry))) (now (signs .entry)) (now (changes .exit)) ⌝ }
+    requires { ⌜ SumsFit (length (now signs)) (tableOf entries (now rows) (now cols) (now values)) × (length (now signs) ≤ length (now changes)) × (0 < entries) × Cleared (length (now signs)) (now changes) × Lent entries (now rows) (now cols) (now values) ⌝ }
+    ensures { λ r. ⌜ now (changes .exit) ≡ changesOver (tableOf entries (now (rows .entry)) (now (cols .entry)) (now (values .entry))) (now (signs .entry)) (now (changes .entry)) ⌝ }
 {
     let mut row = wide(rows[0]);
     let mut held: i64 = 0;
@@ -102,7 +103,7 @@ fn sum_rows(
     changes[row] += held;
 }
 
-// The changes by flipping each sign, in one pass over the entries.
+// The changes by flipping each sign, in one pass over the entries; what stands behind them stays.
 pub fn changes_of(
     entries: usize,
     rows: &[u16],
@@ -111,8 +112,8 @@ pub fn changes_of(
     signs: &[u8],
     changes: &mut [i64],
 )
-    requires { ⌜ Usable (length (now signs)) (tableOf entries (now rows) (now cols) (now values)) × (length (now signs) ≤ length (now changes)) × Lent entries (now rows) (now cols) (now values) ⌝ }
-    ensures { λ r. ⌜ Changes (tableOf entries (now (rows .entry)) (now (cols .entry)) (now (values .entry))) (now (signs .entry)) (now (changes .exit)) ⌝ }
+    requires { ⌜ SumsFit (length (now signs)) (tableOf entries (now rows) (now cols) (now values)) × (length (now signs) ≤ length (now changes)) × Lent entries (now rows) (now cols) (now values) ⌝ }
+    ensures { λ r. ⌜ now (changes .exit) ≡ changesOver (tableOf entries (now (rows .entry)) (now (cols .entry)) (now (values .entry))) (now (signs .entry)) (now (changes .entry)) ⌝ }
 {
     clear(changes, signs.len());
     if entries == 0 {

@@ -4,12 +4,12 @@ use crate::moves::move_to;
 use local_search::children::expand_parent;
 use local_search::children::first_level;
 use local_search::level::copy_objectives;
-use local_search::rows::copy_signs;
+use local_search::rows::copy_row;
 ghost use mathlib.Core.Path.{_≡_};
 ghost use mathlib.Core.List.{[]};
 ghost use lib.ListN.{length, take};
 ghost use Rattle.tables.specs.Table.{tableOf, Lent};
-ghost use Rattle.local_search.specs.Level.{levelOf, Rising};
+ghost use Rattle.local_search.specs.Level.{levelOf, Ascending};
 ghost use Rattle.local_search.specs.Children.{parentOf, Appended, Kept};
 ghost use Rattle.sign_search.specs.Contracts.{Changes, RowExpands, RowAppends, LevelExpands, NextLevel, AdvanceFits, tableChildren};
 
@@ -28,7 +28,7 @@ pub fn expand_row(
     count: usize,
     width: usize,
 ) -> usize
-    requires { ⌜ RowExpands (tableOf entries (now rows) (now cols) (now values)) (parentOf objective (now parent)) count width (length (now changes)) (length (now objectives)) (length (now signs)) × (length (now current) ≡ length (now parent)) × Changes (tableOf entries (now rows) (now cols) (now values)) (now current) (now changes) × Lent entries (now rows) (now cols) (now values) × Rising (take count (now objectives)) ⌝ }
+    requires { ⌜ RowExpands (tableOf entries (now rows) (now cols) (now values)) (parentOf objective (now parent)) count width (length (now changes)) (length (now objectives)) (length (now signs)) × (length (now current) ≡ length (now parent)) × Changes (tableOf entries (now rows) (now cols) (now values)) (now current) (now changes) × Lent entries (now rows) (now cols) (now values) × Ascending (take count (now objectives)) ⌝ }
     ensures { λ r. ⌜ Kept width (levelOf (length (now (parent .entry))) count (now (objectives .entry)) (now (signs .entry))) (tableChildren (tableOf entries (now (rows .entry)) (now (cols .entry)) (now (values .entry))) (length (now (parent .entry))) (parentOf objective (now (parent .entry)))) (levelOf (length (now (parent .entry))) r (now (objectives .exit)) (now (signs .exit))) r × Changes (tableOf entries (now (rows .entry)) (now (cols .entry)) (now (values .entry))) (now (current .exit)) (now (changes .exit)) ⌝ }
 {
     move_to(entries, rows, cols, values, current, changes, parent);
@@ -134,6 +134,6 @@ pub fn advance(
     );
     let bytes = kept * m;
     copy_objectives(objectives, next_objectives, kept);
-    copy_signs(signs, next_signs, bytes);
+    copy_row(&mut signs[0..bytes], &next_signs[0..bytes]);
     kept
 }

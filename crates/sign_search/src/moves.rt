@@ -124,7 +124,7 @@ pub fn move_to(
     target: &[u8],
 )
     requires { ⌜ Sound (length (now target)) (tableOf entries (now rows) (now cols) (now values)) × (length (now current) ≡ length (now target)) × Changes (tableOf entries (now rows) (now cols) (now values)) (now current) (now changes) × Lent entries (now rows) (now cols) (now values) ⌝ }
-    ensures { λ _. ⌜ Changes (tableOf entries (now (rows .entry)) (now (cols .entry)) (now (values .entry))) (now (current .exit)) (now (changes .exit)) × Changes (tableOf entries (now (rows .entry)) (now (cols .entry)) (now (values .entry))) (now (target .entry)) (now (changes .exit)) ⌝ }
+    ensures { λ _. ⌜ Agree (length (now (target .entry))) (now (current .exit)) (now (target .entry)) × Changes (tableOf entries (now (rows .entry)) (now (cols .entry)) (now (values .entry))) (now (current .exit)) (now (changes .exit)) × Changes (tableOf entries (now (rows .entry)) (now (cols .entry)) (now (values .entry))) (now (target .entry)) (now (changes .exit)) ⌝ }
 {
     let mut i = 0;
     while i < target.len() {

@@ -10,7 +10,7 @@ ghost use lib.ListN.{length};
 ghost use Rattle.tables.specs.Table.{tableOf, Lent};
 ghost use Rattle.local_search.specs.Children.{parentOf};
 ghost use Rattle.sign_search.specs.Search.{objectiveIn};
-ghost use Rattle.sign_search.specs.Contracts.{Sound, SearchFits, Room, Found-by, searchedIn};
+ghost use Rattle.sign_search.specs.Contracts.{Sound, SearchFits, LevelRoom, Found-by, searchedIn};
 
 // What the search found: its objective and the rounds it took; the signs are in the slice lent for them.
 pub struct Searched {
@@ -92,7 +92,7 @@ fn search_room(
     level: &mut [u8],
     next_level: &mut [u8],
 ) -> Searched
-    requires { ⌜ Room 128 (length (now kept)) width (length (now level)) × Room 128 (length (now kept)) width (length (now «next_level»)) × (1 ≤ width) × (128 ≤ length (now scratch)) × Sound (length (now kept)) (tableOf entries (now rows) (now cols) (now values)) × (objective ≡ objectiveIn (tableOf entries (now rows) (now cols) (now values)) (now kept)) × Lent entries (now rows) (now cols) (now values) ⌝ }
+    requires { ⌜ LevelRoom 128 (length (now kept)) width (length (now level)) × LevelRoom 128 (length (now kept)) width (length (now «next_level»)) × (1 ≤ width) × (128 ≤ length (now scratch)) × Sound (length (now kept)) (tableOf entries (now rows) (now cols) (now values)) × (objective ≡ objectiveIn (tableOf entries (now rows) (now cols) (now values)) (now kept)) × Lent entries (now rows) (now cols) (now values) ⌝ }
     ensures { λ r. ⌜ (parentOf (r .least) (now (kept .exit)) ≡ searchedIn (tableOf entries (now (rows .entry)) (now (cols .entry)) (now (values .entry))) width (parentOf objective (now (kept .entry))) .answer) × (r .rounds ≡ searchedIn (tableOf entries (now (rows .entry)) (now (cols .entry)) (now (values .entry))) width (parentOf objective (now (kept .entry))) .rounds) ⌝ }
 {
     let m = kept.len();
@@ -126,7 +126,7 @@ pub fn search_signs(
     kept: &mut [u8],
     level: &mut [u8],
 ) -> Searched
-    requires { ⌜ Room 128 (length (now kept)) width (length (now level)) × Sound (length (now kept)) (tableOf entries (now rows) (now cols) (now values)) × Lent entries (now rows) (now cols) (now values) ⌝ }
+    requires { ⌜ LevelRoom 128 (length (now kept)) width (length (now level)) × Sound (length (now kept)) (tableOf entries (now rows) (now cols) (now values)) × Lent entries (now rows) (now cols) (now values) ⌝ }
     ensures { λ r. ⌜ Found-by (tableOf entries (now (rows .entry)) (now (cols .entry)) (now (values .entry))) width (now (kept .entry)) (r .least) (r .rounds) (now (kept .exit)) ⌝ }
 {
     let start = obj_rounded(entries, rows, cols, values, kept);

@@ -11,7 +11,7 @@ use mir.Syntax.{w64}
 use mir.Val.{SFits, toZ, ofZ}
 use mir.Facts.{toZ-ofZ}
 use Rattle.laws.specs.Sum.{sum, total, only}
-use Rattle.laws.proofs.Integer.{abs-add, abs-mul, abs-neg, fits-abs, held}
+use Rattle.laws.proofs.Integer.{abs-add, abs-mul, fits-abs, negation-fits, held}
 use Rattle.laws.proofs.Sums.{sum-abs, total-at, total-le, Held, sum-held}
 use Rattle.laws.proofs.Totals.{onlyℕ, total-ext, total-mono, total-add, total-scale, total-swap, total-only}
 use Rattle.tables.specs.Table.{Table, InRange, magnitudeOf}
@@ -81,15 +81,12 @@ linear-small {n} {h} {c} v i b = omega (arith, total-at n i (λ x. natAbs (c x))
 
 -- ---- sums and negations that i64 holds
 
-negated : (v : ℤ) → pos 0 -ℤ v ≡ negℤ v
-negated v = +ℤ-idl (negℤ v)
-
 module _ (v : ℤ) (fits : SFits w64 v) (small : natAbs v ≤ 2 ^ 60) where
-  pub negation-fits : SFits w64 (pos 0 -ℤ toZ w64 (ofZ w64 v))
-  negation-fits = rw (toZ-ofZ fits, negated v) (fits-abs (negℤ v) (rw (abs-neg v) (omega arith)))
+  pub negated-fits : SFits w64 (pos 0 -ℤ toZ w64 (ofZ w64 v))
+  negated-fits = rw (toZ-ofZ fits) (negation-fits v (omega arith))
 
-  pub negation-is : toZ w64 (ofZ w64 (pos 0 -ℤ toZ w64 (ofZ w64 v))) ≡ negℤ v
-  negation-is = toZ-ofZ negation-fits ∙ rw (toZ-ofZ fits) (negated v)
+  pub negated-is : toZ w64 (ofZ w64 (pos 0 -ℤ toZ w64 (ofZ w64 v))) ≡ negℤ v
+  negated-is = toZ-ofZ negated-fits ∙ rw (toZ-ofZ fits) (+ℤ-idl (negℤ v))
 
 -- a row's sum and twice its linear cost
 module _ (a : ℕ) (s r linear : ℤ) (acc : toZ w64 a ≡ s) (ok : mag r < 2 ^ 63) (is : r ≡ pos 2 *ℤ linear) (small : natAbs s ≤ 2 ^ 60) (low : natAbs linear ≤ 2 ^ 59) where

@@ -12,15 +12,13 @@ use mir.Syntax.{w64}
 use mir.Val.{ofZ}
 use lib.IntN.{ℤ, pos, negsuc, _+ℤ_, _*ℤ_, +ℤ-idr}
 use Rattle.laws.specs.Sum.{sum, only}
+use Rattle.laws.proofs.Any.{never}
 use Rattle.laws.proofs.Sums.{sum-ext, sum-add, sum-only, sum-swap, sum-zero}
 use Rattle.tables.specs.Table.{Table, Before, InRange, Rising, valueAt, storedAt}
 use Rattle.sign_table.specs.SignTable.{absorbed, isZero}
 use Rattle.sign_table.specs.Walk.{At, inRow, isHere, storedColumn, nextColumn, hereValue, afterHere, rowTerm, rowTotal, RowAt, RowSummed}
 use Rattle.tables.proofs.Places.{only-sum}
 use Rattle.tables.proofs.Mirrors.{rises, value-here, stored-here, stored-none, unstored-zero}
-
-unequal : true ≡ false → ⊥
-unequal e = let z : _≡_ {A = ℕ} 0 1 = cc in omega arith
 
 pub at-start : (h : Table) → At h 0 0 0
 at-start h = record { inside = omega arith; behind = λ l b. absurd (omega arith); ahead = λ l a b. go (h .row l) (h .column l) }
@@ -259,15 +257,15 @@ in-row-true count row i k e = go (decLt k count) (ℕ-discrete (row k) i)
   where
     go : Dec (k < count) → Dec (row k ≡ i) → (k < count) × (row k ≡ i)
     go (yes b) (yes r) = (b, r)
-    go (yes b) (no r) = absurd (unequal (sym (rw (lt-ltb k count b, ne-eqb (row k) i r) at e)))
-    go (no b) r = absurd (unequal (sym (rw (le-ltb k count (omega arith)) at e)))
+    go (yes b) (no r) = never (rw (lt-ltb k count b, ne-eqb (row k) i r) at e)
+    go (no b) r = never (rw (le-ltb k count (omega arith)) at e)
 
 pub row-end : (h : Table) (k i : ℕ) → Rising h → RowAt (h .count) (h .row) k i → inRow (h .count) (h .row) i k ≡ false → At h k (suc i) 0
 row-end h k i ri at e =
     record { inside = at .inside; behind = λ l b. inl (omega (arith, at .behind l b)); ahead = λ l a b before. go l a b (ℕ-discrete k l) before }
   where
     first : k < h .count → h .row k ≡ i → ⊥
-    first b r = unequal (rw (lt-ltb k (h .count) b, eq-eqb (h .row k) i r) at e)
+    first b r = never (sym (rw (lt-ltb k (h .count) b, eq-eqb (h .row k) i r) at e))
 
     go : (l : ℕ) → k ≤ l → l < h .count → Dec (k ≡ l) → Before (h .row l) (h .column l) (suc i) 0 → ⊥
     go l a b d (inr p) = omega arith

@@ -12,7 +12,7 @@ use lib.IntN.{ℤ, pos, negℤ, natAbs, _*ℤ_}
 use Rattle.laws.specs.Sum.{sum, total, only}
 use Rattle.laws.proofs.Integer.{abs-add, abs-mul, abs-neg}
 use Rattle.laws.proofs.Sums.{sum-abs, total-at}
-use Rattle.laws.proofs.Totals.{onlyℕ, total-ext, total-mono, total-add, total-scale, total-const, total-swap, total-only, total₂-suc}
+use Rattle.laws.proofs.Totals.{onlyℕ, total-zero, total-ext, total-mono, total-add, total-scale, total-const, total-swap, total-only, total₂-suc}
 use Rattle.tables.specs.Table.{Table, InRange, Rising, Mirrored, Symmetric, magnitudeOf, valueAt, storedAt}
 use Rattle.tables.specs.Check.{Hall}
 use Rattle.sign_table.specs.SignTable.{absorbed, places, isZero, keptOf, signOf, signPlaces, signTable, listed}
@@ -102,12 +102,9 @@ spread {n} {h} r w =
     ∙ total-ext (h .count) _ w (λ l b.
     total-ext n _ (λ i. onlyℕ (h .row l) i (w l)) (λ i a. inside (eqb (h .row l) i) l b) ∙ total-only n (h .row l) (λ i. w l) (r .rows-in l b))
   where
-    zeros : (k : ℕ) → total k (λ j. 0) ≡ 0
-    zeros k = total-const k 0 ∙ omega arith
-
     inside : (t : Bool) (l : ℕ) → l < h .count → total n (λ j. cond t (onlyℕ (h .column l) j (w l)) 0) ≡ cond t (w l) 0
     inside true l b = total-only n (h .column l) (λ j. w l) (r .cols-in l b)
-    inside false l b = zeros n
+    inside false l b = total-zero n
 
 module _ {n : ℕ} {h : Table} (c : ℕ → ℤ) (r : InRange n h) where
   stored-le : (i j : ℕ) → cond (storedAt h i j) 1 0 ≤ total (h .count) (λ l. onlyℕ (h .row l) i (onlyℕ (h .column l) j 1))

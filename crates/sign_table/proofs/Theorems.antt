@@ -46,5 +46,5 @@ module _ {most capacity limit n : ℕ} {h : Table} {c : ℕ → ℤ} (ok : Hall 
   floor-le-choice b = rw (← (choice-cost n (valueAt h) c b)) (floor-le-cost (take n b))
 
 -- 01's limits: 127 wagons, 4,096 entries and 2^40 give 128 signs, 4,478 entries and 2^42
-pub house-sign-table : {n : ℕ} {h : Table} {c : ℕ → ℤ} → Hall mostWagons mostEntries mostMagnitude n h c → Accepted mostSigns mostSignEntries mostSignMagnitude (suc n) (signTable n h c)
-house-sign-table ok = sign-table-accepted ok
+pub hall-sign-table : {n : ℕ} {h : Table} {c : ℕ → ℤ} → Hall mostWagons mostEntries mostMagnitude n h c → Accepted mostSigns mostSignEntries mostSignMagnitude (suc n) (signTable n h c)
+hall-sign-table ok = sign-table-accepted ok

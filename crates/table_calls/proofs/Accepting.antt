@@ -9,7 +9,7 @@ use lib.Dec.{ltb, lit<, lit≤}
 use lib.ListN.{length, drop, length-map}
 use lib.Seq.{sets, sets-eq}
 use lib.IntN.{ℤ}
-use Rattle.laws.specs.Refusal.{_if_, orElse, first, short}
+use Rattle.laws.specs.Refusal.{_if_, first, short}
 use Rattle.laws.proofs.Refusal.{clear, first-head, first-rest}
 use Rattle.laws.proofs.Any.{any-head, any-rest, any-not, any-none}
 use Rattle.tables.specs.Limits.{mostWagons, mostEntries, mostMagnitude, mostSigns, mostSignEntries, mostSignMagnitude}
@@ -23,7 +23,7 @@ use Rattle.sign_table.proofs.Sizes.{sign-count, hall-convertible}
 use Rattle.table_calls.specs.declared.Entries.the-variants as T
 use Rattle.table_calls.specs.Answer.{answered}
 use Rattle.table_calls.specs.Convert.{Converts}
-use Rattle.table_calls.specs.Numbers.{badSigns, signTableNumber, houseNumber, floorNumber, objectiveShort, objectiveNumber, decodeShort, decodeNumber, costShort, costNumber, roomShort, signShort, signNumber}
+use Rattle.table_calls.specs.Numbers.{badSigns, signTableNumber, hallNumberIn, floorNumber, objectiveShort, objectiveNumber, decodeShort, decodeNumber, costShort, costNumber, roomShort, signShort, signNumber}
 
 -- ---- answers
 
@@ -46,11 +46,6 @@ short-refused n l e = rw e
 pub short-open : {t : Bool} (n l : ℕ) → t ≡ false → short t n l ≡ ltb l n
 unfolding short
 short-open n l e = rw e
-
-pub first-last : (k : ℕ) → first (k ∷ []) ≡ k
-unfolding first orElse
-first-last zero = refl
-first-last (suc k) = refl
 
 -- 31 first, then the others
 pub after-short : {s s′ : Bool} (k : ℕ) {r : ℕ} → s ≡ s′ → r ≡ first (31 if s ∷ k ∷ []) → r ≡ first (31 if s′ ∷ k ∷ [])
@@ -132,7 +127,7 @@ module _ (n count : ℕ) (rows cols : List ℕ) (values c : List ℤ) (b : List 
   unfolding costShort
   choice-long ok h = long-enough (any-head _ _ (any-rest _ _ (any-rest _ _ ok))) (le-ltb mostWagons n h)
 
-  pub cost-numbered : {s : Bool} {r : ℕ} → s ≡ costShort n count rows cols values c b → r ≡ first (31 if s ∷ houseNumber n count rows cols values c ∷ []) → r ≡ costNumber n count rows cols values c b
+  pub cost-numbered : {s : Bool} {r : ℕ} → s ≡ costShort n count rows cols values c b → r ≡ first (31 if s ∷ hallNumberIn n count rows cols values c ∷ []) → r ≡ costNumber n count rows cols values c b
   unfolding costNumber
   cost-numbered e h = after-short _ e h
 
@@ -160,7 +155,7 @@ module _ (n count : ℕ) (rows cols : List ℕ) (values c : List ℤ) (toRows to
       let values-long : count + 3 * n + 1 ≤ length toValues = long-enough (any-head _ _ (any-rest _ _ (any-rest _ _ s))) good in
       record { rows-room = omega arith; cols-room = omega arith; values-room = omega arith }
 
-  pub sign-numbered : {s : Bool} {r : ℕ} → s ≡ signShort n count rows cols values c toRows toCols toValues → r ≡ first (31 if s ∷ houseNumber n count rows cols values c ∷ []) → r ≡ signNumber n count rows cols values c toRows toCols toValues
+  pub sign-numbered : {s : Bool} {r : ℕ} → s ≡ signShort n count rows cols values c toRows toCols toValues → r ≡ first (31 if s ∷ hallNumberIn n count rows cols values c ∷ []) → r ≡ signNumber n count rows cols values c toRows toCols toValues
   unfolding signNumber
   sign-numbered e h = after-short _ e h
 

@@ -1,5 +1,6 @@
--- What the calls' answers are worth to whoever has (H, c): the table that `qubo_sign_table` leaves is taken by every call on sign tables, its
--- objective is the cost, and its floor stands below every choice.
+-- What the calls' answers are worth. To whoever has (H, c): the table that `qubo_sign_table` leaves is taken by every call on sign tables, its
+-- objective is the cost, and its floor stands below every choice. To whoever has a sign table: what `floor_eighths` answers is at most the
+-- objective of any signs (`floor-call`), and at most what `obj_rounded` answers (`floor-under-objective`).
 use mathlib.Core.Path.{_≡_, refl, sym, _∙_}
 use mathlib.Core.List.{List}
 use Prim.Native.Nat.{ℕ, suc, _-_}
@@ -14,14 +15,17 @@ use Rattle.tables.specs.Cost.{costEighths, decodedByte, decoded, choiceAt}
 use Rattle.tables.specs.Check.{Hall}
 use Rattle.tables.proofs.Checks.{table-passes}
 use Rattle.tables.proofs.Choices.{decoded-cost}
+use Rattle.tables.proofs.Theorems.{floor-le-objective}
 use Rattle.sign_table.specs.SignTable.{rowsOf, colsOf, valuesOf, signOf, signPlaces}
 use Rattle.sign_table.proofs.Slices.{Holds, over-holds, built-accepted, built-objective, built-floor}
+use Rattle.table_calls.specs.declared.Eighths.{Eighths}
+use Rattle.table_calls.specs.declared.Eighths.the-variants as E
 use Rattle.table_calls.specs.declared.Entries.{Entries}
 use Rattle.table_calls.specs.declared.Entries.the-variants as T
-use Rattle.table_calls.specs.Answer.{kept}
-use Rattle.table_calls.specs.Numbers.{signTableNumber, signNumber, decodeNumber}
+use Rattle.table_calls.specs.Answer.{eighthsAnswer, keptIfRefused}
+use Rattle.table_calls.specs.Numbers.{signTableNumber, floorNumber, objectiveNumber, signNumber, decodeNumber}
 use Rattle.table_calls.specs.Convert.{Converts}
-use Rattle.table_calls.proofs.Accepting.{sign-accepted, decode-accepted, accepted-is}
+use Rattle.table_calls.proofs.Accepting.{floor-accepted, sign-accepted, decode-accepted, accepted-is}
 
 -- an accepted call of `qubo_sign_table`
 module _ (n count : ℕ) (rows cols : List ℕ) (values c : List ℤ) (toRows toCols : List ℕ) (toValues : List ℤ) {answer : Entries} {rows′ cols′ : List ℕ} {values′ : List ℤ}
@@ -61,10 +65,35 @@ module _ (n count : ℕ) (rows cols : List ℕ) (values c : List ℤ) (toRows to
 
 -- the choice that `qubo_binary_from_sign_solution` lends out costs what the signs do: for any (H, c), signs of n + 1 and room for n bytes
 pub decoded-call : (n : ℕ) (h : Table) (c : ℕ → ℤ) (signs b : List ℕ) {b′ : List ℕ} → decodeNumber (suc n) signs b ≡ 0
-    → b′ ≡ kept (decodeNumber (suc n) signs b) b (fill (decodedByte (suc n - 1) signs) (suc n - 1) b)
+    → b′ ≡ keptIfRefused (decodeNumber (suc n) signs b) b (fill (decodedByte (suc n - 1) signs) (suc n - 1) b)
     → costEighths n (valueAt h) c (choiceAt b′) ≡ costEighths n (valueAt h) c (decoded n signs)
 decoded-call n h c signs b {b′} ok is =
     let back : suc n - 1 ≡ n = omega arith in
     let wrote : b′ ≡ fill (decodedByte n signs) n b = (rw back at (is ∙ sym (accepted-is (decodeNumber (suc n) signs b) (λ _. b) (fill (decodedByte (suc n - 1) signs) (suc n - 1) b) refl ok))) in
     let (some, long, room) = decode-accepted (suc n) signs b ok in
     rw wrote (decoded-cost n (valueAt h) c signs b (rw back at room))
+
+-- an accepted call of `floor_eighths` on a sign table given directly
+module _ (m count : ℕ) (rows cols : List ℕ) (values : List ℤ) {answer : Eighths}
+    (is : answer ≡ eighthsAnswer (floorNumber m count rows cols values) (floorOf (tableOf count rows cols values)))
+    (ok : floorNumber m count rows cols values ≡ 0) where
+  -- it answers a number of eighths, and no signs' objective is less
+  pub floor-call : (floor : ℤ) × (answer ≡ E.Value floor) × ((signs : List ℕ) → floor ≤ℤ objectiveOf (tableOf count rows cols values) (signAt signs))
+  floor-call = (
+    floorOf (tableOf count rows cols values),
+    is ∙ sym (accepted-is _ E.Refused (E.Value (floorOf (tableOf count rows cols values))) refl ok),
+    λ signs. floor-le-objective (floor-accepted m count rows cols values ok .1) signs,
+  )
+
+  -- so whatever `obj_rounded` answers on the same table, if it answers a number of eighths, isn't less
+  pub floor-under-objective : (signs : List ℕ) {other : Eighths}
+      → other ≡ eighthsAnswer (objectiveNumber m count rows cols values signs) (objectiveOf (tableOf count rows cols values) (signAt signs))
+      → objectiveNumber m count rows cols values signs ≡ 0
+      → (floor objective : ℤ) × (answer ≡ E.Value floor) × (other ≡ E.Value objective) × (floor ≤ℤ objective)
+  floor-under-objective signs told good = (
+    floor-call .0,
+    objectiveOf (tableOf count rows cols values) (signAt signs),
+    floor-call .1,
+    told ∙ sym (accepted-is _ E.Refused (E.Value (objectiveOf (tableOf count rows cols values) (signAt signs))) refl good),
+    floor-call .2 signs,
+  )

@@ -25,5 +25,5 @@ abbrev pub entriesAnswer : ℕ → ℕ → Entries
 entriesAnswer number count = answered number T.Refused (T.Count count)
 
 -- a lent slice after a call: as it was where the call is refused
-abbrev pub kept : {A : Type 0} → ℕ → A → A → A
-kept number before after = answered number (λ _. before) after
+abbrev pub keptIfRefused : {A : Type 0} → ℕ → A → A → A
+keptIfRefused number before after = answered number (λ _. before) after

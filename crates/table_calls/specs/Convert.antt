@@ -8,10 +8,10 @@ use lib.IntN.{ℤ}
 use Rattle.laws.specs.Lists.{over}
 use Rattle.sign_table.specs.SignTable.{rowsOf, colsOf, valuesOf}
 use Rattle.table_calls.specs.declared.Entries.{Entries}
-use Rattle.table_calls.specs.Answer.{entriesAnswer, kept}
+use Rattle.table_calls.specs.Answer.{entriesAnswer, keptIfRefused}
 
 pub record Converts (number : ℕ) (value : ℕ → ℕ → ℤ) (ps : List (ℕ × ℕ)) (rows cols : List ℕ) (values : List ℤ) (answer : Entries) (rows′ cols′ : List ℕ) (values′ : List ℤ) : Type 0 where
   pub answers : answer ≡ entriesAnswer number (length ps)
-  pub rows-are : rows′ ≡ kept number rows (over (rowsOf ps) rows)
-  pub cols-are : cols′ ≡ kept number cols (over (colsOf ps) cols)
-  pub values-are : values′ ≡ kept number values (over (valuesOf value ps) values)
+  pub rows-are : rows′ ≡ keptIfRefused number rows (over (rowsOf ps) rows)
+  pub cols-are : cols′ ≡ keptIfRefused number cols (over (colsOf ps) cols)
+  pub values-are : values′ ≡ keptIfRefused number values (over (valuesOf value ps) values)

@@ -11,11 +11,9 @@ use Rattle.laws.specs.Refusal.{_if_, first, anyOf, short}
 use Rattle.tables.specs.Limits.{mostWagons, mostEntries, mostMagnitude, mostSigns, mostSignEntries, mostSignMagnitude}
 use Rattle.tables.specs.Table.{tableOf}
 use Rattle.tables.specs.Check.{badSize, shortTable, hallNumber, tableNumber}
+unfoldable pub use Rattle.tables.specs.Check.{badSigns}
 
--- 13 of m, and of n
-unfoldable pub badSigns : ℕ → Bool
-badSigns m = anyOf (ltb m 1 ∷ ltb mostSigns m ∷ [])
-
+-- 13 of n
 abbrev pub badWagons : ℕ → Bool
 badWagons n = ltb mostWagons n
 
@@ -23,8 +21,8 @@ badWagons n = ltb mostWagons n
 abbrev pub signTableNumber : ℕ → ℕ → List ℕ → List ℕ → List ℤ → ℕ
 signTableNumber m count rows cols values = tableNumber mostSigns mostSignEntries mostSignMagnitude m (tableOf count rows cols values)
 
-abbrev pub houseNumber : ℕ → ℕ → List ℕ → List ℕ → List ℤ → List ℤ → ℕ
-houseNumber n count rows cols values c = hallNumber mostWagons mostEntries mostMagnitude n (tableOf count rows cols values) (elemZ c)
+abbrev pub hallNumberIn : ℕ → ℕ → List ℕ → List ℕ → List ℤ → List ℤ → ℕ
+hallNumberIn n count rows cols values c = hallNumber mostWagons mostEntries mostMagnitude n (tableOf count rows cols values) (elemZ c)
 
 -- `floor_eighths` and `entrywise_lower_bound`: the table's slices rest on the count
 abbrev pub floorShort : ℕ → List ℕ → List ℕ → List ℤ → Bool
@@ -59,7 +57,7 @@ costShort n count rows cols values c b =
     ∷ [])
 
 unfoldable pub costNumber : ℕ → ℕ → List ℕ → List ℕ → List ℤ → List ℤ → List ℕ → ℕ
-costNumber n count rows cols values c b = first (31 if costShort n count rows cols values c b ∷ houseNumber n count rows cols values c ∷ [])
+costNumber n count rows cols values c b = first (31 if costShort n count rows cols values c b ∷ hallNumberIn n count rows cols values c ∷ [])
 
 -- `qubo_sign_table`: room for count + 3·n + 1 entries rests on n and the count
 unfoldable pub roomShort : ℕ → ℕ → ℕ → ℕ → ℕ → Bool
@@ -78,4 +76,4 @@ signShort n count rows cols values c toRows toCols toValues =
 
 unfoldable pub signNumber : ℕ → ℕ → List ℕ → List ℕ → List ℤ → List ℤ → List ℕ → List ℕ → List ℤ → ℕ
 signNumber n count rows cols values c toRows toCols toValues =
-    first (31 if signShort n count rows cols values c toRows toCols toValues ∷ houseNumber n count rows cols values c ∷ [])
+    first (31 if signShort n count rows cols values c toRows toCols toValues ∷ hallNumberIn n count rows cols values c ∷ [])

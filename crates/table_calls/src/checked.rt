@@ -15,17 +15,7 @@ ghost use lib.ListN.{length};
 ghost use Rattle.laws.specs.Refusal.{_if_, first};
 ghost use Rattle.tables.specs.Limits.{mostWagons, mostEntries, mostSignEntries};
 ghost use Rattle.tables.specs.Table.{Lent};
-ghost use Rattle.table_calls.specs.Numbers.{badSigns, signTableNumber, houseNumber};
-
-// 13 of m.
-pub fn bad_signs(m: usize) -> bool
-    ensures { λ r. ⌜ r ≡ badSigns m ⌝ }
-{
-    if m < 1 {
-        return true;
-    }
-    MOST_SIGNS < m
-}
+ghost use Rattle.table_calls.specs.Numbers.{signTableNumber, hallNumberIn};
 
 // The number of a call on a sign table.
 pub fn checked_table(
@@ -65,7 +55,7 @@ pub fn checked_hall(
     c: &[i64],
 ) -> u8
     requires { ⌜ (short ≡ false → (count ≤ mostEntries → Lent count (now rows) (now cols) (now values)) × (n ≤ mostWagons → n ≤ length (now c))) ⌝ }
-    ensures { λ r. ⌜ r ≡ first (31 if short ∷ houseNumber n count (now (rows .entry)) (now (cols .entry)) (now (values .entry)) (now (c .entry)) ∷ []) ⌝ }
+    ensures { λ r. ⌜ r ≡ first (31 if short ∷ hallNumberIn n count (now (rows .entry)) (now (cols .entry)) (now (values .entry)) (now (c .entry)) ∷ []) ⌝ }
 {
     if short {
         return 31;

@@ -1,9 +1,9 @@
 // The calls on a sign table given directly: m signs, its entries in the first places of three slices.
 use crate::Bound;
 use crate::Eighths;
-use crate::checked::bad_signs;
 use crate::checked::checked_table;
 use tables::bound;
+use tables::check::bad_signs;
 use tables::check::short_table;
 use tables::check::too_short;
 use tables::limits::MOST_SIGN_ENTRIES;

@@ -19,13 +19,10 @@ use Rattle.laws.specs.Sum.{total}
 use Rattle.laws.specs.Lists.{anyBelow}
 use Rattle.laws.specs.Refusal.{_if_, first, short}
 use Rattle.laws.proofs.Refusal.{clear, first-head, first-rest, first-skip, first-end}
-use Rattle.laws.proofs.Any.{any-head, any-rest, any-not, any-none, below-none, below-only, below-true, below-false, below-at}
+use Rattle.laws.proofs.Any.{never, any-head, any-rest, any-not, any-none, and-true, below-none, below-only, below-true, below-false, below-at}
 use Rattle.tables.specs.Table.{Table, Lent, InRange, Before, Rising, Mirrored}
-use Rattle.tables.specs.Check.{badSize, before, badEntry, badOrder, placeOf, Placed, eqZ, isMirror, unmirrored, hallNumber, tableNumber, shortTable, Hall, Accepted}
+use Rattle.tables.specs.Check.{badSize, before, badEntry, badOrder, placeKey, Placed, eqZ, isMirror, unmirrored, hallNumber, tableNumber, shortTable, Hall, Accepted}
 use Rattle.tables.proofs.Mirrors.{rises}
-
-unequal : false ≡ true → ⊥
-unequal e = let z : _≡_ {A = ℕ} 0 1 = cc in omega arith
 
 -- ---- values
 
@@ -71,7 +68,7 @@ module _ (p : ℕ → ℕ) (count key : ℕ) (rising : (i j : ℕ) → i < j →
   upper mid h j k l = omega (arith, at-most mid j k l)
 
 module _ (t : Table) (k j : ℕ) where
-  pub mirror-off : (placeOf (t .row) (t .column) j ≡ placeOf (t .column) (t .row) k → ⊥) → isMirror t k j ≡ false
+  pub mirror-off : (placeKey (t .row) (t .column) j ≡ placeKey (t .column) (t .row) k → ⊥) → isMirror t k j ≡ false
   mirror-off h = go (eqb (t .row j) (t .column k)) (eqb (t .column j) (t .row k)) refl refl
     where
       go : (a b : Bool) → eqb (t .row j) (t .column k) ≡ a → eqb (t .column j) (t .row k) ≡ b → ((a && b) && eqZ (t .value j) (t .value k)) ≡ false
@@ -79,16 +76,16 @@ module _ (t : Table) (k j : ℕ) where
       go true false x y = refl
       go false b x y = refl
 
-  pub mirror-on : placeOf (t .row) (t .column) j ≡ placeOf (t .column) (t .row) k → t .column j < 65536 → t .row k < 65536 → isMirror t k j ≡ eqZ (t .value j) (t .value k)
+  pub mirror-on : placeKey (t .row) (t .column) j ≡ placeKey (t .column) (t .row) k → t .column j < 65536 → t .row k < 65536 → isMirror t k j ≡ eqZ (t .value j) (t .value k)
   mirror-on e low high = simp (eq-eqb (t .row j) (t .column k) (omega arith), eq-eqb (t .column j) (t .row k) (omega arith))
 
 -- what halving says of entry k's mirror: j is where its place is, or would be
-module _ (t : Table) (k j key : ℕ) (placed : Placed (t .row) (t .column) (t .count)) (this : key ≡ placeOf (t .column) (t .row) k)
-    (below : (i : ℕ) → i < j → placeOf (t .row) (t .column) i < key) (above : (i : ℕ) → j ≤ i → i < t .count → key ≤ placeOf (t .row) (t .column) i) where
-  off : (i : ℕ) → i < t .count → (placeOf (t .row) (t .column) i ≡ key → ⊥) → isMirror t k i ≡ false
+module _ (t : Table) (k j key : ℕ) (placed : Placed (t .row) (t .column) (t .count)) (this : key ≡ placeKey (t .column) (t .row) k)
+    (below : (i : ℕ) → i < j → placeKey (t .row) (t .column) i < key) (above : (i : ℕ) → j ≤ i → i < t .count → key ≤ placeKey (t .row) (t .column) i) where
+  off : (i : ℕ) → i < t .count → (placeKey (t .row) (t .column) i ≡ key → ⊥) → isMirror t k i ≡ false
   off i l h = mirror-off t k i (λ e. h (e ∙ sym this))
 
-  elsewhere : j < t .count → (i : ℕ) → i < t .count → (i ≡ j → ⊥) → placeOf (t .row) (t .column) i ≡ key → ⊥
+  elsewhere : j < t .count → (i : ℕ) → i < t .count → (i ≡ j → ⊥) → placeKey (t .row) (t .column) i ≡ key → ⊥
   elsewhere m i l other e = go (decLt i j)
     where
       go : Dec (i < j) → ⊥
@@ -98,14 +95,14 @@ module _ (t : Table) (k j key : ℕ) (placed : Placed (t .row) (t .column) (t .c
   pub absent : t .count ≤ j → false ≡ anyBelow (t .count) (isMirror t k)
   absent h = sym (below-none _ (t .count) (λ i l. off i l (λ e. omega (arith, below i (omega arith)))))
 
-  pub unmatched : j < t .count → (placeOf (t .row) (t .column) j ≡ key → ⊥) → false ≡ anyBelow (t .count) (isMirror t k)
+  pub unmatched : j < t .count → (placeKey (t .row) (t .column) j ≡ key → ⊥) → false ≡ anyBelow (t .count) (isMirror t k)
   unmatched m h = sym (below-none _ (t .count) (λ i l. off i l (λ e. case i l e (ℕ-discrete i j))))
     where
-      case : (i : ℕ) → i < t .count → placeOf (t .row) (t .column) i ≡ key → Dec (i ≡ j) → ⊥
+      case : (i : ℕ) → i < t .count → placeKey (t .row) (t .column) i ≡ key → Dec (i ≡ j) → ⊥
       case i l e (yes same) = h (rw (← same) e)
       case i l e (no other) = elsewhere m i l other e
 
-  pub matched : k < t .count → j < t .count → placeOf (t .row) (t .column) j ≡ key → eqZ (t .value j) (t .value k) ≡ anyBelow (t .count) (isMirror t k)
+  pub matched : k < t .count → j < t .count → placeKey (t .row) (t .column) j ≡ key → eqZ (t .value j) (t .value k) ≡ anyBelow (t .count) (isMirror t k)
   matched n m e =
       sym (below-only _ (t .count) j m (λ i l other. off i l (elsewhere m i l other))
       ∙ mirror-on t k j (e ∙ this) (placed .cols-low j m) (placed .rows-low k n))
@@ -139,8 +136,8 @@ before-true i j k l e = go (decLt i k) (ℕ-discrete i k) (decLt j l)
     go : Dec (i < k) → Dec (i ≡ k) → Dec (j < l) → Before i j k l
     go (yes h) d f = inl h
     go (no h) (yes d) (yes f) = inr (d, f)
-    go (no h) (yes d) (no f) = absurd (unequal (sym (rw (le-ltb i k (omega arith), eq-eqb i k d) (le-ltb j l (omega arith))) ∙ e))
-    go (no h) (no d) f = absurd (unequal (rw (le-ltb i k (omega arith), ne-eqb i k d) at e))
+    go (no h) (yes d) (no f) = never (sym (rw (le-ltb i k (omega arith), eq-eqb i k d) (le-ltb j l (omega arith))) ∙ e)
+    go (no h) (no d) f = never (rw (le-ltb i k (omega arith), ne-eqb i k d) at e)
 
 before-is : (i j k l : ℕ) → Before i j k l → before i j k l ≡ true
 unfolding before
@@ -153,14 +150,6 @@ entry-after k b h = rw (lt-ltb 0 k h)
 
 pub entry-first : (k : ℕ) (b : Bool) → k ≤ 0 → (ltb 0 k && b) ≡ false
 entry-first k b h = rw (le-ltb 0 k h)
-
--- a loop over the entries that has found nothing
-pub below-next : (p : ℕ → Bool) (k : ℕ) → anyBelow k p ≡ false → p k ≡ false → anyBelow (k + 1) p ≡ false
-unfolding anyBelow
-below-next p k e f = rw (add-one, f) e
-
-pub below-end : (p : ℕ → Bool) (k n : ℕ) → anyBelow k p ≡ false → k ≤ n → n ≤ k → false ≡ anyBelow n p
-below-end p k n e up down = let same : n ≡ k = omega arith in rw same (sym e)
 
 module _ (m : ℕ) (t : Table) where
   -- what is known of entry k
@@ -205,10 +194,6 @@ placed {t = t} small r ri =
     }
 
 -- ---- 15: mirrored
-
-and-true : (a b : Bool) → (a && b) ≡ true → (a ≡ true) × (b ≡ true)
-and-true true b e = (refl, e)
-and-true false b e = absurd (unequal e)
 
 pub mirror-mirrored : (t : Table) → unmirrored t ≡ false → Mirrored t
 unfolding unmirrored
@@ -304,6 +289,10 @@ pub long-enough : {refused : Bool} {needed lent : ℕ} → short refused needed 
 unfolding short
 long-enough {refused} {needed} {lent} ok e = ltb-false _ _ (rw e at ok)
 
+pub long-passes : {refused : Bool} {needed lent : ℕ} → refused ≡ false → needed ≤ lent → short refused needed lent ≡ false
+unfolding short
+long-passes e h = rw e (le-ltb _ _ h)
+
 pub table-lent : {mostEntries count : ℕ} {rows cols : List ℕ} {values : List ℤ} → shortTable mostEntries count (length rows) (length cols) (length values) ≡ false
     → count ≤ mostEntries → Lent count rows cols values
 unfolding shortTable
@@ -315,3 +304,10 @@ table-lent {mostEntries} {count} ok h =
       cols-there = long-enough (any-head _ _ later) few;
       values-there = long-enough (any-head _ _ (any-rest _ _ later)) few;
     }
+
+pub lent-table : {mostEntries count : ℕ} {rows cols : List ℕ} {values : List ℤ} → count ≤ mostEntries → Lent count rows cols values
+    → shortTable mostEntries count (length rows) (length cols) (length values) ≡ false
+unfolding shortTable
+lent-table {mostEntries} {count} h l =
+    let few : ltb mostEntries count ≡ false = le-ltb mostEntries count h in
+    any-not _ _ (long-passes few (l .rows-there)) (any-not _ _ (long-passes few (l .cols-there)) (any-not _ _ (long-passes few (l .values-there)) any-none))

@@ -1,7 +1,7 @@
 -- A table whose entries are mirrored has a symmetric square of values.
-use mathlib.Core.Path.{_≡_, refl, sym, _∙_, ap}
+use mathlib.Core.Path.{_≡_, sym, _∙_, ap}
 use mathlib.Core.Logic.{inl, inr}
-use mathlib.Core.Bool.{Bool, true, false, cond}
+use mathlib.Core.Bool.{true, false, cond}
 use Prim.Native.Nat.{ℕ, zero, suc, _<_}
 use native.Mathlib.Decide.{ℕ-discrete}
 use native.Mathlib.Omega.{arith}
@@ -10,22 +10,9 @@ use lib.Dec.{eqb}
 use borrow.Author.Tests.{eq-eqb, ne-eqb}
 use Rattle.laws.specs.Sum.{sum, only}
 use Rattle.tables.specs.Table.{Table, valueAt, storedAt, Before, Rising, Mirrored, Symmetric}
-use Rattle.laws.proofs.Any.{below-true, below-false, below-at, below-none}
+use Rattle.laws.proofs.Any.{never, below-true, below-false, below-at, below-none}
 use Rattle.tables.proofs.Quadratic.{Order, below, same, above, order}
-use Rattle.laws.proofs.Sums.{sum-ext, sum-zero, sum-only}
-
-pub only-yes : (a b : ℕ) (v : ℤ) → a ≡ b → only a b v ≡ v
-only-yes a b v e = rw (eq-eqb a b e)
-
-only-no : (a b : ℕ) (v : ℤ) → (a ≡ b → ⊥) → only a b v ≡ pos 0
-only-no a b v d = rw (ne-eqb a b d)
-
-only-zero : (a b : ℕ) → only a b (pos 0) ≡ pos 0
-only-zero a b = go (eqb a b)
-  where
-    go : (t : Bool) → cond t (pos 0) (pos 0) ≡ pos 0
-    go true = refl
-    go false = refl
+use Rattle.laws.proofs.Sums.{only-yes, only-no, only-zero, sum-ext, sum-zero, sum-only}
 
 -- a sum of which one summand alone is not 0
 sum-single : (n k : ℕ) (f : ℕ → ℤ) → k < n → ((l : ℕ) → l < n → (l ≡ k → ⊥) → f l ≡ pos 0) → sum n f ≡ f k
@@ -133,19 +120,15 @@ mirrored-symmetric {t} ri mi m = record { mirror = λ i j h k. go i j (find (t .
 
 both-false : (a b i j : ℕ) → cond (eqb a i) (eqb b j) false ≡ false → a ≡ i → b ≡ j → ⊥
 both-false a b i j e p q =
-    let t : true ≡ false = (rw (eq-eqb a i p, eq-eqb b j q) at e) in
-    let z : _≡_ {A = ℕ} 0 1 = cc in omega arith
+    let t : true ≡ false = (rw (eq-eqb a i p, eq-eqb b j q) at e) in never (sym t)
 
 both-true : (a b i j : ℕ) → cond (eqb a i) (eqb b j) false ≡ true → (a ≡ i) × (b ≡ j)
 both-true a b i j e = go (ℕ-discrete a i) (ℕ-discrete b j)
   where
-    never : true ≡ false → ⊥
-    never e = let z : _≡_ {A = ℕ} 0 1 = cc in omega arith
-
     go : Dec (a ≡ i) → Dec (b ≡ j) → (a ≡ i) × (b ≡ j)
     go (yes p) (yes q) = (p, q)
-    go (yes p) (no q) = absurd (never (sym e ∙ rw (eq-eqb a i p, ne-eqb b j q)))
-    go (no p) q = absurd (never (sym e ∙ rw (ne-eqb a i p)))
+    go (yes p) (no q) = never (rw (eq-eqb a i p, ne-eqb b j q) at e)
+    go (no p) q = never (rw (ne-eqb a i p) at e)
 
 -- an entry there, or none
 pub stored-true : (t : Table) (i j : ℕ) → storedAt t i j ≡ true → (k : ℕ) × (k < t .count) × (t .row k ≡ i) × (t .column k ≡ j)

@@ -8,11 +8,16 @@ use lib.IntN.{ℤ, pos, negsuc, natAbs}
 use Rattle.laws.specs.Sum.{total}
 use Rattle.laws.specs.Lists.{anyBelow}
 use Rattle.laws.specs.Refusal.{_if_, first, anyOf, short}
+use Rattle.tables.specs.Limits.{mostSigns}
 use Rattle.tables.specs.Table.{Table, InRange, Rising, Mirrored, magnitudeOf}
 
 -- 13: n, m or the entry count out of its limits
 unfoldable pub badSize : ℕ → ℕ → ℕ → ℕ → ℕ → Bool
 badSize least most mostEntries size count = anyOf (ltb size least ∷ ltb most size ∷ ltb mostEntries count ∷ [])
+
+-- 13 of m alone
+unfoldable pub badSigns : ℕ → Bool
+badSigns m = anyOf (ltb m 1 ∷ ltb mostSigns m ∷ [])
 
 -- (i, j) stands before (k, l): by row, then by column
 unfoldable pub before : ℕ → ℕ → ℕ → ℕ → Bool
@@ -99,10 +104,10 @@ pub record Accepted (mostSigns mostEntries limit m : ℕ) (t : Table) : Type 0 w
 
 -- ---- the search of a mirror: row and column as one number, which rises with (row, column) for columns below 2^16
 
-abbrev pub placeOf : (ℕ → ℕ) → (ℕ → ℕ) → ℕ → ℕ
-placeOf row column k = row k * 65536 + column k
+abbrev pub placeKey : (ℕ → ℕ) → (ℕ → ℕ) → ℕ → ℕ
+placeKey row column k = row k * 65536 + column k
 
 pub record Placed (row column : ℕ → ℕ) (count : ℕ) : Type 0 where
   pub rows-low : (k : ℕ) → k < count → row k < 65536
   pub cols-low : (k : ℕ) → k < count → column k < 65536
-  pub climbs : (k l : ℕ) → k < l → l < count → placeOf row column k < placeOf row column l
+  pub climbs : (k l : ℕ) → k < l → l < count → placeKey row column k < placeKey row column l

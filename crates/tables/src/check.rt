@@ -1,4 +1,5 @@
 // The numbers 13, 14 and 16 of a table, the first of 13 to 16, and 31 of its slices. Each is a pass of its own and writes nothing.
+use crate::limits::MOST_SIGNS;
 use crate::mirror::unmirrored;
 ghost use mathlib.Core.Path.{_≡_};
 ghost use Prim.Native.Nat.{_+_, _*_, _≤_, _<_, _^_, min};
@@ -9,7 +10,7 @@ ghost use Rattle.laws.specs.Sum.{total};
 ghost use Rattle.laws.specs.Lists.{elem, elemZ};
 ghost use Rattle.laws.specs.Refusal.{short};
 ghost use Rattle.tables.specs.Table.{tableOf, Lent};
-ghost use Rattle.tables.specs.Check.{badSize, before, badEntry, badOrder, hallNumber, tableNumber, shortTable};
+ghost use Rattle.tables.specs.Check.{badSize, badSigns, before, badEntry, badOrder, hallNumber, tableNumber, shortTable};
 
 // 13: a size or an entry count out of its limits.
 pub fn bad_size(least: usize, most: usize, capacity: usize, size: usize, count: usize) -> bool
@@ -22,6 +23,16 @@ pub fn bad_size(least: usize, most: usize, capacity: usize, size: usize, count: 
         return true;
     }
     capacity < count
+}
+
+// 13 of m alone.
+pub fn bad_signs(m: usize) -> bool
+    ensures { λ r. ⌜ r ≡ badSigns m ⌝ }
+{
+    if m < 1 {
+        return true;
+    }
+    MOST_SIGNS < m
 }
 
 // Whether (i, j) stands before (k, l).

@@ -24,7 +24,7 @@ built : (c : tie.After-sign-values2) → let a = c .before .before .before .befo
 built c =
     let a = c .before .before .before .before .before .before .before .before .before .before .before .before .before .before .before .before .before .args in let s = c .before .before .before .sign-matrix in
     cut (a .n) (tableOf (a .count) (now (a .rows)) (now (a .cols)) (now (a .values))) (elemZ (now (a .c))) (s .result) (c .before .before .before .before .before .before .before .before .before .before .before .before .before .before .before .before .before .pre .0 .2) (s .ensures .0) (s .ensures .1)
-    (c .before .before .before .before .before .before .before .before .before .indices .ensures, s .kept .1 .1 .1 .1 .1 .1 .0) (c .before .before .before .before .before .before .before .before .indices2 .ensures, s .kept .1 .1 .1 .1 .1 .1 .1 .0) (c .before .before .before .before .before .before .before .eighths .ensures, s .kept .1 .1 .1 .1 .1 .1 .1 .1 .0)
+    (c .before .before .before .before .before .before .before .before .before .indices .ensures .1, s .kept .1 .1 .1 .1 .1 .1 .0) (c .before .before .before .before .before .before .before .before .indices2 .ensures .1, s .kept .1 .1 .1 .1 .1 .1 .1 .0) (c .before .before .before .before .before .before .before .eighths .ensures .1, s .kept .1 .1 .1 .1 .1 .1 .1 .1 .0)
 
 -- the factor's rows, cut from its front
 rows-long : (c : tie.After-sign-values2) → let a = c .before .before .before .before .before .before .before .before .before .before .before .before .before .before .before .before .before .args in length (take ((a .n + 1) * a .rank) (now (a .factor))) ≡ suc (a .n) * a .rank
@@ -40,9 +40,9 @@ sign-matrix-requires c κs =
       c .before .before .before .before .before .before .before .before .before .before .before .before .before .pre .0 .1,
       hall-convertible (omega arith) (omega arith) hall,
       record {
-        rows-room = omega (arith, c .before .before .before .before .before .indices .ensures, hall .entries, hall .wagons);
-        cols-room = omega (arith, c .before .before .before .before .indices2 .ensures, hall .entries, hall .wagons);
-        values-room = omega (arith, c .before .before .before .eighths .ensures, hall .entries, hall .wagons);
+        rows-room = omega (arith, c .before .before .before .before .before .indices .ensures .1, hall .entries, hall .wagons);
+        cols-room = omega (arith, c .before .before .before .before .indices2 .ensures .1, hall .entries, hall .wagons);
+        values-room = omega (arith, c .before .before .before .eighths .ensures .1, hall .entries, hall .wagons);
       },
     )
 
@@ -68,7 +68,9 @@ factor-cut c = sym (rows-long (c .before .before .before .before) ∙ sym (ap (�
 finalize-signs-requires : tie.Need-finalize-signs-requires
 finalize-signs-requires c κs =
     let k = built (c .before .before .before .before .before .before .before) in
-    ((cut-lent k, cut-accepted k (c .before .before .before .before .before .before .before .before .before .before .before .before .before .before .before .before .before .before .before .before .before .before .before .before .pre .0 .2)), (cut-fits (c .before .before .before .before .before .before .before .before .before .before .before .before .before .before .before .before .before .before .before .before .before .before .before .before .pre .1) (rows-long (c .before .before .before .before .before .before .before)), rows-long (c .before .before .before .before .before .before .before)))
+    let fits = c .before .before .before .before .before .before .before .before .before .before .before .before .before .before .before .before .before .before .before .before .before .before .before .before .pre .1 in
+    let long = rows-long (c .before .before .before .before .before .before .before) in
+    ((cut-lent k, cut-accepted k (c .before .before .before .before .before .before .before .before .before .before .before .before .before .before .before .before .before .before .before .before .before .before .before .before .pre .0 .2)), (cut-fits fits (omega (arith, long)) (fits .space-room), long))
 
 returns : tie.Need-returns
 returns c =

@@ -7,10 +7,10 @@ use lib.Dec.{eqb}
 use lib.IntN.{pos}
 use lib.ListN.{getD}
 use Rattle.laws.specs.Lists.{anyBelow, elem, elemZ}
+use Rattle.laws.proofs.Any.{below-next}
 use Rattle.laws.proofs.Integer.{held}
 use lib.IntN.{natAbs}
 use Rattle.prepared_table.specs.Work.{setBy, setsAside}
-use Rattle.prepared_table.proofs.Preparing.{below-next}
 use Rattle.prepared_table.proofs.sets_aside.Statement.{statement}
 use Rattle.prepared_table.proofs.sets_aside.Tie as tie
 

@@ -1,12 +1,14 @@
 -- `rounding::compute_rounded_sol` meets its contract. The best is the first least of the draws up to k. Assumes nothing.
 use borrow.Author.Needs.{needs}
-use mathlib.Core.Path.{_≡_, refl, _∙_}
+use mathlib.Core.Path.{_≡_, refl, ap, _∙_}
 use Prim.Native.Nat.{_≤_, _-_, _+_}
 use native.Mathlib.Omega.{arith}
 use lib.ListN.{length}
 use mir.Syntax.{w64}
 use mir.Val.{toZ}
 use Rattle.tables.specs.Table.{tableOf}
+use Rattle.local_search.specs.Level.{Choice}
+use Rattle.local_search.specs.Children.{parentOf}
 use Rattle.rounding.specs.Rounding.{firstLeast, signsOf, drawObjective, roundedSol, roundedObjective}
 use Rattle.rounding.proofs.Least.{least-next}
 use Rattle.laws.proofs.Integer.{held}
@@ -37,14 +39,22 @@ add-k : tie.Need-add-k Inv-loop μ-loop
 add-k c = omega (arith, c .before .before .before .before .before .before .before .before .before .before .before .before .loop-test .taken, c .before .before .before .before .before .before .before .before .before .before .before .before .before .before .before .before .before .before .before .before .before .before .before .before .before .before .before .before .fits .draw-count)
 
 loop-again : tie.Need-loop-again Inv-loop μ-loop
-loop-again c = let a = c .before .before .before .before .before .before .before .before .before .before .before .before .before .before .before .before .before .before .before .before .before .before .before .before .before .before .before .before .args in let f = drawObjective (a .factor .now) (a .rank) (a .m) (a .draws .now) (tableOf (a .count) (a .rows .now) (a .cols .now) (a .values .now)) in let o = held (c .before .before .before .before .before .before .before .before .before .evaluate-draw2 .result) (c .before .before .before .before .before .before .before .before .before .evaluate-draw2 .ok) in (
-  omega (arith, c .before .before .before .before .before .before .before .before .before .before .before .before .loop-test .taken),
-  omega (arith, c .before .before .before .before .before .before .before .before .before .before .before .before .before .loop .inv .1, c .before .before .before .before .before .before .before .before .before .evaluate-draw2 .kept .1 .1 .1 .1 .1 .1 .1 .1 .1 .0),
-  omega (arith, c .before .before .before .before .before .before .before .before .before .before .before .before .before .loop .inv .2, c .before .before .before .before .before .before .before .before .before .evaluate-draw2 .kept .1 .1 .1 .1 .1 .1 .1 .1 .1 .1 .0),
-  omega (arith, c .before .before .before .before .before .before .before .before .before .before .before .before .before .loop .inv .3, c .before .before .keep-better .kept .1 .1 .1 .0),
-  held (c .before .before .keep-better .result) (c .before .before .keep-better .ok) ∙ (rw (o, c .before .before .before .before .before .before .before .before .before .evaluate-draw2 .ensures .0) at (c .before .before .keep-better .ensures .0)) ∙ least-next f f (c .before .before .before .before .before .before .before .before .before .before .before .before .before .loop .k) _ _ (c .before .before .before .before .before .before .before .before .before .before .before .before .before .loop .inv .4) (c .before .before .before .before .before .before .before .before .before .before .before .before .before .loop .inv .4),
-  (rw (o, c .before .before .before .before .before .before .before .before .before .evaluate-draw2 .ensures .0, c .before .before .before .before .before .before .before .before .before .evaluate-draw2 .ensures .1) at (c .before .before .keep-better .ensures .1)) ∙ least-next f (signsOf (a .factor .now) (a .rank) (a .m) (a .draws .now)) (c .before .before .before .before .before .before .before .before .before .before .before .before .before .loop .k) _ _ (c .before .before .before .before .before .before .before .before .before .before .before .before .before .loop .inv .4) (c .before .before .before .before .before .before .before .before .before .before .before .before .before .loop .inv .5),
-)
+loop-again c =
+    let a = c .before .before .before .before .before .before .before .before .before .before .before .before .before .before .before .before .before .before .before .before .before .before .before .before .before .before .before .before .args in
+    let f = drawObjective (a .factor .now) (a .rank) (a .m) (a .draws .now) (tableOf (a .count) (a .rows .now) (a .cols .now) (a .values .now)) in
+    let g = signsOf (a .factor .now) (a .rank) (a .m) (a .draws .now) in
+    let l = c .before .before .before .before .before .before .before .before .before .before .before .before .before .loop in
+    let d = c .before .before .before .before .before .before .before .before .before .evaluate-draw2 in
+    let b = c .before .before .keep-better in
+    let e : parentOf (b .result) (b .last .1 .0) ≡ parentOf (f (firstLeast f (l .k + 1))) (g (firstLeast f (l .k + 1))) =
+    (rw (held (d .result) (d .ok), d .ensures .0, d .ensures .1) at (b .ensures)) ∙ least-next f g (l .k) _ _ (l .inv .4) (l .inv .5) in (
+      omega (arith, c .before .before .before .before .before .before .before .before .before .before .before .before .loop-test .taken),
+      omega (arith, l .inv .1, d .kept .1 .1 .1 .1 .1 .1 .1 .1 .1 .0),
+      omega (arith, l .inv .2, d .kept .1 .1 .1 .1 .1 .1 .1 .1 .1 .1 .0),
+      omega (arith, l .inv .3, b .kept .1 .0),
+      held (b .result) (b .ok) ∙ ap (λ (x : Choice). x .objective) e,
+      ap (λ (x : Choice). x .signs) e,
+    )
 
 returns : tie.Need-returns Inv-loop μ-loop
 unfolding roundedSol roundedObjective

@@ -6,7 +6,7 @@ use native.Mathlib.Omega.{arith}
 use lib.Dec.{eqb}
 use lib.ListN.{length, getD}
 use Rattle.laws.specs.Lists.{anyBelow}
-use Rattle.coordinate_sweep.proofs.TwoRows.{below-next}
+use Rattle.laws.proofs.Any.{below-next}
 use Rattle.coordinate_sweep.proofs.pairs.meets.Statement.{statement}
 use Rattle.coordinate_sweep.proofs.pairs.meets.Tie as tie
 

@@ -16,15 +16,15 @@ use Rattle.finalize.proofs.multipliers.multipliers.Statement.{statement
 use Rattle.finalize.proofs.multipliers.multipliers.Tie as tie
 
 diagonal-requires : tie.Need-diagonal-requires
-diagonal-requires c κs = ((c .before .before .before .before .before .before .before .before .before .before .before .pre .0 .0, omega (arith, c .before .before .before .before .before .before .numbers .ensures, c .before .before .before .before .before .before .before .before .before .before .before .pre .1 .0)), c .before .before .before .before .before .before .before .before .before .before .before .pre .0 .1)
+diagonal-requires c κs = ((c .before .before .before .before .before .before .before .before .before .before .before .pre .0 .0, omega (arith, c .before .before .before .before .before .before .numbers .ensures .1, c .before .before .before .before .before .before .before .before .before .before .before .pre .1 .0)), c .before .before .before .before .before .before .before .before .before .before .before .pre .0 .1)
 
 diagonal-fits : (c : tie.After-diagonal) → c .before .before .before .before .before .before .before .before .before .before .before .before .args .m ≤ length (c .diagonal .last .1 .1 .1 .1 .1 .0)
-diagonal-fits c = omega (arith, c .diagonal .kept .1 .1 .1 .1 .1 .0, c .before .before .before .before .before .before .before .numbers .ensures, c .before .before .before .before .before .before .before .before .before .before .before .before .pre .1 .0)
+diagonal-fits c = omega (arith, c .diagonal .kept .1 .1 .1 .1 .1 .0, c .before .before .before .before .before .before .before .numbers .ensures .1, c .before .before .before .before .before .before .before .before .before .before .before .before .pre .1 .0)
 
 product-fits : (c : tie.After-diagonal) → c .before .before .before .before .before .before .before .before .before .before .before .before .args .m * c .before .before .before .before .before .before .before .before .before .before .before .before .args .rank ≤ length (c .before .before .rows-of-numbers .result)
 product-fits c =
     let size : c .before .before .before .before .before .before .before .before .before .before .before .before .args .m * c .before .before .before .before .before .before .before .before .before .before .before .before .args .rank ≤ mostSigns * mostRank = mul-le-mul (c .before .before .before .before .before .before .before .before .before .before .before .before .pre .1 .0) (c .before .before .before .before .before .before .before .before .before .before .before .before .pre .1 .2) in
-    omega (arith, c .before .before .rows-of-numbers .ensures, size)
+    omega (arith, c .before .before .rows-of-numbers .ensures .1, size)
 
 multiply-out-requires : tie.Need-multiply-out-requires
 multiply-out-requires c κs =
@@ -33,10 +33,10 @@ multiply-out-requires c κs =
       (
         rw (c .before .before .before .before .before .before .before .before .diagonal .ensures .1) (work-front _ _ _ (length-diagonalOf (tableOf (a .entries) (now (a .rows)) (now (a .cols)) (now (a .values))) (a .m))),
         record {
-          rows-room = omega (arith, c .before .before .before .before .before .before .before .before .before .before .before .before .before .before .indices .ensures, few .1);
-          cols-room = omega (arith, c .before .before .before .before .before .before .before .before .before .before .before .before .before .indices2 .ensures, few .1);
-          values-room = omega (arith, c .before .before .before .before .before .before .before .before .before .before .before .before .units .ensures, few .1);
-          starts-room = omega (arith, c .before .before .before .before .before .before .before .before .before .before .before .row-starts .ensures, few .0);
+          rows-room = omega (arith, c .before .before .before .before .before .before .before .before .before .before .before .before .before .before .indices .ensures .1, few .1);
+          cols-room = omega (arith, c .before .before .before .before .before .before .before .before .before .before .before .before .before .indices2 .ensures .1, few .1);
+          values-room = omega (arith, c .before .before .before .before .before .before .before .before .before .before .before .before .units .ensures .1, few .1);
+          starts-room = omega (arith, c .before .before .before .before .before .before .before .before .before .before .before .row-starts .ensures .1, few .0);
           product-size = length-take-le _ _ (product-fits (c .before .before .before .before .before .before .before .before));
           multipliers-size = length-take-le _ _ (few .3);
         },

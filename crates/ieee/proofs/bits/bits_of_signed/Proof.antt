@@ -6,11 +6,12 @@ use native.Mathlib.Omega.{arith}
 use native.Mathlib.Nat.{not-suc-le-zero}
 use lib.Dec.{T}
 use lib.IntN.{ℤ, pos, negsuc, _-ℤ_, natAbs}
-use lib.Signed.{mag, ltZ, nonNeg}
+use lib.Signed.{mag, ltZ}
 use borrow.Author.Tests.{ltb-true, le-ltb}
 use mir.Syntax.{w64}
-use mir.Val.{Fits, SFits, toZ, ofZ}
+use mir.Val.{SFits, toZ, ofZ}
 use mir.Facts.{toZ-ofZ}
+use Rattle.laws.proofs.Bits.{not-negative}
 use Rattle.ieee.proofs.bits.bits_of_signed.Statement.{statement}
 use Rattle.ieee.proofs.bits.bits_of_signed.Tie as tie
 
@@ -36,10 +37,6 @@ bits : (x : ℤ) → ltZ x (pos 0) ≡ true → 18446744073709551615 - mag x ≡
 bits (pos n) h = absurd (not-suc-le-zero (ltb-true n 0 h))
 bits (negsuc n) h = omega arith
 
-whole : (x : ℤ) → ltZ x (pos 0) ≡ false → SFits w64 x → T (nonNeg x) × Fits w64 (natAbs x)
-whole (pos n) h f = (tt, record { fits = omega (arith, f .sfits) })
-whole (negsuc n) h f = absurd (subst T h tt)
-
 same : (x : ℤ) → ltZ x (pos 0) ≡ false → natAbs x ≡ ofZ w64 x
 same (pos n) h = refl
 same (negsuc n) h = absurd (subst T h tt)
@@ -58,7 +55,7 @@ sub-result-2 c =
 cast-result-2 : tie.Need-cast-result-2
 cast-result-2 c =
     let e = toZ-ofZ (c .before .fits .x) in
-    rw e (whole (c .before .args .x) (rw e at (c .if1 .left)) (c .before .fits .x))
+    rw e (not-negative (c .before .args .x) (rw e at (c .if1 .left)) (c .before .fits .x))
 
 returns : tie.Need-returns
 returns c =

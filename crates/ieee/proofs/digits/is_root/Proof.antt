@@ -1,9 +1,8 @@
 -- `ieee::digits::is_root` meets its contract. Assumes nothing.
-use mathlib.Core.Path.{_≡_, sym, subst}
-use mathlib.Core.Bool.{true, false}
 use native.Mathlib.Nat.{lt-of-lt-of-le}
 use borrow.Author.Needs.{needs}
-use lib.Dec.{T, lit≤}
+use lib.Dec.{lit≤}
+use Rattle.laws.proofs.Any.{never}
 use Rattle.ieee.proofs.Squares.{square-lt}
 use Rattle.ieee.proofs.digits.is_root.Statement.{statement}
 use Rattle.ieee.proofs.digits.is_root.Tie as tie
@@ -14,8 +13,5 @@ mul-square c = record { fits = lt-of-lt-of-le (square-lt (c .pre .1)) (lit≤ tt
 returns : tie.Need-returns
 returns c = λ _. search needs
 
-no : false ≡ true → {P : Type 0} → P
-no e = absurd (subst T (sym e) tt)
-
 pub is-root-spec : {M : Type 1} → statement M
-is-root-spec = tie.close (tie.spec mul-square (λ c. search needs) returns (λ c e. no e) (λ c e. no e))
+is-root-spec = tie.close (tie.spec mul-square (λ c. search needs) returns (λ c e. never e) (λ c e. never e))

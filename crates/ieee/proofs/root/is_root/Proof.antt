@@ -1,19 +1,17 @@
 -- `ieee::root::is_root` meets its contract. Assumes nothing.
 use Prim.Native.Nat.{ℕ, _+_, _-_, _*_, _%_, _^_}
 use mathlib.Core.Path.{_≡_, sym, ap, _∙_, subst}
-use mathlib.Core.Bool.{true, false}
 use native.Mathlib.Omega.{arith}
 use borrow.Author.Needs.{needs}
 use lib.Dec.{T}
 use lib.Ieee.{binary64, ofBits, toBits}
 use lib.Ieee.Bits.{ofBits-toBits}
-use Rattle.ieee.proofs.Patterns.{equal-itself, root-pattern}
+use Rattle.laws.proofs.Any.{never}
+use Rattle.ieee.proofs.Nans.{equal-itself}
+use Rattle.ieee.proofs.Patterns.{root-pattern}
 use Rattle.ieee.proofs.Halves.{Halved, halved}
 use Rattle.ieee.proofs.root.is_root.Statement.{statement}
 use Rattle.ieee.proofs.root.is_root.Tie as tie
-
-no : false ≡ true → {P : Type 0} → P
-no e = absurd (subst T (sym e) tt)
 
 held : (c : tie.Start) → ofBits binary64 (toBits binary64 (c .args .f)) ≡ c .args .f
 held c = ofBits-toBits binary64 (c .args .f) (subst T (sym (c .good .1 .0 .1)) tt)
@@ -38,13 +36,13 @@ pub is-root-spec : {M : Type 1} → statement M
 is-root-spec =
     tie.close
     (tie.spec
-    (λ c e. no e)
+    (λ c e. never e)
     float-to-bits-bits
     (λ c κs. search needs)
     (λ c. omega arith)
     (λ c. omega arith)
     (λ c. omega arith)
     (λ c. omega arith)
-    (λ c e. no e)
+    (λ c e. never e)
     is-rounded-requires
     returns-3)

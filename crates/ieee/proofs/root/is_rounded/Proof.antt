@@ -1,16 +1,11 @@
 -- `ieee::root::is_rounded` meets its contract. Assumes nothing.
-use mathlib.Core.Path.{_≡_, sym, subst}
-use mathlib.Core.Bool.{true, false}
 use Prim.Native.Nat.{_/_, _%_, _^_}
 use native.Mathlib.Omega.{arith}
 use borrow.Author.Tests.{leb-true}
-use lib.Dec.{T}
+use Rattle.laws.proofs.Any.{never}
 use Rattle.ieee.proofs.Halves.{near, parts}
 use Rattle.ieee.proofs.root.is_rounded.Statement.{statement}
 use Rattle.ieee.proofs.root.is_rounded.Tie as tie
-
-no : false ≡ true → {P : Type 0} → P
-no e = absurd (subst T (sym e) tt)
 
 mul-square : tie.Need-mul-square
 mul-square c = let p = parts (c .args .r) (c .pre .1) in omega arith
@@ -38,18 +33,18 @@ is-rounded-spec =
     tie.close
     (tie.spec
     mul-square
-    (λ c e. no e)
-    (λ c e. no e)
+    (λ c e. never e)
+    (λ c e. never e)
     (λ c. omega arith)
     (λ c. omega arith)
     mul-product
     mul-product-2
-    (λ c e. no e)
-    (λ c e. no e)
+    (λ c e. never e)
+    (λ c e. never e)
     (λ c. omega arith)
     mul-low
     add-low
     (λ c. omega arith)
-    (λ c e. no e)
+    (λ c e. never e)
     add-result
     returns-6)

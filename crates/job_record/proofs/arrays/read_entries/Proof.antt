@@ -1,13 +1,14 @@
 use borrow.Author.Needs.{needs}
 use Rattle.job_record.proofs.arrays.read_entries.Statement.{statement}
 use Rattle.job_record.proofs.arrays.read_entries.Tie as tie
-use Prim.Native.Nat.{_≤_, _-_}
-use mathlib.Core.Path.{_≡_, refl, _∙_}
+use Prim.Native.Nat.{ℕ, _+_, _≤_, _-_}
+use mathlib.Core.Path.{_≡_, refl, ap, _∙_}
 use native.Mathlib.Omega.{arith}
 use lib.ListN.{length, length-set}
 use mir.Syntax.{w64}
 use mir.ValLaws.{toZ-ofZ}
 use Rattle.laws.specs.Lists.{fill}
+use Rattle.job_reader.specs.Bytes.{bigEndian, signedAt}
 use Rattle.laws.proofs.MapFirst.{fill-none, fill-more, fill-all}
 use Rattle.job_record.specs.Fields.{row, column, value}
 
@@ -21,11 +22,11 @@ loop-holds : tie.Need-loop-holds Inv-loop μ-loop
 loop-holds c = (omega arith, fill-none _ _, fill-none _ _, fill-none _ _, refl, refl, refl)
 
 loop-again : tie.Need-loop-again Inv-loop μ-loop
-loop-again c = let inv = c .before .before .before .before .loop .inv in (
+loop-again c = let inv = c .before .before .before .before .before .loop .inv in let at = c .before .before .before .entry-at .ensures in let job = c .before .before .before .before .before .before .before .before .before .args .job .now in (
   omega arith,
-  fill-more _ _ _ (inv .1) (c .before .before .u8-at .ensures),
-  fill-more _ _ _ (inv .2) (c .before .u8-at2 .ensures),
-  fill-more _ _ _ (inv .3) (toZ-ofZ w64 _ (record { sfits = c .i64-at .ok }) ∙ c .i64-at .ensures),
+  fill-more _ _ _ (inv .1) (c .before .before .u8-at .ensures ∙ ap (λ (p : ℕ). bigEndian job p 1) at),
+  fill-more _ _ _ (inv .2) (c .before .u8-at2 .ensures ∙ ap (λ (p : ℕ). bigEndian job (p + 1) 1) at),
+  fill-more _ _ _ (inv .3) (toZ-ofZ w64 _ (record { sfits = c .i64-at .ok }) ∙ c .i64-at .ensures ∙ ap (λ (p : ℕ). signedAt job (p + 2)) at),
   simp length-set (inv .4),
   simp length-set (inv .5),
   simp length-set (inv .6),
@@ -47,8 +48,7 @@ read-entries-spec =
     Inv-loop
     μ-loop
     loop-holds
-    (λ c. search needs)
-    (λ c. search needs)
+    (λ c κs. search needs)
     (λ c κs. search needs)
     (λ c. search needs)
     (λ c. search needs)

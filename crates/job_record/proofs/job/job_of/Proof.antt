@@ -1,83 +1,47 @@
 use borrow.Author.Needs.{needs}
-use borrow.Author.Needs.{needs}
 use Rattle.job_record.proofs.job.job_of.Statement.{statement}
 use Rattle.job_record.proofs.job.job_of.Tie as tie
+use Prim.Native.Nat.{ℕ}
+use mathlib.Core.Path.{_≡_, ap, _∙_}
 use native.Mathlib.Omega.{arith}
-use Rattle.job_record.specs.Values.{jobOf}
-use Rattle.job_record.proofs.Accepted.{fields}
+use Rattle.job_reader.specs.Bytes.{bigEndian, valueOf}
+use Rattle.job_record.specs.Values.{drawsPlace, jobOf}
+use Rattle.job_record.proofs.Accepted.{fields, settings-held}
+use Rattle.job_record.proofs.FieldByField.{field-there}
 
-settings-at-requires : tie.Need-settings-at-requires
-settings-at-requires c κs = fields (c .before .args .job .now) (c .before .pre) .there
+cast-t8 : tie.Need-cast-t8
+cast-t8 c = let f = fields (c .before .before .before .before .before .before .args .job .now) (c .before .before .before .before .before .before .pre) in let t = settings-held (c .before .before .before .before .before .before .args .job .now) (c .before .before .before .before .before .before .pre) _ (c .before .before .before .accepted-settings .ensures .0) in omega (arith, t .rule, f .settings .rule)
 
-u8-at-requires : tie.Need-u8-at-requires
-u8-at-requires c κs = omega (arith, fields (c .before .before .before .args .job .now) (c .before .before .before .pre) .there)
+cast-t10 : tie.Need-cast-t10
+cast-t10 c = omega (arith, c .before .before .before .before .before .accepted-settings .ensures .1)
 
-u16-at-requires : tie.Need-u16-at-requires
-u16-at-requires c κs = omega (arith, fields (c .before .before .before .before .args .job .now) (c .before .before .before .before .pre) .there)
+cast-t11 : tie.Need-cast-t11
+cast-t11 c = omega (arith, c .before .before .before .before .before .before .accepted-settings .ensures .2)
 
-u8-at-requires-2 : tie.Need-u8-at-requires-2
-u8-at-requires-2 c κs = omega (arith, fields (c .before .before .before .before .before .args .job .now) (c .before .before .before .before .before .pre) .settings .there, c .before .before .before .settings-at .ensures)
-
-u8-at-requires-3 : tie.Need-u8-at-requires-3
-u8-at-requires-3 c κs = omega (arith, fields (c .before .before .before .before .before .before .args .job .now) (c .before .before .before .before .before .before .pre) .settings .there, c .before .before .before .before .settings-at .ensures)
-
-f64-at-requires : tie.Need-f64-at-requires
-f64-at-requires c κs = omega (arith, fields (c .before .before .before .before .before .before .before .args .job .now) (c .before .before .before .before .before .before .before .pre) .settings .there, c .before .before .before .before .before .settings-at .ensures)
-
-u32-at-requires : tie.Need-u32-at-requires
-u32-at-requires c κs = omega (arith, fields (c .before .before .before .before .before .before .before .before .args .job .now) (c .before .before .before .before .before .before .before .before .pre) .settings .there, c .before .before .before .before .before .before .settings-at .ensures)
-
-u32-at-requires-2 : tie.Need-u32-at-requires-2
-u32-at-requires-2 c κs = omega (arith, fields (c .before .before .before .before .before .before .before .before .before .args .job .now) (c .before .before .before .before .before .before .before .before .before .pre) .settings .there, c .before .before .before .before .before .before .before .settings-at .ensures)
-
-f64-at-requires-2 : tie.Need-f64-at-requires-2
-f64-at-requires-2 c κs = omega (arith, fields (c .before .before .before .before .before .before .before .before .before .before .args .job .now) (c .before .before .before .before .before .before .before .before .before .before .pre) .settings .there, c .before .before .before .before .before .before .before .before .settings-at .ensures)
-
-f64-at-requires-3 : tie.Need-f64-at-requires-3
-f64-at-requires-3 c κs = omega (arith, fields (c .before .before .before .before .before .before .before .before .before .before .before .args .job .now) (c .before .before .before .before .before .before .before .before .before .before .before .pre) .settings .there, c .before .before .before .before .before .before .before .before .before .settings-at .ensures)
-
-u8-at-requires-4 : tie.Need-u8-at-requires-4
-u8-at-requires-4 c κs = omega (arith, fields (c .before .before .before .before .before .before .before .before .before .before .before .before .args .job .now) (c .before .before .before .before .before .before .before .before .before .before .before .before .pre) .settings .there, c .before .before .before .before .before .before .before .before .before .before .settings-at .ensures)
-
-u8-at-requires-5 : tie.Need-u8-at-requires-5
-u8-at-requires-5 c κs = omega (arith, fields (c .before .before .before .before .before .before .before .before .before .before .before .before .before .args .job .now) (c .before .before .before .before .before .before .before .before .before .before .before .before .before .pre) .settings .there, c .before .before .before .before .before .before .before .before .before .before .before .settings-at .ensures)
-
-u16-at-requires-2 : tie.Need-u16-at-requires-2
-u16-at-requires-2 c κs = omega (arith, fields (c .before .before .before .before .before .before .before .before .before .before .before .before .before .before .args .job .now) (c .before .before .before .before .before .before .before .before .before .before .before .before .before .before .pre) .draws .there, c .before .before .before .before .before .before .before .before .before .before .before .draws-at .ensures)
+cast-t15 : tie.Need-cast-t15
+cast-t15 c = let f = fields (c .before .before .before .before .before .before .before .before .before .before .before .before .args .job .now) (c .before .before .before .before .before .before .before .before .before .before .before .before .pre) in let t = settings-held (c .before .before .before .before .before .before .before .before .before .before .before .before .args .job .now) (c .before .before .before .before .before .before .before .before .before .before .before .before .pre) _ (c .before .before .before .before .before .before .before .before .before .accepted-settings .ensures .0) in omega (arith, t .start, f .settings .start)
 
 returns : tie.Need-returns
 unfolding jobOf
-returns c = simp (c .before .before .before .before .before .before .before .before .before .before .before .u8-at .ensures, c .before .before .before .before .before .before .before .before .before .u8-at2 .ensures, c .before .before .before .before .before .before .before .before .u8-at3 .ensures, c .before .before .u8-at4 .ensures, c .before .u8-at5 .ensures, c .before .before .before .before .before .before .before .before .before .before .u16-at .ensures, c .u16-at2 .ensures, c .before .before .before .before .before .before .u32-at .ensures, c .before .before .before .before .before .u32-at2 .ensures, c .before .before .before .before .before .before .before .f64-at .ensures, c .before .before .before .before .f64-at2 .ensures, c .before .before .before .f64-at3 .ensures, c .before .before .before .before .before .before .before .before .before .before .before .before .before .settings-at .ensures .0, c .before .before .before .before .before .before .before .before .before .before .before .before .draws-at .ensures .0)
+returns c = let s = c .before .before .before .before .before .before .before .before .before .before .before .before .before .args .job .now in let f = fields s (c .before .before .before .before .before .before .before .before .before .before .before .before .before .pre) in let t = settings-held s (c .before .before .before .before .before .before .before .before .before .before .before .before .before .pre) _ (c .before .before .before .before .before .before .before .before .before .before .accepted-settings .ensures .0) in
+    let there = field-there s (c .before .before .before .before .before .before .before .before .before .draws-at .result) 2 (c .before .before .before .before .before .before .before .before .read-draw-count .ensures) (omega (arith, c .before .before .before .before .before .before .before .before .before .draws-at .ensures .0, f .draws .there)) in
+    let few : c .value-of .result ≡ bigEndian s (drawsPlace s) 2 = c .value-of .ensures ∙ ap valueOf there ∙ ap (λ (p : ℕ). bigEndian s p 2) (c .before .before .before .before .before .before .before .before .before .draws-at .ensures .0) in
+    simp (c .before .before .before .before .before .before .before .before .before .before .before .accepted-head .ensures .0, c .before .before .before .before .before .before .before .before .before .before .before .accepted-head .ensures .1, t .rank, t .rule, c .before .before .before .before .before .before .double-of .ensures ∙ t .number, t .most, t .minimum, c .before .before .before .double-of2 .ensures ∙ t .objective, c .before .before .double-of3 .ensures ∙ t .stationarity, t .width, t .start, few)
 
 pub job-of-spec : {M : Type 1} → statement M
 job-of-spec =
     tie.close
     (tie.spec
-    settings-at-requires
     (λ c κs. search needs)
-    u8-at-requires
-    (λ c. search needs)
-    u16-at-requires
-    (λ c. search needs)
-    u8-at-requires-2
-    (λ c. search needs)
-    (λ c. search needs)
-    u8-at-requires-3
-    (λ c. search needs)
-    f64-at-requires
-    (λ c. search needs)
-    u32-at-requires
-    (λ c. search needs)
-    u32-at-requires-2
-    (λ c. search needs)
-    f64-at-requires-2
-    (λ c. search needs)
-    f64-at-requires-3
-    (λ c. search needs)
-    u8-at-requires-4
-    (λ c. search needs)
-    (λ c. search needs)
-    u8-at-requires-5
-    u16-at-requires-2
-    (λ c. search needs)
+    (λ c κs. search needs)
+    (λ c κs. search needs)
+    (λ c κs. search needs)
+    cast-t8
+    (λ c κs. search needs)
+    cast-t10
+    cast-t11
+    (λ c κs. search needs)
+    (λ c κs. search needs)
+    cast-t15
+    (λ c κs. search needs)
     returns)

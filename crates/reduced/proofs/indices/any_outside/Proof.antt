@@ -1,7 +1,7 @@
 use borrow.Author.Needs.{needs}
 use Rattle.reduced.proofs.indices.any_outside.Statement.{statement}
 use Rattle.reduced.proofs.indices.any_outside.Tie as tie
-use Rattle.reduced.proofs.Distinct.{any-start, any-ended}
+use Rattle.laws.proofs.Any.{below-start, below-ended}
 use Rattle.reduced.specs.Indices.{outside}
 use Rattle.laws.specs.Lists.{elem, anyBelow}
 use lib.Dec.{leb}
@@ -19,7 +19,7 @@ abbrev μ-loop : tie.MeasureT-loop
 μ-loop size indices j₀ j = length indices - j
 
 loop-holds : tie.Need-loop-holds Inv-loop μ-loop
-loop-holds c = (search needs, any-start _)
+loop-holds c = (search needs, below-start _)
 
 returns : tie.Need-returns Inv-loop μ-loop
 returns c = outside-found _ (now (c .before .before .before .before .before .before .args .indices)) _ (c .before .wide .ensures) (c .if1 .taken) (c .before .before .before .loop-test .taken)
@@ -29,7 +29,7 @@ loop-again c = (search needs, outside-next _ (now (c .before .before .before .be
 
 returns-2 : tie.Need-returns-2 Inv-loop μ-loop
 unfolding outside
-returns-2 c = any-ended _ _ _ (c .before .loop .inv .1) (c .before .loop .inv .0) (c .loop-test .left)
+returns-2 c = below-ended _ _ _ (c .before .loop .inv .1) (c .before .loop .inv .0) (c .loop-test .left)
 
 pub any-outside-spec : {M : Type 1} → statement M
 any-outside-spec =

@@ -1,7 +1,7 @@
 use borrow.Author.Needs.{needs}
 use Rattle.reduced.proofs.indices.any_twice.Statement.{statement}
 use Rattle.reduced.proofs.indices.any_twice.Tie as tie
-use Rattle.reduced.proofs.Distinct.{any-start, any-ended}
+use Rattle.laws.proofs.Any.{below-start, below-ended}
 use Rattle.reduced.specs.Indices.{twice, putEach}
 use Rattle.laws.specs.Turns.{upTo}
 use Rattle.laws.specs.Lists.{elem, anyBelow}
@@ -22,7 +22,7 @@ abbrev μ-loop : tie.MeasureT-loop
 
 loop-holds : tie.Need-loop-holds Inv-loop μ-loop
 unfolding upTo
-loop-holds c = (search needs, any-start _, refl)
+loop-holds c = (search needs, below-start _, refl)
 
 array-read-if1 : tie.Need-array-read-if1 Inv-loop μ-loop
 array-read-if1 c = index-low (now (c .before .before .before .before .before .args .variable-map)) (c .before .before .before .before .before .pre) _ (c .before .before .loop-test .taken) (c .before .before .before .loop .inv .2) (c .wide .ensures)
@@ -38,7 +38,7 @@ loop-again c = (search needs, unmarked-next (now (c .before .before .before .bef
 
 returns-2 : tie.Need-returns-2 Inv-loop μ-loop
 unfolding twice
-returns-2 c = any-ended _ _ _ (c .before .loop .inv .1) (c .before .loop .inv .0) (c .loop-test .left)
+returns-2 c = below-ended _ _ _ (c .before .loop .inv .1) (c .before .loop .inv .0) (c .loop-test .left)
 
 pub any-twice-spec : {M : Type 1} → statement M
 any-twice-spec =

@@ -3,7 +3,7 @@ use Rattle.reduced.proofs.lift_solution.clear.Statement.{statement}
 use Rattle.reduced.proofs.lift_solution.clear.Tie as tie
 use Rattle.laws.proofs.MapFirst.{fill-none, fill-more, fill-all}
 use Rattle.laws.specs.Lists.{fill}
-use Rattle.reduced.specs.Lift.{zero64}
+use Rattle.ieee.specs.Floats.{zero64}
 use lib.ListN.{length}
 use mathlib.Core.Path.{_≡_, refl}
 use Prim.Native.Nat.{_≤_, _-_}

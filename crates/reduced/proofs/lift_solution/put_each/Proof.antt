@@ -4,7 +4,7 @@ use Rattle.reduced.proofs.lift_solution.put_each.Tie as tie
 use Rattle.laws.specs.Lists.{elem}
 use Rattle.laws.specs.Turns.{upTo}
 use Rattle.reduced.specs.Indices.{putEach}
-use Rattle.reduced.specs.Lift.{elemF}
+use Rattle.ieee.specs.Floats.{at}
 use lib.ListN.{length}
 use native.Mathlib.Omega.{arith}
 use mathlib.Core.Path.{_≡_, refl}
@@ -12,7 +12,7 @@ use Prim.Native.Nat.{_≤_, _-_}
 use Rattle.reduced.proofs.Put.{put-next, put-all}
 
 abbrev Inv-loop : tie.InvT-loop
-Inv-loop indices values lifted₀ j₀ lifted j = (j ≤ length indices) × (length lifted ≡ length lifted₀) × (lifted ≡ putEach (elem indices) (elemF values) j lifted₀)
+Inv-loop indices values lifted₀ j₀ lifted j = (j ≤ length indices) × (length lifted ≡ length lifted₀) × (lifted ≡ putEach (elem indices) (at values) j lifted₀)
 
 abbrev μ-loop : tie.MeasureT-loop
 μ-loop indices values lifted₀ j₀ lifted j = length indices - j

@@ -19,15 +19,15 @@ returns c = sym (first-here 0 _ _ (c .if1 .taken))
 
 returns-2 : tie.Need-returns-2
 unfolding stopStatus
-returns-2 c = sym (first-skip 1 _ _ (c .before .before .before .if1 .left) ∙ first-here 0 _ _ (and-of _ _ true true (c .before .before .if2 .taken) (ap (λ (x : Float). lt x (c .before .before .before .before .args .tolerance)) (sym (c .before .magnitude .ensures)) ∙ c .if3 .taken)))
+returns-2 c = sym (first-skip 1 _ _ (c .before .before .before .if1 .left) ∙ first-here 0 _ _ (and-of _ _ true true (c .before .before .if2 .taken) (ap (λ (x : Float). lt x (c .before .before .before .before .args .tolerance)) (sym (c .before .absolute .ensures)) ∙ c .if3 .taken)))
 
 returns-3 : tie.Need-returns-3
 unfolding stopStatus
-returns-3 c = sym (first-skip 1 _ _ (c .before .before .before .before .if1 .left) ∙ first-skip 1 _ _ (and-of _ _ true false (c .before .before .before .if2 .taken) (ap (λ (x : Float). lt x (c .before .before .before .before .before .args .tolerance)) (sym (c .before .before .magnitude .ensures)) ∙ c .before .if3 .left)) ∙ first-here 1 _ _ (and-of _ _ true true (c .before .before .before .if2 .taken) (c .if4 .taken)))
+returns-3 c = sym (first-skip 1 _ _ (c .before .before .before .before .if1 .left) ∙ first-skip 1 _ _ (and-of _ _ true false (c .before .before .before .if2 .taken) (ap (λ (x : Float). lt x (c .before .before .before .before .before .args .tolerance)) (sym (c .before .before .absolute .ensures)) ∙ c .before .if3 .left)) ∙ first-here 1 _ _ (and-of _ _ true true (c .before .before .before .if2 .taken) (c .if4 .taken)))
 
 returns-4 : tie.Need-returns-4
 unfolding stopStatus
-returns-4 c = sym (first-skip 1 _ _ (c .before .before .before .before .if1 .left) ∙ first-skip 1 _ _ (and-of _ _ true false (c .before .before .before .if2 .taken) (ap (λ (x : Float). lt x (c .before .before .before .before .before .args .tolerance)) (sym (c .before .before .magnitude .ensures)) ∙ c .before .if3 .left)) ∙ first-skip 2 _ _ (and-of _ _ true false (c .before .before .before .if2 .taken) (c .if4 .left)) ∙ first-end)
+returns-4 c = sym (first-skip 1 _ _ (c .before .before .before .before .if1 .left) ∙ first-skip 1 _ _ (and-of _ _ true false (c .before .before .before .if2 .taken) (ap (λ (x : Float). lt x (c .before .before .before .before .before .args .tolerance)) (sym (c .before .before .absolute .ensures)) ∙ c .before .if3 .left)) ∙ first-skip 2 _ _ (and-of _ _ true false (c .before .before .before .if2 .taken) (c .if4 .left)) ∙ first-end)
 
 returns-5 : tie.Need-returns-5
 unfolding stopStatus

@@ -11,6 +11,7 @@ returns c =
       numbered = c .before .finish-number .ensures;
       refused = λ n. (refl, refl, refl);
       accepted = λ z. absurd (c .if1 .taken z);
+      kept = refl;
       demand-3 = λ x e. absurd (c .if1 .taken (ap finishedNumber e));
     }
 

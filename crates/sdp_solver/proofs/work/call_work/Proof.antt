@@ -9,7 +9,7 @@ use Rattle.laws.specs.Lists.{elemZ}
 use Rattle.tables.specs.Limits.{mostSignEntries}
 use Rattle.tables.specs.Table.{tableOf}
 use Rattle.sign_table.proofs.Sizes.{hall-convertible}
-use Rattle.sign_table.proofs.Theorems.{house-sign-table}
+use Rattle.sign_table.proofs.Theorems.{hall-sign-table}
 use Rattle.run_sweep.specs.Work.{workOf, callWork}
 use Rattle.finalize.proofs.Assembled.{Cut, cut, cut-lent}
 use Rattle.sdp_solver.proofs.work.call_work.Statement.{statement}
@@ -21,11 +21,11 @@ built : (c : tie.After-sign-values2) → let a = c .before .before .before .befo
 built c =
     let a = c .before .before .before .before .before .before .before .before .before .before .before .before .before .before .before .before .args in let s = c .before .before .before .sign-matrix in
     cut (a .n) (tableOf (a .count) (now (a .rows)) (now (a .cols)) (now (a .values))) (elemZ (now (a .c))) (s .result) (c .before .before .before .before .before .before .before .before .before .before .before .before .before .before .before .before .pre .0 .hall) (s .ensures .0) (s .ensures .1)
-    (c .before .before .before .before .before .before .before .before .before .indices .ensures, s .kept .1 .1 .1 .1 .1 .1 .0) (c .before .before .before .before .before .before .before .before .indices2 .ensures, s .kept .1 .1 .1 .1 .1 .1 .1 .0) (c .before .before .before .before .before .before .before .eighths .ensures, s .kept .1 .1 .1 .1 .1 .1 .1 .1 .0)
+    (c .before .before .before .before .before .before .before .before .before .indices .ensures .1, s .kept .1 .1 .1 .1 .1 .1 .0) (c .before .before .before .before .before .before .before .before .indices2 .ensures .1, s .kept .1 .1 .1 .1 .1 .1 .1 .0) (c .before .before .before .before .before .before .before .eighths .ensures .1, s .kept .1 .1 .1 .1 .1 .1 .1 .1 .0)
 
 -- it has at most as many entries as the slices have room for
 entries-few : (c : tie.After-sign-values2) → c .before .before .before .sign-matrix .result ≤ mostSignEntries
-entries-few c = omega (arith, c .before .before .before .sign-matrix .ensures .1, house-sign-table (c .before .before .before .before .before .before .before .before .before .before .before .before .before .before .before .before .pre .0 .hall) .entries)
+entries-few c = omega (arith, c .before .before .before .sign-matrix .ensures .1, hall-sign-table (c .before .before .before .before .before .before .before .before .before .before .before .before .before .before .before .before .pre .0 .hall) .entries)
 
 sign-matrix-requires : tie.Need-sign-matrix-requires
 sign-matrix-requires c κs =
@@ -34,9 +34,9 @@ sign-matrix-requires c κs =
       u .costs,
       hall-convertible (omega arith) (omega arith) (u .hall),
       record {
-        rows-room = omega (arith, c .before .before .before .before .before .indices .ensures, u .hall .entries, u .hall .wagons);
-        cols-room = omega (arith, c .before .before .before .before .indices2 .ensures, u .hall .entries, u .hall .wagons);
-        values-room = omega (arith, c .before .before .before .eighths .ensures, u .hall .entries, u .hall .wagons);
+        rows-room = omega (arith, c .before .before .before .before .before .indices .ensures .1, u .hall .entries, u .hall .wagons);
+        cols-room = omega (arith, c .before .before .before .before .indices2 .ensures .1, u .hall .entries, u .hall .wagons);
+        values-room = omega (arith, c .before .before .before .eighths .ensures .1, u .hall .entries, u .hall .wagons);
       },
     )
 

@@ -6,7 +6,8 @@ use denote.Ref.{now}
 use Rattle.tables.specs.Table.{tableOf}
 use mathlib.Core.Path.{_≡_, refl, sym, _∙_, subst}
 use lib.IntN.{pos, _+ℤ_}
-use lib.ListN.{length, getD, length-set}
+use lib.ListN.{length, getD, drop, length-set}
+use lib.Seq.{drop-set-lt}
 use mir.Syntax.{w64}
 use mir.Val.{SFits, toZ, ofZ}
 use mir.Facts.{toZ-ofZ}
@@ -21,6 +22,7 @@ use Rattle.sign_search.proofs.changes.sum_rows.Tie as tie
 abbrev Inv-loop : tie.InvT-loop
 Inv-loop entries rows cols values signs changes₀ row₀ held₀ k₀ changes row held k =
     (k ≤ entries) × (length changes ≡ length changes₀) × Summed (tableOf entries rows cols values) signs k row (toZ w64 held) changes
+    × (drop (length signs) changes ≡ drop (length signs) changes₀)
 
 abbrev μ-loop : tie.MeasureT-loop
 μ-loop entries rows cols values signs changes₀ row₀ held₀ k₀ changes row held k = entries - k
@@ -38,6 +40,7 @@ loop-holds c =
       omega arith,
       refl,
       L.summed-none (tableOf (a .entries) (now (a .rows)) (now (a .cols)) (now (a .values))) (now (a .signs)) _ (now (a .changes)) (s .pre .1) (omega (arith, c .wide .ensures, s .pre .0 .in-range .rows-in 0 (s .pre .2))) (s .pre .3),
+      refl,
     )
 
 shared-slice-read-wide-2 : tie.Need-shared-slice-read-wide-2 Inv-loop μ-loop
@@ -93,6 +96,7 @@ loop-again c =
       subst (λ (i : ℕ). Summed (tableOf (a .entries) (now (a .rows)) (now (a .cols)) (now (a .values))) (now (a .signs)) (l .k + 1) i z (t .turn-row .last .0)) (sym (t .before .before .wide2 .ensures))
           (L.summed-more (tableOf (a .entries) (now (a .rows)) (now (a .cols)) (now (a .values))) (now (a .signs)) (l .k) (getD (now (a .rows)) (l .k) 0) (t .turn-row .result) (t .turn-row .last .0) (s .pre .0) (turned t) (omega arith) refl
           z (toZ-ofZ (add-held c) ∙ added c)),
+      L.turned-tail (length (now (a .signs))) (l .row) _ (toZ w64 (l .held)) (t .turn-row .result) (l .changes) (t .turn-row .last .0) (l .inv .2 .row-in) (t .turn-row .ensures) ∙ l .inv .3,
     )
 
 room : (c : tie.After-loop Inv-loop μ-loop) → c .before .loop .row < length (c .before .loop .changes)
@@ -129,7 +133,9 @@ returns c =
     let l = c .before .before .loop in
     let s = c .before .before .before .before .before .before .before .before in
     let a = s .args in
-    L.summed-all (tableOf (a .entries) (now (a .rows)) (now (a .cols)) (now (a .values))) (now (a .signs)) (l .k) (l .row) (toZ w64 (l .held)) (l .changes) (s .pre .0) (l .inv .2) (omega arith) _ (toZ-ofZ (add-changes c) ∙ last c)
+    L.changes-laid (tableOf (a .entries) (now (a .rows)) (now (a .cols)) (now (a .values))) (now (a .signs)) (now (a .changes)) _
+    (L.summed-all (tableOf (a .entries) (now (a .rows)) (now (a .cols)) (now (a .values))) (now (a .signs)) (l .k) (l .row) (toZ w64 (l .held)) (l .changes) (s .pre .0) (l .inv .2) (omega arith) _ (toZ-ofZ (add-changes c) ∙ last c))
+    (simp length-set (l .inv .1)) (drop-set-lt (length (now (a .signs))) (l .changes) (l .row) _ (l .inv .2 .row-in) ∙ l .inv .3)
 
 pub sum-rows-spec : {M : Type 1} → statement M
 sum-rows-spec =

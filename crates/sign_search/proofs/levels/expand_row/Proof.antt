@@ -19,7 +19,7 @@ expand-parent-requires c κs =
     let s = c .before .before .before .before .before .before .before .before .before .before .before .before .before .before in
     let a = s .args in (
       rw (toZ-ofZ (s .fits .objective))
-          (row-expands (tableOf (a .entries) (now (a .rows)) (now (a .cols)) (now (a .values))) (parentOf (a .objective) (now (a .parent))) (k .last .1 .1 .1 .1 .1 .0) (k .ensures .1)
+          (row-expands (tableOf (a .entries) (now (a .rows)) (now (a .cols)) (now (a .values))) (parentOf (a .objective) (now (a .parent))) (k .last .1 .1 .1 .1 .1 .0) (k .ensures .2)
           (a .count) (a .width) (length (now (a .objectives))) (length (now (a .signs))) (rw (k .kept .1 .1 .1 .1 .1 .0) (s .pre .0))),
       s .pre .4,
     )
@@ -44,9 +44,9 @@ returns c =
     let m = length (now (a .parent)) in
     let p = parentOf (a .objective) (now (a .parent)) in (
       subst (λ (l : List Choice). Kept (a .width) (levelOf m (a .count) (now (a .objectives)) (now (a .signs))) l (levelOf m (e .result) (e .last .1 .1 .1 .0) (e .last .1 .1 .1 .1 .0)) (e .result))
-          (listed-children (tableOf (a .entries) (now (a .rows)) (now (a .cols)) (now (a .values))) p (k .last .1 .1 .1 .1 .1 .0) (k .ensures .1))
+          (listed-children (tableOf (a .entries) (now (a .rows)) (now (a .cols)) (now (a .values))) p (k .last .1 .1 .1 .1 .1 .0) (k .ensures .2))
           (rw (toZ-ofZ (c .before .before .before .before .before .before .before .before .before .before .before .before .before .before .before .before .before .before .fits .objective)) at (e .ensures)),
-      k .ensures .0,
+      k .ensures .1,
     )
 
 pub expand-row-spec : {M : Type 1} → statement M

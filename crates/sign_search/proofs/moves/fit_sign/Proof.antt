@@ -3,9 +3,10 @@ use borrow.Author.Needs.{needs}
 use Rattle.sign_search.proofs.moves.fit_sign.Statement.{statement}
 use Rattle.sign_search.proofs.moves.fit_sign.Tie as tie
 use native.Mathlib.Omega.{arith}
+use borrow.Author.Tests.{not-false}
 use mathlib.Core.Path.{sym, _∙_}
 use denote.Ref.{now}
-use Rattle.sign_search.proofs.TurnLaws.{not-true, not-false, agree-flipped, agree-more}
+use Rattle.sign_search.proofs.TurnLaws.{not-true, agree-flipped, agree-more}
 
 sign-at-requires : tie.Need-sign-at-requires
 sign-at-requires c κs = omega (arith, c .before .before .before .before .before .pre .1, c .before .before .before .before .before .pre .2 .long)

@@ -2,16 +2,17 @@ use borrow.Author.Needs.{needs}
 use borrow.Author.Needs.{needs}
 use Rattle.sign_search.proofs.moves.flip_current.Statement.{statement}
 use Rattle.sign_search.proofs.moves.flip_current.Tie as tie
+use Prim.Native.Nat.{_≤_, _^_}
 use native.Mathlib.Omega.{arith}
 use native.Mathlib.Numerals.{add-one}
 use mathlib.Core.Path.{ap, _∙_}
 use denote.Ref.{now}
-use lib.IntN.{ℤ, pos, negℤ, _-ℤ_, +ℤ-idl}
+use lib.IntN.{ℤ, pos, negℤ, natAbs, _-ℤ_, +ℤ-idl}
 use lib.ListN.{getD, length-set}
 use mir.Facts.{toZ-ofZ}
-use Rattle.laws.proofs.Integer.{held}
+use Rattle.laws.proofs.Integer.{negation-fits, held}
 use Rattle.tables.specs.Table.{tableOf}
-use Rattle.sign_search.proofs.TurnLaws.{usable-of, change-abs, negation-fits, changes-flipped}
+use Rattle.sign_search.proofs.TurnLaws.{usable-of, change-abs, changes-flipped}
 
 mul-own : tie.Need-mul-own
 mul-own c = omega (arith, c .before .before .before .pre .1, c .before .before .before .pre .2 .many)
@@ -31,7 +32,8 @@ turn-entries-requires c κs = (record { usable = usable-of (c .before .before .b
 sub-changes : tie.Need-sub-changes
 sub-changes c =
     let a = c .before .before .before .before .before .before .before .before .before .before .args in
-    rw (held (getD (now (a .changes)) (a .i) (pos 0)) (c .before .before .before .before .before .before .own .given)) (negation-fits (getD (now (a .changes)) (a .i) (pos 0)) (rw (c .before .before .before .before .before .before .before .before .before .before .pre .2 .are (a .i) (c .before .before .before .before .before .before .before .before .before .before .pre .1)) (change-abs (now (a .current)) (usable-of (c .before .before .before .before .before .before .before .before .before .before .pre .0)) (a .i) (c .before .before .before .before .before .before .before .before .before .before .pre .1))))
+    let small : natAbs (getD (now (a .changes)) (a .i) (pos 0)) ≤ 2 ^ 44 = rw (c .before .before .before .before .before .before .before .before .before .before .pre .2 .are (a .i) (c .before .before .before .before .before .before .before .before .before .before .pre .1)) (change-abs (now (a .current)) (usable-of (c .before .before .before .before .before .before .before .before .before .before .pre .0)) (a .i) (c .before .before .before .before .before .before .before .before .before .before .pre .1)) in
+    rw (held (getD (now (a .changes)) (a .i) (pos 0)) (c .before .before .before .before .before .before .own .given)) (negation-fits (getD (now (a .changes)) (a .i) (pos 0)) (omega (arith, small)))
 
 mul-t11 : tie.Need-mul-t11
 mul-t11 c = omega (arith, c .before .before .before .before .before .before .before .before .before .before .pre .1, c .before .before .before .before .before .before .before .before .before .before .pre .2 .many, c .before .turn-entries .kept .1 .1 .1 .1 .1 .1 .1 .1 .0)

@@ -35,7 +35,8 @@ returns c =
     let a = c .before .before .before .before .before .before .args in
     let l = c .before .loop in
     let all : l .i ≡ length (now (a .target)) = omega arith in
-    (l .inv .3, changes-agree (tableOf (a .entries) (now (a .rows)) (now (a .cols)) (now (a .values))) (l .current) (now (a .target)) (l .changes) (subst (λ (n : ℕ). Agree n (l .current) (now (a .target))) all (l .inv .2)) (l .inv .3))
+    let there = subst (λ (n : ℕ). Agree n (l .current) (now (a .target))) all (l .inv .2) in
+    (there, l .inv .3, changes-agree (tableOf (a .entries) (now (a .rows)) (now (a .cols)) (now (a .values))) (l .current) (now (a .target)) (l .changes) there (l .inv .3))
 
 pub move-to-spec : {M : Type 1} → statement M
 move-to-spec =

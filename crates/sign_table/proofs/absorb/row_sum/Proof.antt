@@ -1,9 +1,8 @@
 -- `sign_table::absorb::row_sum` meets its contract.
-use Rattle.tables.proofs.Mirrors.{only-yes}
 use Rattle.sign_table.proofs.Bounds.{row-held, row-abs, summed-fits, summed-is}
 use Rattle.sign_table.proofs.Cursor.{in-row-true, row-step}
 use Rattle.sign_table.specs.Walk.{RowAt, rowTerm}
-use Rattle.laws.proofs.Sums.{turn-fits, turn-is}
+use Rattle.laws.proofs.Sums.{only-yes, turn-fits, turn-is}
 use Rattle.laws.specs.Lists.{elem, elemZ}
 use Rattle.laws.specs.Sum as S
 use mir.Val.{toZ}

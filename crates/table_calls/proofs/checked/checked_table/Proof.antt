@@ -3,8 +3,7 @@ use Rattle.table_calls.proofs.checked.checked_table.Statement.{statemen
 use Rattle.table_calls.proofs.checked.checked_table.Tie as tie
 use mathlib.Core.Path.{sym, _∙_}
 use lib.Dec.{lit<, lit≤}
-use Rattle.laws.proofs.Refusal.{first-here, first-skip}
-use Rattle.table_calls.proofs.Accepting.{first-last}
+use Rattle.laws.proofs.Refusal.{first-here, first-skip, first-last}
 
 returns : tie.Need-returns
 returns c = sym (first-here 30 _ _ (c .if1 .taken))

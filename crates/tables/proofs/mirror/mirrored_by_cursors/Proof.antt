@@ -7,10 +7,9 @@ use mathlib.Core.Path.{_≡_, refl, sym, _∙_, ap}
 use mathlib.Core.Bool.{false, not}
 use Prim.Native.Nat.{_≤_, _-_}
 use Rattle.laws.specs.Lists.{anyBelow}
-use Rattle.laws.proofs.Any.{below-at}
+use Rattle.laws.proofs.Any.{below-at, below-passed, below-ended}
 use Rattle.tables.specs.Table.{tableOf}
 use Rattle.tables.specs.Check.{isMirror, unmirrored}
-use Rattle.tables.proofs.Checks.{below-next, below-end}
 
 abbrev Inv-loop : tie.InvT-loop
 Inv-loop count rows cols values next₀ k₀ next k = (k ≤ count) × (anyBelow k (λ j. not (anyBelow count (isMirror (tableOf count rows cols values) j))) ≡ false)
@@ -23,11 +22,11 @@ unfolding anyBelow
 loop-holds c = (search needs, refl)
 
 loop-again : tie.Need-loop-again Inv-loop μ-loop
-loop-again c = (search needs, below-next _ _ (c .before .before .before .before .before .before .before .loop .inv .1) (ap not (below-at _ _ _ (c .before .before .if2 .left) (sym (c .before .is-mirror .ensures) ∙ not-false _ (c .if3 .left)))))
+loop-again c = (search needs, below-passed _ _ (c .before .before .before .before .before .before .before .loop .inv .1) (ap not (below-at _ _ _ (c .before .before .if2 .left) (sym (c .before .is-mirror .ensures) ∙ not-false _ (c .if3 .left)))))
 
 returns-4 : tie.Need-returns-4 Inv-loop μ-loop
 unfolding unmirrored
-returns-4 c e = sym (below-end _ _ _ (c .before .loop .inv .1) (c .before .loop .inv .0) (c .loop-test .left))
+returns-4 c e = sym (below-ended _ _ _ (c .before .loop .inv .1) (c .before .loop .inv .0) (c .loop-test .left))
 
 pub mirrored-by-cursors-spec : {M : Type 1} → statement M
 mirrored-by-cursors-spec =

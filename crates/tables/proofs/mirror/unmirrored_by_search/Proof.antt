@@ -7,10 +7,9 @@ use mathlib.Core.Bool.{false, not}
 use Prim.Native.Nat.{_≤_, _-_}
 use native.Mathlib.Omega.{arith}
 use Rattle.laws.specs.Lists.{anyBelow}
-use Rattle.laws.proofs.Any.{below-at}
+use Rattle.laws.proofs.Any.{below-at, below-passed, below-ended}
 use Rattle.tables.specs.Table.{tableOf}
 use Rattle.tables.specs.Check.{isMirror, unmirrored}
-use Rattle.tables.proofs.Checks.{below-next, below-end}
 
 abbrev Inv-loop : tie.InvT-loop
 Inv-loop count rows cols values k₀ k = (k ≤ count) × (anyBelow k (λ j. not (anyBelow count (isMirror (tableOf count rows cols values) j))) ≡ false)
@@ -32,11 +31,11 @@ unfolding unmirrored
 returns c = sym (below-at _ _ _ (c .before .before .loop-test .taken) (simp (← c .before .has-mirror .ensures, c .if1 .taken)))
 
 loop-again : tie.Need-loop-again Inv-loop μ-loop
-loop-again c = (omega arith, below-next _ _ (c .before .before .before .loop .inv .1) (simp (← c .before .has-mirror .ensures, c .if1 .left)))
+loop-again c = (omega arith, below-passed _ _ (c .before .before .before .loop .inv .1) (simp (← c .before .has-mirror .ensures, c .if1 .left)))
 
 returns-2 : tie.Need-returns-2 Inv-loop μ-loop
 unfolding unmirrored
-returns-2 c = below-end _ _ _ (c .before .loop .inv .1) (c .before .loop .inv .0) (c .loop-test .left)
+returns-2 c = below-ended _ _ _ (c .before .loop .inv .1) (c .before .loop .inv .0) (c .loop-test .left)
 
 pub unmirrored-by-search-spec : {M : Type 1} → statement M
 unmirrored-by-search-spec =

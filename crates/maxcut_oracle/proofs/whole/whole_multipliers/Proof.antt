@@ -1,0 +1,46 @@
+-- `maxcut_oracle::whole::whole_multipliers` meets its contract. The first i elements are written. Assumes nothing.
+use borrow.Author.Needs.{needs}
+use mathlib.Core.Path.{_≡_}
+use Prim.Native.Nat.{_≤_, _-_}
+use native.Mathlib.Omega.{arith}
+use lib.ListN.{length, length-set}
+use lib.Ieee.{nan}
+use Rattle.tables.specs.Table.{tableOf}
+use Rattle.laws.specs.Lists.{over, tabulate}
+use Rattle.laws.proofs.Made.{tabulate-next, tabulate-all}
+use Rattle.laws.proofs.Parts.{row-within}
+use Rattle.maxcut_oracle.specs.Whole.{numerator, wholeMultipliers}
+use Rattle.maxcut_oracle.proofs.whole.whole_multipliers.Tie as tie
+use Rattle.maxcut_oracle.proofs.whole.whole_multipliers.Statement.{statement}
+
+abbrev Inv-loop : tie.InvT-loop
+Inv-loop m count rows cols values rank factor sums₀ dual₀ i₀ sums dual i = (i ≤ m) × (length sums ≡ rank) × (length dual ≡ length dual₀) × (dual ≡ over (tabulate (numerator (tableOf count rows cols values) rank factor) i) dual₀)
+
+abbrev μ-loop : tie.MeasureT-loop
+μ-loop m count rows cols values rank factor sums₀ dual₀ i₀ sums dual i = m - i
+
+loop-holds : tie.Need-loop-holds Inv-loop μ-loop
+unfolding tabulate
+loop-holds c = search needs
+
+whole-row-requires : tie.Need-whole-row-requires Inv-loop μ-loop
+whole-row-requires c κs = (c .before .before .before .before .before .before .before .before .pre .0, (c .before .before .before .before .before .before .before .before .pre .1 .0, c .before .before .loop .inv .1))
+
+row-requires : tie.Need-row-requires Inv-loop μ-loop
+row-requires c κs = omega (arith, row-within _ _ (c .before .before .before .before .before .before .before .before .before .before .before .before .args .rank) (c .before .before .before .before .before .loop-test .taken), c .before .before .before .before .before .before .before .before .before .before .before .before .pre .1 .0)
+
+dot-requires : tie.Need-dot-requires Inv-loop μ-loop
+dot-requires c κs = omega (arith, c .row .ensures .1)
+
+loop-again : tie.Need-loop-again Inv-loop μ-loop
+unfolding numerator
+loop-again c = (omega arith, omega arith, simp length-set (omega arith), rw (c .dot .ensures, c .before .before .before .before .before .whole-row .ensures, c .before .row .ensures .0) (tabulate-next _ _ _ _ nan (omega arith) (c .before .before .before .before .before .before .before .before .loop .inv .3)))
+
+returns : tie.Need-returns Inv-loop μ-loop
+unfolding wholeMultipliers
+returns c = let e : c .before .loop .i ≡ c .before .before .before .before .before .before .before .args .m = omega arith in rw (tabulate-all _ _ _ (c .before .before .before .before .before .before .before .pre .1 .2)) at (rw e at (c .before .loop .inv .3))
+
+pub whole-multipliers-spec : {M : Type 1} → statement M
+whole-multipliers-spec =
+    tie.close
+    (tie.spec Inv-loop μ-loop loop-holds whole-row-requires row-requires dot-requires (λ c. search needs) (λ c. search needs) (λ c. search needs) (λ c. search needs) loop-again (λ c. search needs) (λ c. search needs) returns)
