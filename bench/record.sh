@@ -3,19 +3,19 @@
 # solving, its second search for the rounds left out. Both are timed in turn, three times; the fastest batch of each counts.
 set -eu
 cd "$(dirname "$0")/.."
-. host/archive.sh
+archive=$(tools/archive.sh)
 mkdir -p target/bench
 export CARGO_TARGET_DIR="$PWD/target/oracle"
 (cd oracle && cargo build --release --offline --locked --quiet)
 oracle=$CARGO_TARGET_DIR/release/oracle
-gcc -O2 -Wall -Wextra -D_GNU_SOURCE -Ihost -o target/bench/time_record bench/time_record.c "$archive" -lm -lpthread
+gcc -O2 -Wall -Wextra -Iinclude -o target/bench/time_record bench/time_record.c "$archive" -lm
 
 echo "the whole record call, large job: ours, the Rust"
 for rule in 0 1 2 3 4; do
-    "$oracle" problem job "$rule" 17 200 128 30 1 >target/bench/job.txt
+    "$oracle" problem job "$rule" 17 200 128 30 1 | basenc --base16 -d >target/bench/job
     for _ in 1 2 3; do
-        basenc --base16 -d target/bench/job.txt | ${FIXED:-} "$oracle" bench answer 1 | sed -nE '1s/.* ([0-9]+) in the fastest.*/rust \1/p'
-        ${FIXED:-} target/bench/time_record 1 <target/bench/job.txt | sed -E 's/.* /ours /'
+        ${FIXED:-} "$oracle" bench answer 1 <target/bench/job | sed -nE '1s/.* ([0-9]+) in the fastest.*/rust \1/p'
+        ${FIXED:-} target/bench/time_record 1 <target/bench/job | sed -E 's/.* /ours /'
     done | awk -v rule="$rule" '
         !($1 in least) || $2 < least[$1] { least[$1] = $2 }
         END { printf "rule %d  %9.2f us %9.2f us   ours / Rust %5.2f\n", rule, least["ours"] / 1000, least["rust"] / 1000, least["ours"] / least["rust"] }'

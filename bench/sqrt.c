@@ -4,8 +4,7 @@
 #include <stdio.h>
 #include <string.h>
 #include <time.h>
-
-double host_sqrt(double);
+#include "wagonplan.h"
 
 static uint64_t state = 88172645463325252ull;
 static uint64_t next(void) { state ^= state << 13; state ^= state >> 7; state ^= state << 17; return state; }
@@ -18,7 +17,7 @@ enum { SIZE = 1 << 16, CALLS = 10000000 };
 static double numbers[SIZE];
 
 static int differs(uint64_t b) {
-    double a = host_sqrt(of(b)), c = sqrt(of(b));
+    double a = wagonplan_raw_sqrt(of(b)), c = sqrt(of(b));
     return !(isnan(a) && isnan(c)) && bits(a) != bits(c);
 }
 
@@ -53,7 +52,7 @@ static double chained(double (*root)(double)) {
 }
 
 static void row(const char *name) {
-    double a = apart(host_sqrt), b = apart(machine), c = chained(host_sqrt), d = chained(machine);
+    double a = apart(wagonplan_raw_sqrt), b = apart(machine), c = chained(wagonplan_raw_sqrt), d = chained(machine);
     printf("%-26s apart %6.1f ns, sqrtsd %5.1f, ratio %4.1f   chained %6.1f ns, sqrtsd %5.1f, ratio %4.1f\n", name, a, b, a / b, c, d, c / d);
 }
 

@@ -1,12 +1,7 @@
 // time_reduced submatrix|lift CALLS: nanoseconds of a `from_principal_submatrix`, or of a `lift_solution`, on the problem of standard input, as `oracle problem reduced` prints it.
-#include "timed.h"
 #include <string.h>
-
-extern uint8_t host_from_principal_submatrix(size_t size, size_t count, const uint16_t *rows, size_t, const uint16_t *cols, size_t,
-                                             const int64_t *values, size_t, const uint16_t *map, size_t, const uint16_t *fixed, size_t,
-                                             uint16_t *out_rows, size_t, uint16_t *out_cols, size_t, int64_t *out_values, size_t, size_t *entries);
-extern uint8_t host_lift_solution(size_t size, const uint16_t *map, size_t, const uint16_t *fixed, size_t, const double *fixed_values, size_t,
-                                  const double *solution, size_t, double *lifted, size_t);
+#include "timed.h"
+#include "wagonplan.h"
 
 static uint16_t rows[5000], cols[5000], out_rows[5000], out_cols[5000], map[1024], fixed[1024];
 static int64_t values[5000], out_values[5000];
@@ -39,12 +34,16 @@ int main(int argc, char **argv) {
     if (5000 < count || calls < 1) return 2;
     for (size_t k = 0; k < count; k++) rows[k] = word(), cols[k] = word(), values[k] = (int64_t)word();
     size_t mapped = indices(map), fixes = indices(fixed), fixed_to = doubles(fixed_values), solved = doubles(solution), entries = 0;
+    wagonplan_sign_table table = {size, count, {rows, count}, {cols, count}, {values, count}};
+    wagonplan_u16 to = {map, mapped}, at = {fixed, fixes};
+    wagonplan_entries out = {{out_rows, count}, {out_cols, count}, {out_values, count}};
+    wagonplan_f64 values_at = {fixed_values, fixed_to}, solved_to = {solution, solved};
+    wagonplan_f64_mut whole = {lifted, size};
     uint8_t refused = 0;
     if (!strcmp(argv[1], "submatrix"))
-        TIMED(calls, refused |= host_from_principal_submatrix(size, count, rows, count, cols, count, values, count, map, mapped, fixed, fixes,
-                                                              out_rows, count, out_cols, count, out_values, count, &entries));
+        TIMED(calls, refused |= wagonplan_from_principal_submatrix(&table, to, at, out, &entries));
     else if (!strcmp(argv[1], "lift"))
-        TIMED(calls, refused |= host_lift_solution(size, map, mapped, fixed, fixes, fixed_values, fixed_to, solution, solved, lifted, size));
+        TIMED(calls, refused |= wagonplan_lift_solution(size, to, at, values_at, solved_to, whole));
     else
         return 2;
     return refused;

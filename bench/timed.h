@@ -21,7 +21,7 @@ static inline double now(void) {
     return t.tv_sec + 1e-9 * t.tv_nsec;
 }
 
-static int by_time(const void *a, const void *b) {
+static inline int by_time(const void *a, const void *b) {
     double x = *(const double *)a, y = *(const double *)b;
     return (x > y) - (x < y);
 }

@@ -4,7 +4,7 @@
 set -eu
 hall=${1:+$(realpath "$1")}
 cd "$(dirname "$0")/.."
-hall=${hall:-host/halls/balcony.txt}
+hall=${hall:-examples/halls/balcony.txt}
 program=${WAGONPLAN:-target/bin/wagonplan}
 mkdir -p target/log
 [ -x "$program" ] || rt check wagonplan >target/log/show_hall.txt 2>&1 || { tail -n 20 target/log/show_hall.txt; exit 1; }

@@ -53,8 +53,7 @@ fn answer_job(job: &[u8], workspace: &mut [u8], answer: &mut [u8])
 
 // Answers a job: 0 and its answer record, or the number of its refusal and that refusal, over the front of `answer`. 31 for a short slice
 // comes first and writes nothing; the workspace is written for an accepted job alone, and a longer one keeps its tail.
-#[no_mangle]
-pub extern "C" fn answer_record(job: &[u8], workspace: &mut [u8], answer: &mut [u8]) -> u8
+pub fn answer_record(job: &[u8], workspace: &mut [u8], answer: &mut [u8]) -> u8
     ensures { λ r. ⌜ Answers (now (job .entry)) (now (workspace .entry)) (now (answer .entry)) r (now (workspace .exit)) (now (answer .exit)) ⌝ }
 {
     if answer.len() < LEAST_ANSWER {

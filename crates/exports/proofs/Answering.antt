@@ -1,0 +1,76 @@
+-- What a refused call answers, made of its number: a refusal is no value, so its number isn't 0. Assumes nothing.
+use Prim.Native.Nat.{ℕ, zero, suc}
+use mathlib.Core.Path.{_≡_, refl, sym, ap, subst}
+use mathlib.Core.Bool.{Bool, true, false}
+use mathlib.Core.List.{List}
+use lib.Dec.{T}
+use lib.IntN.{ℤ}
+use lib.Ieee.{Float}
+use Rattle.table_calls.specs.declared.Eighths.{Eighths}
+use Rattle.table_calls.specs.declared.Eighths.the-variants as E
+use Rattle.table_calls.specs.declared.Bound.{Bound}
+use Rattle.table_calls.specs.declared.Bound.the-variants as B
+use Rattle.table_calls.specs.declared.Entries.{Entries}
+use Rattle.table_calls.specs.declared.Entries.the-variants as C
+use Rattle.table_calls.specs.Answer.{answered, eighthsAnswer, boundAnswer, entriesAnswer}
+use Rattle.sdp_local_search.specs.declared.BeamSearched.{BeamSearched}
+use Rattle.sdp_local_search.specs.declared.BeamSearched.the-variants as S
+use Rattle.sdp_local_search.specs.BeamSearch.{Limits}
+use Rattle.sdp_local_search.specs.Call.{BeamSearches}
+use Rattle.reduced.specs.declared.from_principal_submatrix.Reduced.{Reduced}
+use Rattle.reduced.specs.declared.from_principal_submatrix.Reduced.the-variants as R
+use Rattle.reduced.specs.Submatrix.{Slices, Reduces}
+use Rattle.exports.specs.Answers.{eighthsBy, boundBy, entriesBy, searchedBy, reducedBy}
+
+-- a value, or a refusal by a number above 0
+abbrev eighths-whole : Eighths → Bool
+eighths-whole (E.Value v) = true
+eighths-whole (E.Refused zero) = false
+eighths-whole (E.Refused (suc k)) = true
+
+pub eighths-refused : (value v : ℤ) (number k : ℕ) → E.Refused k ≡ eighthsAnswer number v → eighthsBy k value ≡ eighthsAnswer number v
+unfolding answered
+eighths-refused value v zero zero e = absurd (subst T (sym (ap eighths-whole e)) tt)
+eighths-refused value v (suc j) zero e = absurd (subst T (sym (ap eighths-whole e)) tt)
+eighths-refused value v number (suc k) e = e
+
+abbrev bound-whole : Bound → Bool
+bound-whole (B.Value v) = true
+bound-whole (B.Refused zero) = false
+bound-whole (B.Refused (suc k)) = true
+
+pub bound-refused : (value v : Float) (number k : ℕ) → B.Refused k ≡ boundAnswer number v → boundBy k value ≡ boundAnswer number v
+unfolding answered
+bound-refused value v zero zero e = absurd (subst T (sym (ap bound-whole e)) tt)
+bound-refused value v (suc j) zero e = absurd (subst T (sym (ap bound-whole e)) tt)
+bound-refused value v number (suc k) e = e
+
+abbrev entries-whole : Entries → Bool
+entries-whole (C.Count v) = true
+entries-whole (C.Refused zero) = false
+entries-whole (C.Refused (suc k)) = true
+
+pub entries-refused : (value v : ℕ) (number k : ℕ) → C.Refused k ≡ entriesAnswer number v → entriesBy k value ≡ entriesAnswer number v
+unfolding answered
+entries-refused value v zero zero e = absurd (subst T (sym (ap entries-whole e)) tt)
+entries-refused value v (suc j) zero e = absurd (subst T (sym (ap entries-whole e)) tt)
+entries-refused value v number (suc k) e = e
+
+abbrev found : BeamSearched → Bool
+found (S.Found objective rounds) = true
+found (S.Refused k) = false
+
+pub search-refused : {most : Limits} {m count : ℕ} {rows cols : List ℕ} {values : List ℤ} {width : ℕ} {start out workspace out′ workspace′ : List ℕ}
+    (k : ℕ) (objective : ℤ) (rounds : ℕ) → BeamSearches most m count rows cols values width start out workspace out′ workspace′ (S.Refused k)
+    → BeamSearches most m count rows cols values width start out workspace out′ workspace′ (searchedBy k objective rounds)
+search-refused zero objective rounds b = absurd (subst T (sym (ap found (b .answers (sym (b .numbered))))) tt)
+search-refused (suc k) objective rounds b = b
+
+abbrev counted : Reduced → Bool
+counted (R.Count entries) = true
+counted (R.Refused k) = false
+
+pub reduce-refused : {size count : ℕ} {from : Slices} {map fixed : List ℕ} {to to′ : Slices} (k entries : ℕ)
+    → Reduces size count from map fixed to (R.Refused k) to′ → Reduces size count from map fixed to (reducedBy k entries) to′
+reduce-refused zero entries e = absurd (subst T (sym (ap counted (e .accepted refl .0))) tt)
+reduce-refused (suc k) entries e = e

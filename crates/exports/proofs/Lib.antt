@@ -1,0 +1,4 @@
+pub mod Back
+pub mod Answering
+pub mod Running
+pub mod Asked

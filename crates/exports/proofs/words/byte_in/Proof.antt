@@ -1,0 +1,14 @@
+-- `exports::words::byte_in` meets its contract. Assumes nothing.
+use borrow.Author.Needs.{needs}
+use Rattle.exports.proofs.Back.{within-above, within-below}
+use Rattle.exports.proofs.words.byte_in.Statement.{statement}
+use Rattle.exports.proofs.words.byte_in.Tie as tie
+
+returns : tie.Need-returns
+returns c = within-above 255 _ (c .if1 .taken)
+
+returns-2 : tie.Need-returns-2
+returns-2 c = within-below 255 _ (c .if1 .left)
+
+pub byte-in-spec : {M : Type 1} → statement M
+byte-in-spec = tie.close (tie.spec returns (λ c. search needs) returns-2)

@@ -1,0 +1,37 @@
+-- The version of the calls for C, and the sizes that a host may ask for.
+use Prim.Native.Nat.{ℕ}
+use mathlib.Core.List.{List, [], _∷_}
+use Rattle.laws.specs.Lists.{elem}
+use Rattle.tables.specs.Limits.{mostWagons, mostEntries, mostSigns, mostSignEntries}
+use Rattle.run_limits.specs.Limits.{mostRank, mostWidth, mostDraws, mostStart, searchWorkspace}
+use Rattle.job_record.specs.Limits.{mostBytes}
+use Rattle.record_call.specs.Record.{leastAnswer}
+use Rattle.reduced.specs.Limits.{mostSize}
+use Rattle.exports.specs.Words.{runWords, settingWords, resultWords}
+
+abbrev pub callsVersion : ℕ
+callsVersion = 1
+
+-- in the order of `enum wagonplan_sizes` of include/wagonplan.h
+abbrev pub sizes : List ℕ
+sizes =
+    mostBytes
+    ∷ mostWagons
+    ∷ mostEntries
+    ∷ mostSigns
+    ∷ mostSignEntries
+    ∷ mostRank
+    ∷ mostWidth
+    ∷ mostDraws
+    ∷ mostStart
+    ∷ searchWorkspace
+    ∷ leastAnswer
+    ∷ mostSize
+    ∷ runWords
+    ∷ settingWords
+    ∷ resultWords
+    ∷ []
+
+-- 0 where there is no such size
+unfoldable pub sizeOf : ℕ → ℕ
+sizeOf which = elem sizes which

@@ -1,0 +1,10 @@
+// Every public call as C makes it (include/wagonplan.h): slices as a pointer and a length, the number as the result, values through what is lent for
+// them. None has a `requires`.
+pub mod factors; // factors.rt: the calls on a sign table and a factor
+pub mod numbers; // numbers.rt: root, eighths, bits, default rank; version and sizes
+pub mod pair; // pair.rt: the reduced pair
+pub mod record; // record.rt: the record call
+pub mod run; // run.rt: open, sweep, finish
+pub mod search; // search.rt: the search
+pub mod table; // table.rt: the calls on tables
+mod words; // words.rt: run record, settings and result as words

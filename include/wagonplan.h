@@ -1,0 +1,469 @@
+// Every call of the solver for C and C++. Link with libwagonplan.a (tools/archive.sh builds it).
+//
+// Which of two stores does each of n wagons go into? A choice b (a byte for each wagon, 0 or 1) costs half the sum of H_ij * b_i * b_j, plus the sum of
+// c_i * b_i. `wagonplan_answer` takes a problem as a record of bytes and answers with one. `wagonplan_open`, `wagonplan_sweep` and `wagonplan_finish` are
+// the steps of the same run. The others are the parts of it that stand alone.
+//
+// Every call answers a number: 0 where it is accepted, else that of the first thing that is wrong (`wagonplan_sentence`). A refused call writes nothing, but
+// for `wagonplan_answer`, which writes the refusal's six bytes. An accepted call writes the front of a slice that is longer than it needs, and leaves the rest.
+//
+// The caller's duties, which no number can tell:
+//  - A slice's pointer has as many elements as its length says, aligned as C wants it. It may be null only where the length is 0.
+//  - A slice or struct that is written overlaps no other argument, and no one else reads or writes it during the call. What is only read may be shared.
+//  - A run and its factor are changed by the calls alone: what else changes them is either seen (33) or gives the answer of the run that they then are.
+//  - The stack has WAGONPLAN_STACK bytes left.
+//
+// The calls keep no state, take no lock, allocate nothing and make no system call, so they may be made from any thread, also at the same time. They are
+// built for x86-64, System V. Each function below runs in the IEEE floating-point mode (MXCSR 1F80: round to nearest, subnormals kept, no traps) and then puts the
+// caller's mode back, flags included; the wagonplan_raw_* functions do not, and in another mode their answers are not the ones that are proved.
+#ifndef WAGONPLAN_H
+#define WAGONPLAN_H
+
+#if !defined(__x86_64__) || defined(_WIN32)
+#error "libwagonplan.a is built for x86-64, System V"
+#endif
+
+#include <stddef.h>
+#include <stdint.h>
+#include <string.h>
+#include <xmmintrin.h>
+
+#ifdef __cplusplus
+extern "C" {
+#endif
+
+// ---- sizes --------------------------------------------------------------------------------------
+
+enum {
+    WAGONPLAN_VERSION = 1, // of these declarations; `wagonplan_version` answers the archive's
+
+    WAGONPLAN_JOB_MOST = 65536,         // bytes of a job record
+    WAGONPLAN_WAGONS_MOST = 127,        // n
+    WAGONPLAN_ENTRIES_MOST = 4096,      // entries of H
+    WAGONPLAN_SIGNS_MOST = 128,         // m of a sign table
+    WAGONPLAN_SIGN_ENTRIES_MOST = 4478, // entries of a sign table, and of a reduced problem's
+    WAGONPLAN_RANK_MOST = 32,           //
+    WAGONPLAN_WIDTH_MOST = 128,         // W, the width of the search
+    WAGONPLAN_DRAWS_MOST = 1000,        //
+    WAGONPLAN_START_MOST = 4224,        // doubles that a start takes
+    WAGONPLAN_FACTOR_MOST = 4096,       // doubles of a factor: m * rank
+    WAGONPLAN_WORKSPACE = 16384,        // bytes of workspace to lend, at least
+    WAGONPLAN_ANSWER = 187,             // bytes of answer slice to lend, at least: a record of 127 wagons
+    WAGONPLAN_REFUSAL = 6,              // bytes of a refusal: 00 00 00 02 01 and the number
+    WAGONPLAN_REDUCED_MOST = 1024,      // original size of a reduced problem
+    WAGONPLAN_RUN_WORDS = 12,           // words of a run record, of settings and of a result, as the raw functions take them
+    WAGONPLAN_SETTING_WORDS = 8,
+    WAGONPLAN_RESULT_WORDS = 10,
+
+    WAGONPLAN_STACK = 393216 // bytes of stack that a call may take
+};
+
+// What `wagonplan_size` can be asked for.
+enum wagonplan_sizes {
+    WAGONPLAN_SIZE_JOB,
+    WAGONPLAN_SIZE_WAGONS,
+    WAGONPLAN_SIZE_ENTRIES,
+    WAGONPLAN_SIZE_SIGNS,
+    WAGONPLAN_SIZE_SIGN_ENTRIES,
+    WAGONPLAN_SIZE_RANK,
+    WAGONPLAN_SIZE_WIDTH,
+    WAGONPLAN_SIZE_DRAWS,
+    WAGONPLAN_SIZE_START,
+    WAGONPLAN_SIZE_WORKSPACE,
+    WAGONPLAN_SIZE_ANSWER,
+    WAGONPLAN_SIZE_REDUCED,
+    WAGONPLAN_SIZE_RUN_WORDS,
+    WAGONPLAN_SIZE_SETTING_WORDS,
+    WAGONPLAN_SIZE_RESULT_WORDS
+};
+
+// ---- slices and tables --------------------------------------------------------------------------
+
+typedef struct { const uint8_t *at; size_t len; } wagonplan_u8;
+typedef struct { const uint16_t *at; size_t len; } wagonplan_u16;
+typedef struct { const int64_t *at; size_t len; } wagonplan_i64;
+typedef struct { const double *at; size_t len; } wagonplan_f64;
+typedef struct { uint8_t *at; size_t len; } wagonplan_u8_mut;
+typedef struct { uint16_t *at; size_t len; } wagonplan_u16_mut;
+typedef struct { int64_t *at; size_t len; } wagonplan_i64_mut;
+typedef struct { double *at; size_t len; } wagonplan_f64_mut;
+
+// (H, c): n wagons, `count` entries of H in the first places of rows, cols and values, rising by row and column, each with its mirror; c in the first n of c.
+typedef struct {
+    size_t n, count;
+    wagonplan_u16 rows, cols;
+    wagonplan_i64 values, c;
+} wagonplan_table;
+
+// A sign table of m signs, the last of them the anchor; values in eighths.
+typedef struct {
+    size_t m, count;
+    wagonplan_u16 rows, cols;
+    wagonplan_i64 values;
+} wagonplan_sign_table;
+
+// Room for a table that a call writes.
+typedef struct {
+    wagonplan_u16_mut rows, cols;
+    wagonplan_i64_mut values;
+} wagonplan_entries;
+
+// ---- a run --------------------------------------------------------------------------------------
+
+enum { WAGONPLAN_GRAD, WAGONPLAN_GRAD_ADV, WAGONPLAN_COORD, WAGONPLAN_COORD_NO_STEP, WAGONPLAN_COORD_MOMENTUM }; // rules
+enum { WAGONPLAN_START_RANDOM, WAGONPLAN_START_FACTOR, WAGONPLAN_START_SIGNS };
+enum { WAGONPLAN_OPEN, WAGONPLAN_STOPPED }; // stages; any other than 0 is stopped
+enum { WAGONPLAN_ALL_SWEEPS, WAGONPLAN_AT_TOLERANCE, WAGONPLAN_ROSE }; // statuses: all sweeps made, stopped at a tolerance, stopped as the objective rose
+
+// What an open takes. A field that is above what a job record can hold is refused as the largest that it can (the counts are of 32 bits, rule and start of 8).
+typedef struct {
+    uint64_t rank;      // 0 means the least r with r * r >= 2m, plus 1, at most m, at least 1
+    uint64_t rule;      //
+    double rule_number; // step of rules 0 to 2, momentum of rule 4; rule 3 uses none
+    uint64_t most;      // sweeps
+    uint64_t minimum;
+    double objective_tolerance;
+    double stationarity_tolerance;
+    uint64_t start;
+} wagonplan_settings;
+
+// A run between its calls.
+typedef struct {
+    uint64_t size; // m, n + 1
+    uint64_t rank;
+    uint64_t rule;
+    double rule_number;
+    uint64_t sweeps; // made
+    double last_objective;
+    double objective_tolerance;
+    double stationarity_tolerance;
+    uint64_t most;
+    uint64_t minimum;
+    uint64_t stage;
+    uint64_t status;
+} wagonplan_run;
+
+// What a finish gives; costs in eighths.
+typedef struct {
+    uint64_t status;
+    uint64_t rank;
+    uint64_t n;
+    uint64_t sweeps;
+    double relaxed_objective;
+    double float_bound;
+    int64_t floor;        // no choice costs less
+    int64_t rounded_cost; // of the choice that the search started from
+    int64_t cost;         // of the choice in b
+    uint64_t rounds;      // of the search
+} wagonplan_result;
+
+typedef char wagonplan_run_is_words[sizeof(wagonplan_run) == 8 * WAGONPLAN_RUN_WORDS ? 1 : -1];
+typedef char wagonplan_settings_are_words[sizeof(wagonplan_settings) == 8 * WAGONPLAN_SETTING_WORDS ? 1 : -1];
+typedef char wagonplan_result_is_words[sizeof(wagonplan_result) == 8 * WAGONPLAN_RESULT_WORDS ? 1 : -1];
+
+// ---- the archive's functions --------------------------------------------------------------------
+
+// A slice is a pointer and the length behind it. Run record, settings and result are words of 64 bits in the order of the structs above: signed numbers in two's
+// complement, doubles as their bits. For the floating-point mode see the top.
+uint8_t wagonplan_raw_answer(const uint8_t *job, size_t, uint8_t *workspace, size_t, uint8_t *answer, size_t);
+uint8_t wagonplan_raw_open(size_t n, size_t count, const uint16_t *rows, size_t, const uint16_t *cols, size_t, const int64_t *values, size_t, const int64_t *c,
+                           size_t, const uint64_t *settings, size_t, const double *numbers, size_t, double *factor, size_t, uint64_t *words, size_t);
+uint8_t wagonplan_raw_sweep(uint64_t *words, size_t, size_t n, size_t count, const uint16_t *rows, size_t, const uint16_t *cols, size_t, const int64_t *values,
+                            size_t, const int64_t *c, size_t, uint32_t k, double *factor, size_t);
+uint8_t wagonplan_raw_finish(const uint64_t *words, size_t, size_t n, size_t count, const uint16_t *rows, size_t, const uint16_t *cols, size_t,
+                             const int64_t *values, size_t, const int64_t *c, size_t, size_t width, size_t draw_count, const double *draws, size_t,
+                             const double *factor, size_t, uint8_t *b, size_t, double *dual_variables, size_t, uint8_t *workspace, size_t, uint64_t *result,
+                             size_t);
+uint8_t wagonplan_raw_beam_search(size_t m, size_t count, const uint16_t *rows, size_t, const uint16_t *cols, size_t, const int64_t *values, size_t,
+                                  size_t width, const uint8_t *start, size_t, uint8_t *out, size_t, uint8_t *workspace, size_t, int64_t *objective,
+                                  uint64_t *rounds);
+uint8_t wagonplan_raw_compute_rounded_sol(size_t m, size_t count, const uint16_t *rows, size_t, const uint16_t *cols, size_t, const int64_t *values, size_t,
+                                          size_t rank, const double *factor, size_t, size_t draw_count, const double *draws, size_t, uint8_t *out, size_t,
+                                          int64_t *objective);
+uint8_t wagonplan_raw_dual_variables(size_t m, size_t count, const uint16_t *rows, size_t, const uint16_t *cols, size_t, const int64_t *values, size_t,
+                                     size_t rank, const double *factor, size_t, double *out, size_t);
+uint8_t wagonplan_raw_obj_rounded(size_t m, size_t count, const uint16_t *rows, size_t, const uint16_t *cols, size_t, const int64_t *values, size_t,
+                                  const uint8_t *signs, size_t, int64_t *value);
+uint8_t wagonplan_raw_floor_eighths(size_t m, size_t count, const uint16_t *rows, size_t, const uint16_t *cols, size_t, const int64_t *values, size_t,
+                                    int64_t *value);
+uint8_t wagonplan_raw_entrywise_lower_bound(size_t m, size_t count, const uint16_t *rows, size_t, const uint16_t *cols, size_t, const int64_t *values, size_t,
+                                            double *value);
+uint8_t wagonplan_raw_eval_qubo_objective(size_t n, size_t count, const uint16_t *rows, size_t, const uint16_t *cols, size_t, const int64_t *values, size_t,
+                                          const int64_t *c, size_t, const uint8_t *b, size_t, int64_t *value);
+uint8_t wagonplan_raw_qubo_sign_table(size_t n, size_t count, const uint16_t *rows, size_t, const uint16_t *cols, size_t, const int64_t *values, size_t,
+                                      const int64_t *c, size_t, uint16_t *to_rows, size_t, uint16_t *to_cols, size_t, int64_t *to_values, size_t,
+                                      size_t *entries);
+uint8_t wagonplan_raw_qubo_binary_from_sign_solution(size_t m, const uint8_t *signs, size_t, uint8_t *b, size_t);
+uint8_t wagonplan_raw_from_principal_submatrix(size_t size, size_t count, const uint16_t *rows, size_t, const uint16_t *cols, size_t, const int64_t *values,
+                                               size_t, const uint16_t *variable_map, size_t, const uint16_t *fixed_index, size_t, uint16_t *out_rows, size_t,
+                                               uint16_t *out_cols, size_t, int64_t *out_values, size_t, size_t *entries);
+uint8_t wagonplan_raw_lift_solution(size_t size, const uint16_t *variable_map, size_t, const uint16_t *fixed_index, size_t, const double *fixed_value, size_t,
+                                    const double *reduced_solution, size_t, double *lifted, size_t);
+double wagonplan_raw_sqrt(double x);
+double wagonplan_raw_eighth(int64_t v);
+double wagonplan_raw_double_of(uint64_t bits);
+uint64_t wagonplan_raw_bits_of(double x);
+uint16_t wagonplan_raw_default_sdp_rank(uint16_t m);
+uint32_t wagonplan_raw_version(void);
+size_t wagonplan_raw_size(uint32_t which);
+
+// ---- the calls ----------------------------------------------------------------------------------
+
+// The floating-point mode is set to IEEE's and put back as it was.
+enum { WAGONPLAN_IEEE_MODE = 0x1F80 };
+static inline unsigned wagonplan_enter(void) {
+    unsigned mode = _mm_getcsr();
+    _mm_setcsr(WAGONPLAN_IEEE_MODE);
+    return mode;
+}
+static inline uint8_t wagonplan_leave(unsigned mode, uint8_t number) {
+    _mm_setcsr(mode);
+    return number;
+}
+
+// The archive's version and sizes; 0 for a size that it doesn't know. A host that is built with this header holds them to the constants above.
+static inline uint32_t wagonplan_version(void) { return wagonplan_raw_version(); }
+static inline size_t wagonplan_size(enum wagonplan_sizes which) { return wagonplan_raw_size((uint32_t)which); }
+
+// Whether archive and header belong together.
+static inline int wagonplan_fits(void) {
+    return wagonplan_version() == WAGONPLAN_VERSION && wagonplan_size(WAGONPLAN_SIZE_JOB) == WAGONPLAN_JOB_MOST
+           && wagonplan_size(WAGONPLAN_SIZE_WAGONS) == WAGONPLAN_WAGONS_MOST && wagonplan_size(WAGONPLAN_SIZE_ENTRIES) == WAGONPLAN_ENTRIES_MOST
+           && wagonplan_size(WAGONPLAN_SIZE_SIGNS) == WAGONPLAN_SIGNS_MOST && wagonplan_size(WAGONPLAN_SIZE_SIGN_ENTRIES) == WAGONPLAN_SIGN_ENTRIES_MOST
+           && wagonplan_size(WAGONPLAN_SIZE_RANK) == WAGONPLAN_RANK_MOST && wagonplan_size(WAGONPLAN_SIZE_WIDTH) == WAGONPLAN_WIDTH_MOST
+           && wagonplan_size(WAGONPLAN_SIZE_DRAWS) == WAGONPLAN_DRAWS_MOST && wagonplan_size(WAGONPLAN_SIZE_START) == WAGONPLAN_START_MOST
+           && wagonplan_size(WAGONPLAN_SIZE_WORKSPACE) == WAGONPLAN_WORKSPACE && wagonplan_size(WAGONPLAN_SIZE_ANSWER) == WAGONPLAN_ANSWER
+           && wagonplan_size(WAGONPLAN_SIZE_REDUCED) == WAGONPLAN_REDUCED_MOST && wagonplan_size(WAGONPLAN_SIZE_RUN_WORDS) == WAGONPLAN_RUN_WORDS
+           && wagonplan_size(WAGONPLAN_SIZE_SETTING_WORDS) == WAGONPLAN_SETTING_WORDS
+           && wagonplan_size(WAGONPLAN_SIZE_RESULT_WORDS) == WAGONPLAN_RESULT_WORDS;
+}
+
+// A job record. Numbers are big-endian, doubles are their bits; m = n + 1, r is the rank (see below).
+//
+//   bytes       field
+//   4           length of the rest
+//   1           version, 1
+//   1           n, wagons
+//   2           count of entries
+//   count * 10  entries, rising: row (1), column (1), value H_ij (8, signed); each has its mirror, equal
+//   n * 8       c_i (8, signed)
+//   1           rank; 0 means the least r with r * r >= 2m, plus 1, at most m, at least 1
+//   1           rule, 0 to 4: Grad, GradAdv, Coord, CoordNoStep, CoordMomentum
+//   8           the rule's number (a double; rule 3 reads it and uses none)
+//   4, 4        most sweeps, minimum
+//   8, 8        objective tolerance, stationarity tolerance (doubles)
+//   1           W, the width of the search
+//   1           start: 0 random, 1 factor, 2 signs
+//   ..          the start's doubles: m * r for 0 and 1; for 2: m, then m * r more if most > 0 and r > 1
+//   2           count of draws
+//   ..          draws: count * r doubles
+//
+// Where the fields of an answer record stand; the record has WAGONPLAN_AT_CHOICE + n bytes.
+enum {
+    WAGONPLAN_AT_LENGTH = 0,        // 4: length of the rest, 56 + n
+    WAGONPLAN_AT_VERSION = 4,       // 1: 1
+    WAGONPLAN_AT_STATUS = 5,        // 1: 0 all sweeps made, 1 stopped at a tolerance, 2 stopped as the objective rose
+    WAGONPLAN_AT_RANK = 6,          // 1
+    WAGONPLAN_AT_WAGONS = 7,        // 1: n
+    WAGONPLAN_AT_SWEEPS = 8,        // 4: sweeps made
+    WAGONPLAN_AT_RELAXED = 12,      // 8: relaxed objective, a double
+    WAGONPLAN_AT_BOUND = 20,        // 8: float bound, a double
+    WAGONPLAN_AT_FLOOR = 28,        // 8, signed eighths: no choice costs less
+    WAGONPLAN_AT_ROUNDED_COST = 36, // 8, signed eighths: cost of the choice that the search started from
+    WAGONPLAN_AT_COST = 44,         // 8, signed eighths: cost of the choice below
+    WAGONPLAN_AT_ROUNDS = 52,       // 8: rounds of the search
+    WAGONPLAN_AT_CHOICE = 60        // n bytes, 0 or 1: the store of each wagon
+};
+
+// Answers the job: 0 and the answer record, or the number of the refusal and its six bytes over the front of the answer slice. 31 (a workspace of fewer than
+// WAGONPLAN_WORKSPACE bytes, an answer slice of fewer than WAGONPLAN_ANSWER) writes nothing at all; only an accepted job writes the workspace.
+static inline uint8_t wagonplan_answer(wagonplan_u8 job, wagonplan_u8_mut workspace, wagonplan_u8_mut answer) {
+    unsigned mode = wagonplan_enter();
+    return wagonplan_leave(mode, wagonplan_raw_answer(job.at, job.len, workspace.at, workspace.len, answer.at, answer.len));
+}
+
+// Opens a run over (H, c). `numbers` are the start's, as in a job record; the factor takes m * rank doubles, 4,096 at most.
+static inline uint8_t wagonplan_open(const wagonplan_table *t, const wagonplan_settings *settings, wagonplan_f64 numbers, wagonplan_f64_mut factor,
+                                     wagonplan_run *run) {
+    uint64_t given[WAGONPLAN_SETTING_WORDS], words[WAGONPLAN_RUN_WORDS] = {0};
+    unsigned mode = wagonplan_enter();
+    uint8_t number;
+    memcpy(given, settings, sizeof given);
+    number = wagonplan_raw_open(t->n, t->count, t->rows.at, t->rows.len, t->cols.at, t->cols.len, t->values.at, t->values.len, t->c.at, t->c.len, given,
+                                WAGONPLAN_SETTING_WORDS, numbers.at, numbers.len, factor.at, factor.len, words, WAGONPLAN_RUN_WORDS);
+    if (number == 0) memcpy(run, words, sizeof words);
+    return wagonplan_leave(mode, number);
+}
+
+// Up to k sweeps over the table given, which may be another than before, of as many wagons.
+static inline uint8_t wagonplan_sweep(wagonplan_run *run, const wagonplan_table *t, uint32_t k, wagonplan_f64_mut factor) {
+    uint64_t words[WAGONPLAN_RUN_WORDS];
+    unsigned mode = wagonplan_enter();
+    uint8_t number;
+    memcpy(words, run, sizeof words);
+    number = wagonplan_raw_sweep(words, WAGONPLAN_RUN_WORDS, t->n, t->count, t->rows.at, t->rows.len, t->cols.at, t->cols.len, t->values.at, t->values.len,
+                                 t->c.at, t->c.len, k, factor.at, factor.len);
+    if (number == 0) memcpy(run, words, sizeof words);
+    return wagonplan_leave(mode, number);
+}
+
+// Rounds and searches from the factor of a stopped run, over the table given: draw_count * rank doubles of draws; n bytes of choice to b, m doubles to dual_variables.
+// It changes neither run nor factor and may be repeated.
+static inline uint8_t wagonplan_finish(const wagonplan_run *run, const wagonplan_table *t, size_t width, size_t draw_count, wagonplan_f64 draws,
+                                       wagonplan_f64 factor, wagonplan_u8_mut b, wagonplan_f64_mut dual_variables, wagonplan_u8_mut workspace,
+                                       wagonplan_result *result) {
+    uint64_t words[WAGONPLAN_RUN_WORDS], given[WAGONPLAN_RESULT_WORDS] = {0};
+    unsigned mode = wagonplan_enter();
+    uint8_t number;
+    memcpy(words, run, sizeof words);
+    number = wagonplan_raw_finish(words, WAGONPLAN_RUN_WORDS, t->n, t->count, t->rows.at, t->rows.len, t->cols.at, t->cols.len, t->values.at, t->values.len,
+                                  t->c.at, t->c.len, width, draw_count, draws.at, draws.len, factor.at, factor.len, b.at, b.len, dual_variables.at,
+                                  dual_variables.len, workspace.at, workspace.len, given, WAGONPLAN_RESULT_WORDS);
+    if (number == 0) memcpy(result, given, sizeof given);
+    return wagonplan_leave(mode, number);
+}
+
+// The local search alone, from the first m signs of `start` (0 for +, any other byte for -): the signs it ends at, as 0 and 1, their objective in eighths, and
+// its rounds.
+static inline uint8_t wagonplan_beam_search(const wagonplan_sign_table *t, size_t width, wagonplan_u8 start, wagonplan_u8_mut out, wagonplan_u8_mut workspace,
+                                            int64_t *objective, uint64_t *rounds) {
+    unsigned mode = wagonplan_enter();
+    return wagonplan_leave(mode, wagonplan_raw_beam_search(t->m, t->count, t->rows.at, t->rows.len, t->cols.at, t->cols.len, t->values.at, t->values.len, width,
+                                                           start.at, start.len, out.at, out.len, workspace.at, workspace.len, objective, rounds));
+}
+
+// The first draw of least objective: its signs to `out`, the objective in eighths. A rank of 0 means the default rank of m.
+static inline uint8_t wagonplan_compute_rounded_sol(const wagonplan_sign_table *t, size_t rank, wagonplan_f64 factor, size_t draw_count, wagonplan_f64 draws,
+                                                    wagonplan_u8_mut out, int64_t *objective) {
+    unsigned mode = wagonplan_enter();
+    return wagonplan_leave(mode, wagonplan_raw_compute_rounded_sol(t->m, t->count, t->rows.at, t->rows.len, t->cols.at, t->cols.len, t->values.at,
+                                                                   t->values.len, rank, factor.at, factor.len, draw_count, draws.at, draws.len, out.at,
+                                                                   out.len, objective));
+}
+
+// The multipliers of the factor's m rows over the table, to the first m places of `out`.
+static inline uint8_t wagonplan_dual_variables(const wagonplan_sign_table *t, size_t rank, wagonplan_f64 factor, wagonplan_f64_mut out) {
+    unsigned mode = wagonplan_enter();
+    return wagonplan_leave(mode, wagonplan_raw_dual_variables(t->m, t->count, t->rows.at, t->rows.len, t->cols.at, t->cols.len, t->values.at, t->values.len,
+                                                              rank, factor.at, factor.len, out.at, out.len));
+}
+
+// The objective of m signs, in eighths.
+static inline uint8_t wagonplan_obj_rounded(const wagonplan_sign_table *t, wagonplan_u8 signs, int64_t *value) {
+    unsigned mode = wagonplan_enter();
+    return wagonplan_leave(mode, wagonplan_raw_obj_rounded(t->m, t->count, t->rows.at, t->rows.len, t->cols.at, t->cols.len, t->values.at, t->values.len,
+                                                           signs.at, signs.len, value));
+}
+
+// The floor under every objective, in eighths.
+static inline uint8_t wagonplan_floor_eighths(const wagonplan_sign_table *t, int64_t *value) {
+    unsigned mode = wagonplan_enter();
+    return wagonplan_leave(mode, wagonplan_raw_floor_eighths(t->m, t->count, t->rows.at, t->rows.len, t->cols.at, t->cols.len, t->values.at, t->values.len,
+                                                             value));
+}
+
+// The floor as a double, less a margin.
+static inline uint8_t wagonplan_entrywise_lower_bound(const wagonplan_sign_table *t, double *value) {
+    unsigned mode = wagonplan_enter();
+    return wagonplan_leave(mode, wagonplan_raw_entrywise_lower_bound(t->m, t->count, t->rows.at, t->rows.len, t->cols.at, t->cols.len, t->values.at,
+                                                                     t->values.len, value));
+}
+
+// The cost of a choice, in eighths: n bytes, 0 for 0 and any other for 1.
+static inline uint8_t wagonplan_eval_qubo_objective(const wagonplan_table *t, wagonplan_u8 b, int64_t *value) {
+    unsigned mode = wagonplan_enter();
+    return wagonplan_leave(mode, wagonplan_raw_eval_qubo_objective(t->n, t->count, t->rows.at, t->rows.len, t->cols.at, t->cols.len, t->values.at,
+                                                                   t->values.len, t->c.at, t->c.len, b.at, b.len, value));
+}
+
+// The sign table of (H, c), whose objective is the cost: count + 3n + 1 entries of room; how many there are goes to `entries`.
+static inline uint8_t wagonplan_qubo_sign_table(const wagonplan_table *t, wagonplan_entries out, size_t *entries) {
+    unsigned mode = wagonplan_enter();
+    return wagonplan_leave(mode, wagonplan_raw_qubo_sign_table(t->n, t->count, t->rows.at, t->rows.len, t->cols.at, t->cols.len, t->values.at, t->values.len,
+                                                               t->c.at, t->c.len, out.rows.at, out.rows.len, out.cols.at, out.cols.len, out.values.at,
+                                                               out.values.len, entries));
+}
+
+// The choice of m signs: wagon i is 1 where its sign differs from the anchor's, the last.
+static inline uint8_t wagonplan_qubo_binary_from_sign_solution(size_t m, wagonplan_u8 signs, wagonplan_u8_mut b) {
+    unsigned mode = wagonplan_enter();
+    return wagonplan_leave(mode, wagonplan_raw_qubo_binary_from_sign_solution(m, signs.at, signs.len, b.at, b.len));
+}
+
+// The table over the mapped indices alone: t->m is the original size, `count` entries of room; how many there are goes to `entries`.
+static inline uint8_t wagonplan_from_principal_submatrix(const wagonplan_sign_table *t, wagonplan_u16 variable_map, wagonplan_u16 fixed_index,
+                                                         wagonplan_entries out, size_t *entries) {
+    unsigned mode = wagonplan_enter();
+    return wagonplan_leave(mode, wagonplan_raw_from_principal_submatrix(
+                                     t->m, t->count, t->rows.at, t->rows.len, t->cols.at, t->cols.len, t->values.at, t->values.len, variable_map.at,
+                                     variable_map.len, fixed_index.at, fixed_index.len, out.rows.at, out.rows.len, out.cols.at, out.cols.len,
+                                     out.values.at, out.values.len, entries));
+}
+
+// 0.0 at each of `size` places, over it the fixed values, over them the reduced solution, each at its index.
+static inline uint8_t wagonplan_lift_solution(size_t size, wagonplan_u16 variable_map, wagonplan_u16 fixed_index, wagonplan_f64 fixed_value,
+                                              wagonplan_f64 reduced_solution, wagonplan_f64_mut lifted) {
+    unsigned mode = wagonplan_enter();
+    return wagonplan_leave(mode, wagonplan_raw_lift_solution(size, variable_map.at, variable_map.len, fixed_index.at, fixed_index.len, fixed_value.at,
+                                                             fixed_value.len, reduced_solution.at, reduced_solution.len, lifted.at, lifted.len));
+}
+
+// The correctly rounded square root; NaN below 0.
+static inline double wagonplan_sqrt(double x) {
+    unsigned mode = wagonplan_enter();
+    double root = wagonplan_raw_sqrt(x);
+    _mm_setcsr(mode);
+    return root;
+}
+
+// v eighths, rounded once where v has more than 53 digits.
+static inline double wagonplan_eighth(int64_t v) {
+    unsigned mode = wagonplan_enter();
+    double x = wagonplan_raw_eighth(v);
+    _mm_setcsr(mode);
+    return x;
+}
+
+// A double of its bits and back, as records hold them: every NaN is 7FF8000000000000.
+static inline double wagonplan_double_of(uint64_t bits) {
+    unsigned mode = wagonplan_enter();
+    double x = wagonplan_raw_double_of(bits);
+    _mm_setcsr(mode);
+    return x;
+}
+static inline uint64_t wagonplan_bits_of(double x) {
+    unsigned mode = wagonplan_enter();
+    uint64_t bits = wagonplan_raw_bits_of(x);
+    _mm_setcsr(mode);
+    return bits;
+}
+
+// The rank that 0 means for m signs.
+static inline uint16_t wagonplan_default_sdp_rank(uint16_t m) { return wagonplan_raw_default_sdp_rank(m); }
+
+// What a number says.
+static inline const char *wagonplan_sentence(uint8_t number) {
+    switch (number) {
+    case 0: return "The call is accepted.";
+    case 11: return "The frame is wrong: above 65,536 bytes, another length than the record says, a field past the end, or bytes left over.";
+    case 12: return "The version is not 1.";
+    case 13: return "There are more than 127 wagons or more than 4,096 entries; for a sign table, no sign, more than 128, or more than 4,478 entries.";
+    case 14: return "An entry is out of range, or not above the one before it.";
+    case 15: return "An entry's mirror is absent or unequal.";
+    case 16: return "The magnitude is above 2^40: the entries' absolute values, plus twice those of c; for a sign table above 2^42 eighths.";
+    case 17: return "The rank is above 32, or 0 with a start by a factor.";
+    case 18: return "The rule is above 4, or the momentum is not a finite number from 0 to below 1.";
+    case 19: return "W is above 128, the start is none of 0 to 2, or the draws are not 1 to 1,000.";
+    case 20: return "The original size is above 1,024, or a map or fixed index is out of range or mapped twice.";
+    case 31: return "A lent slice is too short.";
+    case 32: return "The stage is wrong: a sweep when stopped, or a finish before.";
+    case 33: return "The run record contradicts itself or the table.";
+    default: return "No such number.";
+    }
+}
+
+#ifdef __cplusplus
+}
+#endif
+
+#endif

@@ -1,0 +1,588 @@
+// Makes the stored calls of lists (docs/REPLAY.md) and compares all that they give back: replay [--short BYTES] [--stack] [LIST]...
+//
+// Each line is called several times, on fresh memory that is filled with NaNs of many patterns and with other numbers: as it is stored, in blocks of just that
+// size (a slice of length 0 is null); between guards, in another floating-point mode; with every slice longer; and, where run, settings or result are words, with
+// each of them a word too short. With --short lines of more bytes, and those that go on with them, are passed over; with --stack each line is called once, on a
+// painted stack, and the most that any took is printed too. The exit status is 0 where nothing differs.
+#include <pthread.h>
+#include <stdio.h>
+#include <stdlib.h>
+#include <string.h>
+#include "wagonplan.h"
+
+enum { ARGUMENTS = 16, TABLE = 6, GUARD = 8, MORE = 5, NUMBERS = 256, STACK = 2 << 20, ODD_MODE = 0xFFE1 };
+enum { AS_STORED, GUARDED, LONGER, A_WORD_SHORT };
+
+static _Noreturn void give_up(const char *why);
+
+// ---- arguments --------------------------------------------------------------------------------------
+
+// Kinds. In a line stand: of `n` a word; of slices that are read (b, h, i, d: bytes, 16 bits, whole numbers, doubles; j, k: bytes and 16 bits whose length is
+// part of what is asked) the slice; of those that are lent to be written (B, H, I, D, W the workspace, A the answer record) the length; of the factor (F, f where
+// it is only read) the length; of settings (S) eight words. The run (R, r) is the one that the last line left. Given back are B, H, I, D, A, F, R, the words
+// `v` and `e` (a double), and U, the result.
+typedef struct {
+    char kind;
+    size_t length;           // elements that are lent
+    size_t known;            // of them said by the line or left by the last
+    const uint64_t *words;   // those
+    size_t count;            // elements that are given back
+    const uint64_t *wanted;  // those
+    uint8_t *block, *before; // the memory, now and before the call
+    size_t size;             // its bytes
+    uint8_t *at;             // where the slice stands in it
+    size_t lent;             // the slice's length in this call
+} Argument;
+
+typedef struct {
+    const char *name, *kinds;
+    uint8_t (*call)(Argument *);
+    uint8_t (*raw)(Argument *); // where run, settings and result are slices of words
+} Call;
+
+static int is_one_of(char kind, const char *kinds) { return strchr(kinds, kind) != NULL; }
+static size_t element(char kind) { return is_one_of(kind, "bjBAW") ? 1 : is_one_of(kind, "hkH") ? 2 : 8; }
+static int is_written(char kind) { return is_one_of(kind, "BHIDAFRveU"); }
+static int grows(char kind) { return is_one_of(kind, "bhidBHIDWAFfRrSU"); } // words only as raw functions take them
+
+// ---- the calls --------------------------------------------------------------------------------------
+
+static size_t number(const Argument *a) { return (size_t)a->words[0]; }
+static double double_of(const Argument *a) {
+    double x;
+    memcpy(&x, a->words, 8);
+    return x;
+}
+
+#define SLICE(TYPE, NAME) \
+    static wagonplan_##NAME NAME(const Argument *a) { \
+        wagonplan_##NAME slice = {(const TYPE *)(const void *)a->at, a->lent}; \
+        return slice; \
+    } \
+    static wagonplan_##NAME##_mut NAME##_mut(const Argument *a) { \
+        wagonplan_##NAME##_mut slice = {(TYPE *)(void *)a->at, a->lent}; \
+        return slice; \
+    }
+SLICE(uint8_t, u8)
+SLICE(uint16_t, u16)
+SLICE(int64_t, i64)
+SLICE(double, f64)
+
+static wagonplan_table table(const Argument *a) {
+    wagonplan_table t = {number(a), number(a + 1), u16(a + 2), u16(a + 3), i64(a + 4), i64(a + 5)};
+    return t;
+}
+static wagonplan_sign_table sign_table(const Argument *a) {
+    wagonplan_sign_table t = {number(a), number(a + 1), u16(a + 2), u16(a + 3), i64(a + 4)};
+    return t;
+}
+static wagonplan_entries entries(const Argument *a) {
+    wagonplan_entries room = {u16_mut(a), u16_mut(a + 1), i64_mut(a + 2)};
+    return room;
+}
+static void *place(const Argument *a) { return a->at; }
+
+static uint8_t answer(Argument *a) { return wagonplan_answer(u8(a), u8_mut(a + 1), u8_mut(a + 2)); }
+static uint8_t open_run(Argument *a) {
+    wagonplan_table t = table(a);
+    return wagonplan_open(&t, place(a + 6), f64(a + 7), f64_mut(a + 8), place(a + 9));
+}
+static uint8_t sweep(Argument *a) {
+    wagonplan_table t = table(a + 1);
+    return wagonplan_sweep(place(a), &t, (uint32_t)number(a + 7), f64_mut(a + 8));
+}
+static uint8_t finish(Argument *a) {
+    wagonplan_table t = table(a + 1);
+    return wagonplan_finish(place(a), &t, number(a + 7), number(a + 8), f64(a + 9), f64(a + 10), u8_mut(a + 11), f64_mut(a + 12), u8_mut(a + 13), place(a + 14));
+}
+static uint8_t raw_open(Argument *a) {
+    wagonplan_table t = table(a);
+    return wagonplan_raw_open(t.n, t.count, t.rows.at, t.rows.len, t.cols.at, t.cols.len, t.values.at, t.values.len, t.c.at, t.c.len, place(a + 6), a[6].lent,
+                              place(a + 7), a[7].lent, place(a + 8), a[8].lent, place(a + 9), a[9].lent);
+}
+static uint8_t raw_sweep(Argument *a) {
+    wagonplan_table t = table(a + 1);
+    return wagonplan_raw_sweep(place(a), a->lent, t.n, t.count, t.rows.at, t.rows.len, t.cols.at, t.cols.len, t.values.at, t.values.len, t.c.at, t.c.len,
+                               (uint32_t)number(a + 7), place(a + 8), a[8].lent);
+}
+static uint8_t raw_finish(Argument *a) {
+    wagonplan_table t = table(a + 1);
+    return wagonplan_raw_finish(place(a), a->lent, t.n, t.count, t.rows.at, t.rows.len, t.cols.at, t.cols.len, t.values.at, t.values.len, t.c.at, t.c.len,
+                                number(a + 7), number(a + 8), place(a + 9), a[9].lent, place(a + 10), a[10].lent, place(a + 11), a[11].lent, place(a + 12),
+                                a[12].lent, place(a + 13), a[13].lent, place(a + 14), a[14].lent);
+}
+static uint8_t beam_search(Argument *a) {
+    wagonplan_sign_table t = sign_table(a);
+    return wagonplan_beam_search(&t, number(a + 5), u8(a + 6), u8_mut(a + 7), u8_mut(a + 8), place(a + 9), place(a + 10));
+}
+static uint8_t compute_rounded_sol(Argument *a) {
+    wagonplan_sign_table t = sign_table(a);
+    return wagonplan_compute_rounded_sol(&t, number(a + 5), f64(a + 6), number(a + 7), f64(a + 8), u8_mut(a + 9), place(a + 10));
+}
+static uint8_t dual_variables(Argument *a) {
+    wagonplan_sign_table t = sign_table(a);
+    return wagonplan_dual_variables(&t, number(a + 5), f64(a + 6), f64_mut(a + 7));
+}
+static uint8_t obj_rounded(Argument *a) {
+    wagonplan_sign_table t = sign_table(a);
+    return wagonplan_obj_rounded(&t, u8(a + 5), place(a + 6));
+}
+static uint8_t floor_eighths(Argument *a) {
+    wagonplan_sign_table t = sign_table(a);
+    return wagonplan_floor_eighths(&t, place(a + 5));
+}
+static uint8_t entrywise_lower_bound(Argument *a) {
+    wagonplan_sign_table t = sign_table(a);
+    return wagonplan_entrywise_lower_bound(&t, place(a + 5));
+}
+static uint8_t eval_qubo_objective(Argument *a) {
+    wagonplan_table t = table(a);
+    return wagonplan_eval_qubo_objective(&t, u8(a + 6), place(a + 7));
+}
+static uint8_t qubo_sign_table(Argument *a) {
+    wagonplan_table t = table(a);
+    return wagonplan_qubo_sign_table(&t, entries(a + 6), place(a + 9));
+}
+static uint8_t qubo_binary_from_sign_solution(Argument *a) { return wagonplan_qubo_binary_from_sign_solution(number(a), u8(a + 1), u8_mut(a + 2)); }
+static uint8_t from_principal_submatrix(Argument *a) {
+    wagonplan_sign_table t = sign_table(a);
+    return wagonplan_from_principal_submatrix(&t, u16(a + 5), u16(a + 6), entries(a + 7), place(a + 10));
+}
+static uint8_t lift_solution(Argument *a) { return wagonplan_lift_solution(number(a), u16(a + 1), u16(a + 2), f64(a + 3), f64(a + 4), f64_mut(a + 5)); }
+
+static uint8_t give_double(Argument *a, double x) { return memcpy(a->at, &x, 8), 0; }
+static uint8_t give_word(Argument *a, uint64_t x) { return memcpy(a->at, &x, 8), 0; }
+static uint8_t root(Argument *a) { return give_double(a + 1, wagonplan_sqrt(double_of(a))); }
+static uint8_t eighth(Argument *a) { return give_double(a + 1, wagonplan_eighth((int64_t)number(a))); }
+static uint8_t double_from(Argument *a) { return give_double(a + 1, wagonplan_double_of(number(a))); }
+static uint8_t bits_from(Argument *a) { return give_word(a + 1, wagonplan_bits_of(double_of(a))); }
+static uint8_t default_sdp_rank(Argument *a) { return give_word(a + 1, wagonplan_default_sdp_rank((uint16_t)number(a))); }
+
+// Kinds in the order of the header's wrapper; T is a table (n, count, rows, columns, values, c), Q a sign table (m, count, rows, columns, values).
+static const Call calls[] = {
+    {"answer", "jWA", answer, 0},
+    {"open", "TSdFR", open_run, raw_open},
+    {"sweep", "RTnF", sweep, raw_sweep},
+    {"finish", "rTnndfBDWU", finish, raw_finish},
+    {"beam_search", "QnbBWvv", beam_search, 0},
+    {"compute_rounded_sol", "QndndBv", compute_rounded_sol, 0},
+    {"dual_variables", "QndD", dual_variables, 0},
+    {"obj_rounded", "Qbv", obj_rounded, 0},
+    {"floor_eighths", "Qv", floor_eighths, 0},
+    {"entrywise_lower_bound", "Qe", entrywise_lower_bound, 0},
+    {"eval_qubo_objective", "Tbv", eval_qubo_objective, 0},
+    {"qubo_sign_table", "THHIv", qubo_sign_table, 0},
+    {"qubo_binary_from_sign_solution", "nbB", qubo_binary_from_sign_solution, 0},
+    {"from_principal_submatrix", "QkkHHIv", from_principal_submatrix, 0},
+    {"lift_solution", "nkkddD", lift_solution, 0},
+    {"sqrt", "ne", root, 0},
+    {"eighth", "ne", eighth, 0},
+    {"double_of", "ne", double_from, 0},
+    {"bits_of", "nv", bits_from, 0},
+    {"default_sdp_rank", "nv", default_sdp_rank, 0},
+};
+enum { CALLS = sizeof calls / sizeof *calls };
+
+// ---- a line -------------------------------------------------------------------------------------------
+
+// Words of a line; there is room for as many as it has bytes.
+typedef struct {
+    uint64_t *at;
+    size_t used;
+} Words;
+
+static const char *list_name, *text;
+static size_t line_at, line_length;
+static Words line_words, group_words;
+static Argument group[TABLE]; // the last table or job, for `~`
+static Argument arguments[ARGUMENTS];
+static size_t argument_count;
+
+// The run and factor that the last line left.
+static uint64_t run[WAGONPLAN_RUN_WORDS];
+static uint64_t *factor;
+static size_t factor_count;
+
+static _Noreturn void give_up(const char *why) {
+    fprintf(stderr, "%s, line %zu: %s\n", list_name, line_at, why);
+    exit(2);
+}
+
+static void *block_of(size_t size) {
+    void *block = malloc(size ? size : 1);
+    if (!block) give_up("no memory");
+    return block;
+}
+
+static void room_for_line(Words *w) {
+    free(w->at);
+    w->at = block_of(8 * (line_length + WAGONPLAN_RUN_WORDS));
+    w->used = 0;
+}
+
+static void pass_blanks(void) { text += strspn(text, " "); }
+static int mark(char c) {
+    pass_blanks();
+    if (*text != c) return 0;
+    text++;
+    return 1;
+}
+
+static int digit(char c) {
+    if ('0' <= c && c <= '9') return c - '0';
+    return 'A' <= c && c <= 'F' ? c - 'A' + 10 : -1;
+}
+
+static uint64_t word(void) {
+    uint64_t x = 0;
+    pass_blanks();
+    if (digit(*text) < 0) give_up("a word is missing");
+    for (; digit(*text) >= 0; text++) x = x << 4 | (uint64_t)digit(*text);
+    return x;
+}
+
+static const uint64_t *read_words(Words *w, size_t count) {
+    uint64_t *at = w->at + w->used;
+    if (line_length < w->used + count) give_up("a length is wrong");
+    for (size_t k = 0; k < count; k++) at[k] = word();
+    w->used += count;
+    return at;
+}
+
+// Bytes, two digits each; `-` where there is none.
+static const uint64_t *read_bytes(Words *w, size_t *count) {
+    uint64_t *at = w->at + w->used;
+    *count = 0;
+    if (mark('-')) return at;
+    pass_blanks();
+    for (; digit(text[0]) >= 0 && digit(text[1]) >= 0; text += 2) at[(*count)++] = (uint64_t)(digit(text[0]) << 4 | digit(text[1]));
+    if (*count == 0) give_up("bytes are missing");
+    w->used += *count;
+    return at;
+}
+
+static const uint64_t *read_slice(Words *w, char kind, size_t *count) {
+    if (element(kind) == 1) return read_bytes(w, count);
+    *count = word();
+    return read_words(w, *count);
+}
+
+// What a line says of an argument before its `=`.
+static Argument read_argument(Words *w, char kind) {
+    Argument a = {.kind = kind};
+    if (kind == 'n') a.words = read_words(w, 1);
+    else if (is_one_of(kind, "bjhkid")) a.words = read_slice(w, kind, &a.length), a.known = a.length;
+    else if (kind == 'S') a.words = read_words(w, WAGONPLAN_SETTING_WORDS), a.length = a.known = WAGONPLAN_SETTING_WORDS;
+    else if (is_one_of(kind, "Rr")) a.words = run, a.length = a.known = WAGONPLAN_RUN_WORDS;
+    else if (is_one_of(kind, "ve")) a.length = 1;
+    else if (kind == 'U') a.length = WAGONPLAN_RESULT_WORDS;
+    else a.length = word();
+    if (is_one_of(kind, "Ff")) a.words = factor, a.known = factor_count < a.length ? factor_count : a.length;
+    return a;
+}
+
+// A table, a sign table or a job, or the last one.
+static void read_group(const char *kinds) {
+    size_t count = strlen(kinds);
+    if (!mark('~')) {
+        room_for_line(&group_words);
+        for (size_t k = 0; k < count; k++) group[k] = read_argument(&group_words, kinds[k]);
+    }
+    memcpy(arguments + argument_count, group, count * sizeof *group);
+    argument_count += count;
+}
+
+static void read_arguments(const char *kinds) {
+    argument_count = 0;
+    for (; *kinds; kinds++) {
+        if (*kinds == 'T') read_group("nnhhii");
+        else if (*kinds == 'Q') read_group("nnhhi");
+        else if (*kinds == 'j') read_group("j");
+        else arguments[argument_count++] = read_argument(&line_words, *kinds);
+    }
+}
+
+// What must be given back: all of an accepted call, the record of a refused job.
+static void read_wanted(Argument *a, uint8_t refused) {
+    if (!is_written(a->kind) || (refused && a->kind != 'A')) return;
+    if (is_one_of(a->kind, "RveU")) a->count = a->length, a->wanted = read_words(&line_words, a->count);
+    else a->wanted = read_slice(&line_words, a->kind, &a->count);
+    if (a->length < a->count) give_up("more is given back than there is room for");
+}
+
+// ---- memory -------------------------------------------------------------------------------------------
+
+// Numbers that no call gives: NaNs, quiet and signalling, of both signs and with payloads, beside others; at a place they are of another kind in each of seven fills.
+static uint64_t filler(size_t at, size_t fill) {
+    static const uint64_t kinds[7] = {0x7FF8000000000000, 0x4321876500000000, 0x7FF0000000000000, 0xFFF8000000000000,
+                                      0x0000876500000000, 0xFFF0000000000000, 0x7FFFFFFF87650000};
+    return kinds[(at + fill) % 7] + 1 + at;
+}
+
+static void put(Argument *a, size_t at, uint64_t x) { memcpy(a->at + at * element(a->kind), &x, element(a->kind)); } // the low bytes of x
+
+static uint64_t get(const Argument *a, size_t at) {
+    uint64_t x = 0;
+    memcpy(&x, a->at + at * element(a->kind), element(a->kind));
+    return x;
+}
+
+// A refused call leaves any run and factor: there stand other doubles where none is judged.
+static int is_judged(const Argument *a, size_t at) {
+    if (is_one_of(a->kind, "Ff")) return 0;
+    if (a->kind != 'R') return 1;
+    return !(5 <= at && at <= 7) && !(at == 3 && a->words[2] < 3);
+}
+
+static void make(Argument *a, int trial, size_t lent, size_t fill, int others) {
+    size_t guard = trial == AS_STORED ? 0 : GUARD, bytes = element(a->kind);
+    a->lent = lent;
+    a->size = (2 * guard + lent) * bytes;
+    a->block = block_of(a->size), a->before = block_of(a->size);
+    a->at = a->block + guard * bytes;
+    for (size_t k = 0; k < a->size; k++) a->block[k] = (uint8_t)(bytes == 8 ? filler(k / 8, fill) >> 8 * (k % 8) : 161 + 7 * k + 13 * fill);
+    for (size_t k = 0; k < a->known && k < lent; k++)
+        if (!others || is_judged(a, k)) put(a, k, a->words[k]);
+    memcpy(a->before, a->block, a->size);
+    if (a->size == 0) a->at = NULL;
+}
+
+// ---- comparing ----------------------------------------------------------------------------------------
+
+static int is_zero(uint64_t bits) { return bits << 1 == 0; }
+static int is_nan(uint64_t bits) { return bits << 1 > (uint64_t)0x7FF << 53; }
+
+// The doubles of run, result and answer record: zeros of either sign are equal, a NaN is 7FF8000000000000. Elsewhere all NaNs are equal too.
+static int same_double(char kind, uint64_t got, uint64_t wanted) {
+    return got == wanted || (is_zero(got) && is_zero(wanted)) || (is_one_of(kind, "DFe") && is_nan(got) && is_nan(wanted));
+}
+
+static int holds_double(char kind, size_t at) {
+    return is_one_of(kind, "DFe") || (kind == 'R' && (at == 3 || (5 <= at && at <= 7))) || (kind == 'U' && (at == 4 || at == 5));
+}
+
+// Whether the eight bytes from here are a double of the answer record, zero in both.
+static int zeros_at(const Argument *a, size_t at) {
+    uint64_t got = 0, wanted = 0;
+    if ((at != WAGONPLAN_AT_RELAXED && at != WAGONPLAN_AT_BOUND) || a->count < WAGONPLAN_AT_CHOICE) return 0;
+    for (size_t k = at; k < at + 8; k++) got = got << 8 | get(a, k), wanted = wanted << 8 | a->wanted[k];
+    return is_zero(got) && is_zero(wanted);
+}
+
+static const char *fault_of(Argument *a, uint8_t refused) {
+    size_t bytes = element(a->kind), written = a->count;
+    for (size_t k = 0; k < a->count; k++) {
+        if (a->kind == 'A' && zeros_at(a, k)) k += 7;
+        else if (holds_double(a->kind, k) ? !same_double(a->kind, get(a, k), a->wanted[k]) : get(a, k) != a->wanted[k]) return "another value is written";
+    }
+    if (a->kind == 'W' && !refused) written = a->lent < WAGONPLAN_WORKSPACE ? a->lent : WAGONPLAN_WORKSPACE;
+    if (a->at) memcpy(a->before + (a->at - a->block), a->at, written * bytes);
+    if (memcmp(a->block, a->before, a->size)) return "something is written that must stay";
+    return 0;
+}
+
+// ---- a call -------------------------------------------------------------------------------------------
+
+static int on_stack; // --stack
+static size_t stack_of[CALLS];
+static uint8_t *stack;
+
+typedef struct {
+    uint8_t (*call)(Argument *);
+    uint8_t number;
+} OnThread;
+
+static void *on_thread(void *given) {
+    OnThread *t = given;
+    t->number = t->call(arguments);
+    return given;
+}
+
+// The call on a thread whose stack is painted: the lowest byte that changed tells how much it took.
+static uint8_t painted(uint8_t (*call)(Argument *), size_t *most) {
+    OnThread made = {call, 0};
+    pthread_attr_t attributes;
+    pthread_t thread;
+    size_t low = 0;
+    memset(stack, 0xA5, STACK);
+    pthread_attr_init(&attributes);
+    if (pthread_attr_setstack(&attributes, stack, STACK) || pthread_create(&thread, &attributes, on_thread, &made)) give_up("no thread");
+    pthread_join(thread, 0);
+    while (low < STACK && stack[low] == 0xA5) low++;
+    if (*most < STACK - low) *most = STACK - low;
+    return made.number;
+}
+
+// The call in another mode than IEEE's, which must stand afterwards; `stands` says whether it does. Where the machine doesn't keep the mode as set, what it keeps counts.
+static uint8_t in_odd_mode(uint8_t (*call)(Argument *), int *stands) {
+    unsigned before = _mm_getcsr(), odd;
+    uint8_t got;
+    _mm_setcsr(ODD_MODE);
+    odd = _mm_getcsr();
+    got = call(arguments);
+    *stands = _mm_getcsr() == odd;
+    _mm_setcsr(before);
+    return got;
+}
+
+static int differs(size_t k, const char *what) {
+    printf("%s, line %zu: ", list_name, line_at);
+    if (k < argument_count) printf("argument %zu (%c): ", k + 1, arguments[k].kind);
+    printf("%s\n", what);
+    return 1;
+}
+
+// The call once; 1 where something differs. Argument `cut`, if there is one, is a word too short.
+static int tried(const Call *call, int trial, uint8_t wanted, size_t cut) {
+    int bad = 0, stands = 1;
+    uint8_t (*made)(Argument *) = trial >= LONGER && call->raw ? call->raw : call->call, got;
+    for (size_t k = 0; k < argument_count; k++) {
+        Argument *a = arguments + k;
+        size_t lent = a->length + (trial == LONGER && grows(a->kind) ? MORE : 0) - (k == cut);
+        make(a, trial, lent, line_at + (size_t)trial, wanted != 0 && trial != AS_STORED);
+    }
+    if (on_stack) got = painted(made, stack_of + (call - calls));
+    else got = trial == GUARDED ? in_odd_mode(made, &stands) : made(arguments);
+    if (got != wanted) bad |= differs(argument_count, "another number is answered");
+    if (!stands) bad |= differs(argument_count, "the floating-point mode is another");
+    for (size_t k = 0; k < argument_count; k++) {
+        const char *fault = got == wanted ? fault_of(arguments + k, wanted) : 0;
+        if (fault) bad |= differs(k, fault);
+    }
+    return bad;
+}
+
+static void free_memory(void) {
+    for (size_t k = 0; k < argument_count; k++) free(arguments[k].block), free(arguments[k].before);
+}
+
+// Run and factor go on as the call left them, or, where it differed, as they should be.
+static void go_on(const Argument *a, int bad) {
+    if (a->count == 0 || !is_one_of(a->kind, "RF")) return;
+    uint64_t *to = a->kind == 'R' ? run : (factor = realloc(factor, 8 * a->count));
+    if (!to) give_up("no memory");
+    for (size_t k = 0; k < a->count; k++) to[k] = bad ? a->wanted[k] : get(a, k);
+    if (a->kind == 'F') factor_count = a->count;
+}
+
+static int with_a_word_short(const Call *call) {
+    Argument kept[ARGUMENTS];
+    int bad = 0;
+    memcpy(kept, arguments, sizeof kept);
+    for (size_t k = 0; k < argument_count; k++) arguments[k].count = 0;
+    for (size_t k = 0; k < argument_count; k++) {
+        if (!is_one_of(arguments[k].kind, "RrSU")) continue;
+        bad |= tried(call, A_WORD_SHORT, 31, k);
+        free_memory();
+    }
+    memcpy(arguments, kept, sizeof kept);
+    return bad;
+}
+
+static int replayed(const Call *call, uint8_t wanted) {
+    int bad = 0;
+    if (!on_stack) {
+        bad |= tried(call, GUARDED, wanted, ARGUMENTS), free_memory();
+        if (wanted != 31) bad |= tried(call, LONGER, wanted, ARGUMENTS), free_memory();
+        if (call->raw) bad |= with_a_word_short(call);
+    }
+    bad |= tried(call, AS_STORED, wanted, ARGUMENTS);
+    for (size_t k = 0; k < argument_count; k++) go_on(arguments + k, bad);
+    free_memory();
+    return bad;
+}
+
+// ---- lists --------------------------------------------------------------------------------------------
+
+static size_t made, differences, counts[CALLS][NUMBERS];
+
+static const Call *named(const char *name, size_t length) {
+    for (size_t k = 0; k < CALLS; k++)
+        if (strlen(calls[k].name) == length && !memcmp(calls[k].name, name, length)) return calls + k;
+    give_up("no call has this name");
+}
+
+// `run`, twelve words and a factor: what the next line goes on with.
+static void set_run(void) {
+    size_t count;
+    memcpy(run, read_words(&line_words, WAGONPLAN_RUN_WORDS), sizeof run);
+    const uint64_t *words = read_slice(&line_words, 'F', &count);
+    free(factor);
+    factor = block_of(8 * count);
+    memcpy(factor, words, 8 * count);
+    factor_count = count;
+}
+
+static void replay_line(const char *line) {
+    size_t length = strcspn(line, " ");
+    room_for_line(&line_words);
+    text = line + length;
+    if (length == 3 && !memcmp(line, "run", 3)) {
+        set_run();
+    } else {
+        const Call *call = named(line, length);
+        read_arguments(call->kinds);
+        if (!mark('=')) give_up("a word too many");
+        uint64_t wanted = word();
+        if (NUMBERS <= wanted) give_up("no such number");
+        for (size_t k = 0; k < argument_count; k++) read_wanted(arguments + k, (uint8_t)wanted);
+        made++, counts[call - calls][wanted]++;
+        differences += (size_t)replayed(call, (uint8_t)wanted);
+    }
+    pass_blanks();
+    if (*text) give_up("a word too many");
+}
+
+// A line that goes on with the one before: by its table or job, or by the run.
+static int leans(const char *line) { return strstr(line, " ~ ") || !strncmp(line, "sweep ", 6) || !strncmp(line, "finish ", 7); }
+
+static void replay_list(FILE *list, size_t longest) {
+    char *line = 0;
+    size_t room = 0;
+    ssize_t length;
+    int passed_over = 0;
+    for (line_at = 1; (length = getline(&line, &room, list)) > 0; line_at++) {
+        line[strcspn(line, "\n")] = 0;
+        if (!*line || *line == '#') continue;
+        line_length = (size_t)length;
+        passed_over = longest < line_length || (passed_over && leans(line));
+        if (!passed_over) replay_line(line);
+    }
+    free(line);
+}
+
+static void print_counts(void) {
+    for (size_t k = 0; k < CALLS; k++) {
+        const char *before = ": ";
+        for (size_t n = 0; n < NUMBERS; n++) {
+            if (!counts[k][n]) continue;
+            printf("%s%s%zu by %zu", *before == ':' ? calls[k].name : "", before, counts[k][n], n);
+            before = ", ";
+        }
+        if (*before == ',') printf("%s", on_stack ? ", " : "\n");
+        if (*before == ',' && on_stack) printf("at most %zu bytes of stack\n", stack_of[k]);
+    }
+    printf("calls %zu, differences %zu\n", made, differences);
+}
+
+int main(int argc, char **argv) {
+    size_t longest = (size_t)-1;
+    int at = 1;
+    for (; at < argc && !strncmp(argv[at], "--", 2); at++) {
+        if (!strcmp(argv[at], "--stack")) on_stack = 1, stack = aligned_alloc(4096, STACK);
+        else if (!strcmp(argv[at], "--short") && at + 1 < argc) longest = strtoul(argv[++at], 0, 10);
+        else return fprintf(stderr, "replay [--short BYTES] [--stack] [LIST]...\n"), 2;
+    }
+    list_name = "standard input";
+    if (!wagonplan_fits()) give_up("the archive is of another header");
+    if (at == argc) replay_list(stdin, longest);
+    for (; at < argc; at++) {
+        FILE *list = fopen(list_name = argv[at], "r");
+        if (!list) give_up("it can't be read");
+        replay_list(list, longest);
+        fclose(list);
+    }
+    print_counts();
+    free(line_words.at), free(group_words.at), free(factor), free(stack);
+    return made == 0 || differences != 0;
+}
