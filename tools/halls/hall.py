@@ -8,8 +8,9 @@ from .text import Refused, count, counted, real, shown, text_of, whole
 RULES = ["Grad", "GradAdv", "Coord", "CoordNoStep", "CoordMomentum"]
 STARTS = ["random", "factor", "signs"]
 
-# 01's limits; the name's length is this tool's, for the picture.
-WAGONS, ENTRIES, MAGNITUDE, RANK, WIDTH, DRAWS, SWEEPS, NAME = 127, 4096, 2**40, 32, 128, 1000, 2**32 - 1, 32
+# 01's limits, and the characters of a name, so that it can be read in the picture.
+WAGONS, ENTRIES, MAGNITUDE, RANK, WIDTH, DRAWS, SWEEPS = 127, 4096, 2**40, 32, 128, 1000, 2**32 - 1
+NAMES = {"wagon": 24, "row": 16}
 
 
 class Hall:
@@ -109,8 +110,8 @@ class Hall:
     def new_name(self, name, names, what):
         if name in names:
             raise Refused(f"there are two {what}s named {shown(name)}")
-        if len(name) > NAME:
-            raise Refused(f"the {what}'s name {shown(name)} has {len(name)} characters; it has at most {NAME}")
+        if len(name) > NAMES[what]:
+            raise Refused(f"the {what}'s name {shown(name)} has {len(name)} characters; it has at most {NAMES[what]}")
 
     def weigh(self, more, what):
         self.magnitude += more

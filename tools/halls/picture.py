@@ -6,31 +6,32 @@ from html import escape
 from unicodedata import east_asian_width
 
 from .answer import STORES, eighths
-from .say import floor_promise, listed, search_promise, stores
+from .say import listed, promises, stores
 from .text import counted
 
-MARGIN, TOP, FOOT, GAP = 10.0, 38.0, 46.0, 1.2
+MARGIN, TOP, FOOT = 10.0, 38.0, 46.0
 LABEL = 22.0  # the strip between the stores, with the rows' names
-SIZES = [size / 10 for size in range(60, 9, -1)]
-READABLE = 2.2  # smaller than this, the rows are given up for larger type
+SIZES = [size / 10 for size in range(120, 9, -1)]
+READABLE = 2.0  # smaller than this, the rows are given up for larger type
 INK, PAPER, PLAIN, RED = "#1a1a1a", "#f3f5f8", "#ffffff", "#b71c1c"
+BOLD = ' font-weight="bold"'
 
 
 class Layout:
     """Where each wagon stands: `bands` are the rows, each a name and the wagons of either store."""
 
     def __init__(self, hall, bands, page, size):
-        self.bands, self.page, self.size = bands, page, size
+        self.bands, self.page, self.size, self.gap = bands, page, size, 0.25 * size
         self.label = LABEL if bands[0][0] is not None else 6.0
         self.store = (page[0] - 2 * MARGIN - self.label) / 2
         self.wide, self.high = size * (max(map(em, hall.names), default=1) + 0.9), 1.8 * size
-        self.across = int((self.store - GAP) // (self.wide + GAP))
+        self.across = int((self.store - self.gap) // (self.wide + self.gap))
 
     def lines(self, band):
         return max(1, *(-(-len(wagons) // self.across) for wagons in band[1]))
 
     def heights(self):
-        return [self.lines(band) * (self.high + GAP) + GAP for band in self.bands]
+        return [self.lines(band) * (self.high + self.gap) + self.gap for band in self.bands]
 
     def fits(self):
         return self.across > 0 and sum(self.heights()) <= self.page[1] - TOP - FOOT
@@ -42,6 +43,11 @@ class Layout:
 def em(text):
     """The width of a text in sizes of its type, no less than any common sans-serif takes."""
     return sum(1.05 if east_asian_width(c) in "WF" or c in "mwMW@%" else 0.42 if c in "fijlrt.,:;'|!()[]-I" else 0.8 if c.isupper() else 0.66 for c in text)
+
+
+def fitted(size, words, width, weight=1.1):
+    """The size, or less where the words, in bold by the weight, would be wider than the width."""
+    return min(size, width / (weight * em(words)))
 
 
 def bands_of(hall, answer):
@@ -83,8 +89,9 @@ def plan(hall, answer):
     yield f'<svg xmlns="http://www.w3.org/2000/svg" width="{wide:g}mm" height="{high:g}mm" viewBox="0 0 {wide:g} {high:g}" role="img" aria-labelledby="title text" font-family="Helvetica, Arial, sans-serif">'
     yield f'<title id="title">{escape(title_of(hall))}</title>'
     yield f'<desc id="text">{escape(told(hall, answer))}</desc>'
+    yield f"<style>@page {{ size: {wide:g}mm {high:g}mm; margin: 0 }}</style>"
     yield box(0, 0, wide, high, "#ffffff")
-    yield text(MARGIN, 20, min(8.0, (wide - 2 * MARGIN) / em(title_of(hall))), title_of(hall), more=' font-weight="bold"')
+    yield text(MARGIN, 20, fitted(8.0, title_of(hall), wide - 2 * MARGIN), title_of(hall), more=BOLD)
     yield from heads(hall, answer, found)
     yield from drawn_bands(hall, found)
     yield from foot(hall, answer, found)
@@ -100,30 +107,29 @@ def told(hall, answer):
     sides = [f"{side.capitalize()} store: {listed(hall, wagons)}." for side, wagons in zip(STORES, stores(hall, answer))]
     rows = [f"Row {row}: {listed(hall, members)}." for row, members in hall.rows.items()]
     retractable = [f"Retractable, in red: {listed(hall, sorted(hall.retractable))}."] if hall.retractable else []
-    return " ".join([*sides, *retractable, *rows, f"Cost {eighths(answer['cost'])}.", floor_promise(answer), search_promise(hall)])
+    return " ".join([*sides, *retractable, *rows, f"Cost {eighths(answer['cost'])}.", *promises(hall, answer)])
 
 
 def heads(hall, answer, found):
     """Above each store its side, its count, and an arrow to it."""
     for side, (name, wagons) in enumerate(zip(STORES, stores(hall, answer))):
-        x, tip = found.left(side), MARGIN + 2 if side == 0 else found.page[0] - MARGIN - 2
-        inner = tip + (5, -5)[side]
-        yield box(x, 26, found.store, 10, INK)
-        yield f'<path d="M{tip:.2f} 31 L{inner:.2f} 28 L{inner:.2f} 34 Z" fill="#ffffff"/>'
+        tip, inner, start = ((MARGIN + x) if side == 0 else (found.page[0] - MARGIN - x) for x in (2, 7, 10))
         words = f"{name.upper()} STORE: {counted(len(wagons), 'wagon')}"
-        yield text(inner + (3, -3)[side], 33, 5.2, words, ("start", "end")[side], "#ffffff", ' font-weight="bold"')
+        yield f'<g class="store">{box(found.left(side), 26, found.store, 10, INK)}'
+        yield f'<path d="M{tip:.2f} 31 L{inner:.2f} 28 L{inner:.2f} 34 Z" fill="#ffffff"/>'
+        yield text(start, 33, fitted(5.2, words, found.store - 12), words, ("start", "end")[side], "#ffffff", BOLD) + "</g>"
 
 
 def drawn_bands(hall, found):
     y = TOP
     for (name, sides), high in zip(found.bands, found.heights()):
         for side, wagons in enumerate(sides):
-            yield box(found.left(side), y, found.store, high - 0.4, PAPER)
+            yield box(found.left(side), y, found.store, high, PAPER, f' stroke="#ffffff" stroke-width="0.4"')
             for k, i in enumerate(wagons):
                 yield from wagon(hall, found, i, side, name, place(found, side, len(wagons), k, y))
         if name:
             words = f"Row {name}"
-            yield text(found.page[0] / 2, y + high / 2 + 1, min(5.0, high - 0.6, (LABEL - 2) / em(words)), words, "middle", more=' font-weight="bold"')
+            yield text(found.page[0] / 2, y + high / 2 + 1, min(high - 0.6, fitted(5.0, words, LABEL - 2)), words, "middle", more=BOLD)
         y += high
 
 
@@ -131,9 +137,9 @@ def place(found, side, many, k, y):
     """A wagon's corner: left ones from the left edge, right ones from the right edge, both in the row's order."""
     line, at = divmod(k, found.across)
     here = min(found.across, many - line * found.across)
-    step = found.wide + GAP
-    x = found.left(0) + GAP + at * step if side == 0 else found.page[0] - MARGIN - (here - at) * step
-    return x, y + GAP + line * (found.high + GAP) - 0.2
+    step, gap = found.wide + found.gap, found.gap
+    x = found.left(0) + gap + at * step if side == 0 else found.page[0] - MARGIN - (here - at) * step
+    return x, y + gap + line * (found.high + gap)
 
 
 def wagon(hall, found, i, side, row, corner):
@@ -150,11 +156,13 @@ def foot(hall, answer, found):
     """The figures, what is promised, and what red means."""
     y, width = found.page[1] - FOOT + 10, found.page[0] - 2 * MARGIN
     figures = f"Cost {eighths(answer['cost'])}     Floor {eighths(answer['floor'])}"
-    yield text(MARGIN, y, 7.5, figures, more=' font-weight="bold" xml:space="preserve"')
-    lines = [floor_promise(answer), search_promise(hall)]
-    lines.append(f"The search took {counted(answer['rounds'], 'round')} from a cost of {eighths(answer['rounded'])}. All this was worked out again from the hall's own costs.")
-    for k, line in enumerate(lines):
-        yield text(MARGIN, y + 8 + 6 * k, min(4.2 if k < 2 else 3.4, width / em(line)), line)
+    yield text(MARGIN, y, fitted(7.5, figures, width - 40), figures, more=f'{BOLD} xml:space="preserve"')
+    promised = promises(hall, answer)
+    size = min(fitted(4.2, line, width, 0.9) for line in promised)
+    for k, line in enumerate(promised):
+        yield text(MARGIN, y + 8 + 6 * k, size, line)
+    checked = f"Cost and floor were worked out again from the hall's own costs. The search took {counted(answer['rounds'], 'round')} from a cost of {eighths(answer['rounded'])}."
+    yield text(MARGIN, y + 8 + 6 * len(promised), fitted(3.4, checked, width, 0.9), checked)
     if hall.retractable:
         x = found.page[0] - MARGIN - 34
         yield box(x, y - 4.6, 7, 5, RED, f' stroke="{INK}" stroke-width="0.25" rx="0.8"')

@@ -12,7 +12,7 @@ def words(hall, answer):
         yield f"{side.capitalize()} store: {listed(hall, wagons)}."
     if hall.retractable:
         yield f"Retractable: {listed(hall, sorted(hall.retractable))}."
-    yield f"This costs {eighths(answer['cost'])}. {floor_promise(answer)} {search_promise(hall)}"
+    yield " ".join([f"This costs {eighths(answer['cost'])}.", *promises(hall, answer)])
     yield f"The search started from a cost of {eighths(answer['rounded'])} and took {counted(answer['rounds'], 'round')}."
     yield f"Sweeps: {answer['sweeps']} at rank {answer['rank']}; {STATUSES[answer['status']]}. Relaxed objective {answer['relaxed']:.6g}, float bound {answer['bound']:.6g}."
 
@@ -26,16 +26,14 @@ def stores(hall, answer):
     return [[i for i, b in enumerate(answer["choice"]) if b == store] for store in (0, 1)]
 
 
-def floor_promise(answer):
+def promises(hall, answer):
+    """What holds of this choice beside its cost, a sentence for each."""
     if answer["cost"] == answer["floor"]:
-        return "No choice at all costs less."
-    return f"No choice at all costs less than {eighths(answer['floor'])}, the floor."
-
-
-def search_promise(hall):
+        return ["No choice at all costs less."]
+    floor = f"No choice at all costs less than {eighths(answer['floor'])}, the floor."
     if hall.width == 0:
-        return "The search was off (width 0): one wagon moved may make it cheaper."
-    return "No single wagon moved to the other store makes it cheaper, nor all of them at once."
+        return [floor, "The search was off (width 0): one wagon moved may make it cheaper."]
+    return [floor, "No single wagon moved to the other store makes it cheaper, nor all of them at once."]
 
 
 def as_json(hall, answer):
