@@ -1,12 +1,15 @@
 #!/usr/bin/env bash
-# Each hall of host/halls to a job record, through the record call, and back to words: they must be those stored beside it. With --write they are stored.
+# Tests tools/hall, tools/plan and tools/show_hall.sh: each hall of host/halls through the program to words, which must be those stored beside it (with
+# --write they are stored), then tools/check_halls.py, then the plans in a browser where one is installed. WAGONPLAN may name another program.
 set -eu
 cd "$(dirname "$0")/.."
-. host/archive.sh
-build answers
+[ -x "${WAGONPLAN:-target/bin/wagonplan}" ] || { echo "there is no program ${WAGONPLAN:-target/bin/wagonplan}: run \`rt check wagonplan\` first" >&2; exit 1; }
+PYTHONPYCACHEPREFIX=$PWD/target/pycache python3 -m py_compile tools/hall tools/plan tools/halls/*.py tools/check_halls.py tools/look_at_plan.py
+mkdir -p target/halls
 for hall in host/halls/*.txt; do
-    tools/hall job "$hall" | basenc --base16 -w 0 | { cat; echo; } | target/host/answers | basenc --base16 -d >target/host/answer.bin
-    tools/hall words "$hall" target/host/answer.bin >target/host/answer.words
-    tools/hall plan "$hall" target/host/answer.bin >"target/host/$(basename "${hall%.txt}").svg"
-    if [ "${1:-}" = --write ]; then cp target/host/answer.words "${hall%.txt}.words"; else cmp target/host/answer.words "${hall%.txt}.words"; fi
+    name=$(basename "${hall%.txt}")
+    tools/plan "$hall" --plan "target/halls/$name.svg" >"target/halls/$name.words"
+    if [ "${1:-}" = --write ]; then cp "target/halls/$name.words" "${hall%.txt}.words"; else cmp "target/halls/$name.words" "${hall%.txt}.words"; fi
 done
+tools/check_halls.py
+tools/look_at_plan.py target/halls/*.svg || [ $? -eq 77 ]

@@ -22,7 +22,8 @@ const meet = (a, b) => a.x + slack < b.x + b.width && b.x + slack < a.x + a.widt
 const measure = svg => {
     const page = svg.viewBox.baseVal, faults = [], all = what => [...svg.querySelectorAll(what)];
     const boxes = all('.wagon').map(e => [name(e), e.querySelector('rect').getBBox()]);
-    for (const e of all('.wagon, .store')) if (!across(e.querySelector('text').getBBox(), e.querySelector('rect').getBBox())) faults.push(name(e) + ' is wider than its box');
+    for (const e of all('.wagon, .store'))
+        if (!across(e.querySelector('text').getBBox(), e.querySelector('rect').getBBox())) faults.push(name(e) + ' is wider than its box');
     boxes.forEach(([one, a], k) => {
         if (!inside(a, page)) faults.push(one + ' is off the page');
         for (const [other, b] of boxes.slice(k + 1)) if (meet(a, b)) faults.push(one + ' is on ' + other);
@@ -63,7 +64,8 @@ def main():
     plans = [open(path, encoding="utf-8").read() for path in sys.argv[1:]]
     bad = 0
     for path, seen in zip(sys.argv[1:], look(browser, plans), strict=True):
-        print(f"{os.path.basename(path)}: {seen['wagons']} wagons, names in type of {seen['type'] or 0} mm, faults {len(seen['faults'])}", *seen["faults"][:10], sep="\n  ")
+        measured = f"{seen['wagons']} wagons, names in type of {seen['type'] or 0} mm, faults {len(seen['faults'])}"
+        print(f"{os.path.basename(path)}: {measured}", *seen["faults"][:10], sep="\n  ")
         bad += len(seen["faults"])
     sys.exit(bad != 0)
 

@@ -85,16 +85,17 @@ def stated(answer, hall):
 
 
 def costed(answer, hall):
-    """The cost and the floor, worked out again from the hall."""
-    cost, floor = cost_of(hall, answer["choice"]), floor_of(hall)
+    """The cost, the floor and the float bound, worked out again from the hall."""
+    cost, table = cost_of(hall, answer["choice"]), sign_table(hall)
+    floor, bound = floor_of(table), bound_of(table)
     if answer["cost"] != cost:
         yield f"its cost is {eighths(answer['cost'])}, and by the hall's own costs its choice costs {eighths(cost)}"
     if answer["cost"] < answer["floor"]:
         yield f"its cost {eighths(answer['cost'])} is below its floor {eighths(answer['floor'])}"
     if answer["floor"] != floor:
         yield f"its floor is {eighths(answer['floor'])}, and by the hall's own costs it is {eighths(floor)}"
-    if not answer["bound"] <= floor / 8:
-        yield f"its float bound {answer['bound']!r} is above its floor {eighths(floor)}"
+    if answer["bound"] != bound:
+        yield f"its float bound is {answer['bound']!r}, and by the hall's own costs it is {bound!r}"
 
 
 def searched(answer, hall):
@@ -141,16 +142,29 @@ def changes(hall, choice):
     yield "all wagons", cost_of(hall, [1 - b for b in choice]) - cost_of(hall, choice)
 
 
-def floor_of(hall):
-    """01's floor: the sign table's diagonal less the absolute values of all its other entries, in eighths."""
-    table = dict(hall.pairs)
+def sign_table(hall):
+    """01's sign table in eighths: c absorbed at (i, i), row sums at (i, n) and (n, i) where they aren't 0, the sum of all at (n, n)."""
+    n, table = len(hall.costs), dict(hall.pairs)
     for i, c in enumerate(hall.costs):
-        table[i, i] = table.get((i, i), 0) + 2 * c
-    sums = [0] * len(hall.costs)
+        if c:
+            table[i, i] = table.get((i, i), 0) + 2 * c
+    sums = [0] * n
     for (i, _), v in table.items():
         sums[i] += v
-    diagonal = sum(v for (i, k), v in table.items() if i == k) + sum(sums)
-    return diagonal - sum(abs(v) for (i, k), v in table.items() if i != k) - 2 * sum(map(abs, sums))
+    for i, total in enumerate(sums):
+        if total:
+            table[i, n] = table[n, i] = -total
+    return {**table, (n, n): sum(sums)}
+
+
+def floor_of(table):
+    """The diagonal of a sign table less the absolute values of all other entries."""
+    return sum(v if i == k else -abs(v) for (i, k), v in table.items())
+
+
+def bound_of(table):
+    """01's float bound: the floor in whole units less its margin, one rounding for each operation; the sums are exact."""
+    return floor_of(table) / 8 - 8.0 * 2.0**-52 * (len(table) + 1.0) * (sum(map(abs, table.values())) / 8)
 
 
 def eighths(x):

@@ -1,6 +1,6 @@
 """What the commands tools/hall and tools/plan share."""
 import argparse
-import sys
+import os
 
 from .answer import read_answer, refuse
 from .picture import plan
@@ -48,7 +48,7 @@ def solve(job, hall_of_job, given):
     refuse(record)
     hall = hall_of_job(job)
     answer = read_answer(record, hall)
-    files = [(given.answer, record)] + [(path, FORMS[form](hall, answer)) for form, path in (("plan", given.plan), ("json", given.json)) if path]
+    files = [(given.answer, record), (given.plan, FORMS["plan"](hall, answer)), (given.json, FORMS["json"](hall, answer))]
     try:
         write_files([(path, data) for path, data in files if path])
     finally:
@@ -63,14 +63,15 @@ def ended(act, status_of):
     except Wrong as wrong:
         return say(wrong, status_of(wrong))
     except OSError as error:
-        return say(f"{error.filename} can't be read: {error.strerror}.", status_of(error))
+        name = error.filename if isinstance(error.filename, str) else "Standard input"
+        return say(f"{name} can't be read: {error.strerror}.", status_of(error))
     except KeyboardInterrupt:
         return say("Interrupted.", status_of(None))
 
 
 def say(sentence, status):
     try:
-        print(sentence, file=sys.stderr)
+        os.write(2, f"{sentence}\n".encode("utf-8", "backslashreplace"))
     except OSError:
         pass  # the status still tells
     return status

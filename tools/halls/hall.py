@@ -40,7 +40,8 @@ class Hall:
             raise Refused(f"the pair {shown(one)} {shown(other)} has a cost already")
         entries = len(self.pairs) + (1 if i == k else 2)
         if entries > ENTRIES:
-            raise Refused(f"with the pair {shown(one)} {shown(other)} the table has {entries:,} entries; it has at most {ENTRIES:,}, which is {ENTRIES // 2:,} pairs of two wagons")
+            limit = f"it has at most {ENTRIES:,}, which is {ENTRIES // 2:,} pairs of two wagons"
+            raise Refused(f"with the pair {shown(one)} {shown(other)} the table has {entries:,} entries; {limit}")
         self.weigh((1 if i == k else 2) * abs(value), f"the cost {shown(cost)} of the pair {shown(one)} {shown(other)}")
         self.pairs[i, k] = self.pairs[k, i] = value
 
@@ -116,7 +117,8 @@ class Hall:
     def weigh(self, more, what):
         self.magnitude += more
         if self.magnitude > MAGNITUDE:
-            raise Refused(f"with {what} the magnitude is above 2^40 = {MAGNITUDE:,}: twice the costs of all wagons and pairs, once that of a wagon paired with itself, without their signs")
+            sums = "the costs without their signs, that of a wagon or a pair twice, that of a wagon paired with itself once"
+            raise Refused(f"with {what} the magnitude is above 2^40 = {MAGNITUDE:,}: {sums}")
 
     def take(self, number, word, *rest):
         """One line of the file."""

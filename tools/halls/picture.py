@@ -86,7 +86,8 @@ def box(x, y, wide, high, fill, more=""):
 def plan(hall, answer):
     found = layout(hall, answer)
     wide, high = found.page
-    yield f'<svg xmlns="http://www.w3.org/2000/svg" width="{wide:g}mm" height="{high:g}mm" viewBox="0 0 {wide:g} {high:g}" role="img" aria-labelledby="title text" font-family="Helvetica, Arial, sans-serif">'
+    size, view = f'width="{wide:g}mm" height="{high:g}mm"', f'viewBox="0 0 {wide:g} {high:g}"'
+    yield f'<svg xmlns="http://www.w3.org/2000/svg" {size} {view} role="img" aria-labelledby="title text" font-family="Helvetica, Arial, sans-serif">'
     yield f'<title id="title">{escape(title_of(hall))}</title>'
     yield f'<desc id="text">{escape(told(hall, answer))}</desc>'
     yield f"<style>@page {{ size: {wide:g}mm {high:g}mm; margin: 0 }}</style>"
@@ -128,7 +129,7 @@ def drawn_bands(hall, found):
             for k, i in enumerate(wagons):
                 yield from wagon(hall, found, i, side, name, place(found, side, len(wagons), k, y))
         if name:
-            words = f"Row {name}"
+            words = f"Row {name}" if len(name) <= 3 else name
             yield text(found.page[0] / 2, y + high / 2 + 1, min(high - 0.6, fitted(5.0, words, LABEL - 2)), words, "middle", more=BOLD)
         y += high
 
@@ -161,7 +162,8 @@ def foot(hall, answer, found):
     size = min(fitted(4.2, line, width, 0.9) for line in promised)
     for k, line in enumerate(promised):
         yield text(MARGIN, y + 8 + 6 * k, size, line)
-    checked = f"Cost and floor were worked out again from the hall's own costs. The search took {counted(answer['rounds'], 'round')} from a cost of {eighths(answer['rounded'])}."
+    searched = f"The search took {counted(answer['rounds'], 'round')} from a cost of {eighths(answer['rounded'])}."
+    checked = f"Cost and floor were worked out again from the hall's own costs. {searched}"
     yield text(MARGIN, y + 8 + 6 * len(promised), fitted(3.4, checked, width, 0.9), checked)
     if hall.retractable:
         x = found.page[0] - MARGIN - 34

@@ -59,6 +59,12 @@ def umask():
     return mask
 
 
+def standard_input(most):
+    """Its first bytes, at most so many."""
+    with open(0, "rb", closefd=False) as file:
+        return file.read(most)
+
+
 def emit(data):
     """Bytes to standard output, all of them."""
     try:

@@ -60,7 +60,8 @@ def too_long(hall, length, parts):
     fit = min(DRAWS, max(0, room // (8 * rank)))
     advice = f"{counted(fit, 'draw')} of {rank} numbers would fit" if fit else "no draw would fit; a lower rank makes start and draws shorter"
     word = next((word for word in ("draws", "draw", "rank", "start") if word in hall.lines), "")
-    return hall.wrong(word, f"the job takes {length:,} bytes, {table:,} for the table, {start:,} for settings and start, {draws:,} for the draws, and has at most {BYTES:,}: {advice}")
+    spent = f"{table:,} for the table, {start:,} for settings and start, {draws:,} for the draws"
+    return hall.wrong(word, f"the job takes {length:,} bytes, {spent}, and has at most {BYTES:,}: {advice}")
 
 
 def hall_of(job):

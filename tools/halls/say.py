@@ -14,7 +14,8 @@ def words(hall, answer):
         yield f"Retractable: {listed(hall, sorted(hall.retractable))}."
     yield " ".join([f"This costs {eighths(answer['cost'])}.", *promises(hall, answer)])
     yield f"The search started from a cost of {eighths(answer['rounded'])} and took {counted(answer['rounds'], 'round')}."
-    yield f"Sweeps: {answer['sweeps']} at rank {answer['rank']}; {STATUSES[answer['status']]}. Relaxed objective {answer['relaxed']:.6g}, float bound {answer['bound']:.6g}."
+    floats = f"Relaxed objective {answer['relaxed']:.6g}, float bound {answer['bound']:.6g}."
+    yield f"Sweeps: {answer['sweeps']} at rank {answer['rank']}; {STATUSES[answer['status']]}. {floats}"
 
 
 def listed(hall, wagons):

@@ -21,7 +21,9 @@ def add_pair(path, hall, rows, i, k, names):
     cell, mirror = rows[i + 1][k + 1] or "0", rows[k + 1][i + 1] or "0"
     value, other = (with_place(path, r + 1, c + 1, whole, text) for r, c, text in ((i, k, cell), (k, i, mirror)))
     if value != other:
-        raise Refused(f"{path}, cell {cell_name(k + 1, i + 1)} ({names[1]} with {names[0]}) is {shown(mirror)}, and cell {cell_name(i + 1, k + 1)} ({names[0]} with {names[1]}) is {shown(cell)}: they must be the same")
+        below = f"cell {cell_name(k + 1, i + 1)} ({names[1]} with {names[0]}) is {shown(mirror)}"
+        above = f"cell {cell_name(i + 1, k + 1)} ({names[0]} with {names[1]}) is {shown(cell)}"
+        raise Refused(f"{path}, {below}, and {above}: they must be the same")
     if value:
         with_place(path, i + 1, k + 1, hall.pair, *names, cell)
 
@@ -54,7 +56,8 @@ def names_of(rows, path):
         if not name or not name.isprintable() or len(name.split()) != 1 or "#" in name:
             raise Refused(f"{path}, cell {cell_name(0, i + 1)}: a wagon's name is one word without #, not `{shown(name)}`")
         if rows[i + 1][0] != name:
-            raise Refused(f"{path}, cell {cell_name(i + 1, 0)} is `{shown(rows[i + 1][0])}`, and cell {cell_name(0, i + 1)} is {shown(name)}: row and column have the same names in the same order")
+            differ = f"cell {cell_name(i + 1, 0)} is `{shown(rows[i + 1][0])}`, and cell {cell_name(0, i + 1)} is {shown(name)}"
+            raise Refused(f"{path}, {differ}: row and column have the same names in the same order")
     return names
 
 

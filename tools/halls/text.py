@@ -35,9 +35,10 @@ def whole(text):
 
 
 def count(what, text, least, most):
-    if not least <= whole(text) <= most:
+    value = whole(text)
+    if not least <= value <= most:
         raise Refused(f"the {what} is {shown(text)}; it is from {least} to {most:,}")
-    return whole(text)
+    return value
 
 
 def real(text):
