@@ -17,8 +17,8 @@ from halls.text import Refused, Wrong  # noqa: E402
 
 TOP = answer.TOP
 PROGRAM = os.environ.get("WAGONPLAN") or os.path.join(TOP, "target", "bin", "wagonplan")
-STALLS = os.path.join(TOP, "host", "halls", "stalls.txt")
-DOORWAY = os.path.join(TOP, "host", "halls", "doorway.txt")
+HALLS = "host/halls"
+STALLS, DOORWAY = (os.path.join(TOP, HALLS, name) for name in ("stalls.txt", "doorway.txt"))
 TWO = "wagon a 1\nwagon b -2\n"
 FRAME = "wagon a 0\npair a a 1\nrank 24\n"
 SVG = "{http://www.w3.org/2000/svg}"
@@ -113,7 +113,8 @@ class HallFiles(Case):
         (TWO + "start factor 1 2\n", "line 3: `start factor` needs a line `rank R` with R from 1 to 32"),
         (TWO + "start signs + +\n", "line 3: this start has 3 numbers (3 rows with the anchor's), not 2."),
         (TWO + "rank 2\nstart factor 1 2\n", "line 4: this start has 6 numbers (3 rows with the anchor's, rank 2), not 2."),
-        (TWO + "rank 2\ndraw 1 0\ndraw 1\n", "line 5: draw 2 has 1 number; it has 2, as many as the rank."),
+        (TWO + "rank 2\ndraw 1 0\ndraw 1\ndraw 1 0\n", "line 5: draw 2 has 1 number; it has 2, as many as the rank."),
+        (FRAME + ("draw" + " 0" * 24 + "\n") * 340, "line 343: the job takes 65,728 bytes"),
         (TWO + "table absent.csv\n", "line 3: the table absent.csv can't be read: No such file or directory."),
     ]
 
@@ -421,7 +422,7 @@ class Commands(Case):
 
     def test_first_command(self):
         """From a tree in which nothing is built, with an rt that only says what the real one says."""
-        for name in ("tools", "host/halls", "host/wagonplan.h", "include", "crates.txt"):
+        for name in ("tools", HALLS, *answer.HEADERS, "crates.txt"):
             source, to = os.path.join(TOP, name), os.path.join(self.folder, name)
             if os.path.exists(source):
                 os.makedirs(os.path.dirname(to), exist_ok=True)

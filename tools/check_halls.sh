@@ -6,10 +6,10 @@ cd "$(dirname "$0")/.."
 [ -x "${WAGONPLAN:-target/bin/wagonplan}" ] || { echo "there is no program ${WAGONPLAN:-target/bin/wagonplan}: run \`rt check wagonplan\` first" >&2; exit 1; }
 PYTHONPYCACHEPREFIX=$PWD/target/pycache python3 -m py_compile tools/hall tools/plan tools/halls/*.py tools/check_halls.py tools/look_at_plan.py
 mkdir -p target/halls
-for hall in host/halls/*.txt; do
-    name=$(basename "${hall%.txt}")
+for hall in host/halls/*.txt host/halls/*.csv; do
+    name=$(basename "${hall%.*}")
     tools/plan "$hall" --plan "target/halls/$name.svg" >"target/halls/$name.words"
-    if [ "${1:-}" = --write ]; then cp "target/halls/$name.words" "${hall%.txt}.words"; else cmp "target/halls/$name.words" "${hall%.txt}.words"; fi
+    if [ "${1:-}" = --write ]; then cp "target/halls/$name.words" "${hall%.*}.words"; else cmp "target/halls/$name.words" "${hall%.*}.words"; fi
 done
 tools/check_halls.py
 tools/look_at_plan.py target/halls/*.svg || [ $? -eq 77 ]

@@ -20,7 +20,7 @@ class Hall:
         self.rows, self.retractable = {}, set()
         self.rank, self.rule, self.number, self.most, self.minimum, self.tolerances, self.width = 0, 3, 0.0, 200, 0, (0.0, 1e-6), 128
         self.start, self.start_numbers, self.seed, self.draw_count, self.draws = 0, None, "1", 30, []
-        self.places, self.lines = {}, {}  # a wagon's index by its name; the last line of each word
+        self.places, self.lines = {}, {}  # a wagon's index by its name; the last line of each word, the line of each draw
 
     # ---- lines of the file
 
@@ -130,8 +130,8 @@ class Hall:
         form, least, most, act = LINES[word]
         if not least <= len(rest) <= most:
             raise Refused(f"it is written `{word} {form}`, and here {word} is followed by {counted(len(rest), 'word')}")
-        self.lines[word] = number
         act(self, *rest)
+        self.lines[f"draw {len(self.draws)}" if word == "draw" else word] = number
 
     def wrong(self, word, sentence):
         """What shows once the whole file is read, with the line that it hangs on where there is one."""

@@ -125,7 +125,7 @@ def drawn_bands(hall, found):
     y = TOP
     for (name, sides), high in zip(found.bands, found.heights()):
         for side, wagons in enumerate(sides):
-            yield box(found.left(side), y, found.store, high, PAPER, f' stroke="#ffffff" stroke-width="0.4"')
+            yield box(found.left(side), y, found.store, high, PAPER, ' stroke="#ffffff" stroke-width="0.4"')
             for k, i in enumerate(wagons):
                 yield from wagon(hall, found, i, side, name, place(found, side, len(wagons), k, y))
         if name:

@@ -41,7 +41,7 @@ def draws_of(hall, made):
     rank = hall.meant_rank()
     for k, draw in enumerate(hall.draws, 1):
         if len(draw) != rank:
-            raise hall.wrong("draw" if k == len(hall.draws) else "", f"draw {k:,} has {counted(len(draw), 'number')}; it has {rank}, as many as the rank")
+            raise hall.wrong(f"draw {k}", f"draw {k:,} has {counted(len(draw), 'number')}; it has {rank}, as many as the rank")
     return hall.draws or [near_normal(made, rank) for _ in range(hall.draw_count)]
 
 
@@ -59,7 +59,7 @@ def too_long(hall, length, parts):
     rank, room = hall.meant_rank(), BYTES - (length - draws) - 2
     fit = min(DRAWS, max(0, room // (8 * rank)))
     advice = f"{counted(fit, 'draw')} of {rank} numbers would fit" if fit else "no draw would fit; a lower rank makes start and draws shorter"
-    word = next((word for word in ("draws", "draw", "rank", "start") if word in hall.lines), "")
+    word = next((word for word in ("draws", f"draw {len(hall.draws)}", "rank", "start") if word in hall.lines), "")
     spent = f"{table:,} for the table, {start:,} for settings and start, {draws:,} for the draws"
     return hall.wrong(word, f"the job takes {length:,} bytes, {spent}, and has at most {BYTES:,}: {advice}")
 
