@@ -7,4 +7,4 @@ if [ -z "${WAGONPLAN_ARCHIVE:-}" ]; then
     cp target/staticlib/libexports.a "$archive"
 fi
 # Builds target/host/NAME from host/NAME.c.
-build() { gcc -std=c11 -O2 -g -Wall -Wextra -D_GNU_SOURCE -Iinclude -o "target/host/$1" "${2:-host/$1.c}" "$archive" -lm -lpthread; }
+build() { gcc -std=c11 -O2 -g -Wall -Wextra -D_GNU_SOURCE -Iinclude -o "target/host/$1" "${2:-host/$1.c}" "$archive" -lpthread; }

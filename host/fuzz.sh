@@ -11,7 +11,7 @@ fi
 host/checked_archive.sh
 rm -rf target/fuzz/stored target/fuzz/corpus
 mkdir -p target/fuzz/stored target/fuzz/corpus target/host
-clang -std=c11 -O2 -g -Wall -Wextra -D_GNU_SOURCE -Iinclude -fsanitize=fuzzer,address,undefined -fno-sanitize-recover=all -o target/host/fuzz host/fuzz.c target/fuzz/libwagonplan.a -lm -lpthread
+clang -std=c11 -O2 -g -Wall -Wextra -D_GNU_SOURCE -Iinclude -fsanitize=fuzzer,address,undefined -fno-sanitize-recover=all -o target/host/fuzz host/fuzz.c target/fuzz/libwagonplan.a
 python3 - "$longest" <<'PY'
 import sys
 for k, line in enumerate(line for line in open("host/jobs.txt") if line[0] != "#"):

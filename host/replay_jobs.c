@@ -1,6 +1,7 @@
-// Replays stored jobs through the record call: replay_jobs < LIST. A line is a job and its answer in hexadecimal; a line that starts with
+// Replays stored jobs through the record call: replay_jobs [MODE] < LIST. A line is a job and its answer in hexadecimal; a line that starts with
 // `#` says what the next job is. Each job is called four times: with slices of just the size asked for, with longer ones, and with an
-// answer slice and a workspace that are one byte too short. Compared are the number, every byte of the answer, and the bytes that must stay.
+// answer slice and a workspace that are one byte too short. Compared are the number, every byte of the answer, and the bytes that must stay. MODE is
+// the floating-point mode of this program, MXCSR in hexadecimal, which must stay too.
 #include "hex.h"
 
 enum { LONGER = 200 };
@@ -47,7 +48,10 @@ static const char *first_fault(void) {
     return said;
 }
 
-int main(void) {
+int main(int argc, char **argv) {
+    const unsigned flags = 0x3F; // what has happened so far, no part of the mode
+    if (argc == 2) _mm_setcsr((unsigned)strtoul(argv[1], 0, 16));
+    unsigned mode = _mm_getcsr() & ~flags;
     char *line = 0, name[200] = "";
     size_t room = 0, at = 0, jobs = 0, accepted = 0, differences = 0;
     while (getline(&line, &room, stdin) > 0) {
@@ -72,5 +76,7 @@ int main(void) {
     free(line);
     printf("%zu accepted, %zu refused\n", accepted, jobs - accepted);
     printf("jobs %zu, differences %zu\n", jobs, differences);
-    return jobs == 0 || differences != 0;
+    int kept = (_mm_getcsr() & ~flags) == mode;
+    if (!kept) fprintf(stderr, "the floating-point mode is changed\n");
+    return jobs == 0 || differences != 0 || !kept;
 }
