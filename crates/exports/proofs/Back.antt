@@ -4,9 +4,7 @@ use mathlib.Core.Path.{_≡_, refl, sym}
 use mathlib.Core.List.{List}
 use borrow.Author.Tests.{lt-ltb, le-ltb}
 use lib.Dec.{T}
-use lib.ListN.{length}
 use Rattle.laws.specs.Lists.{over}
-use Rattle.run_contract.specs.declared.FinishResult.{FinishResult}
 use lib.Ieee.{Float, nan, binary64, fits}
 use lib.Ieee.Bits.{ofBits-toBits}
 use Rattle.ieee.specs.Floats.{doubleOf, bitsOf}
@@ -16,7 +14,7 @@ use Rattle.step_rules.specs.Rule.{ruleOf, ruleNumber}
 use Rattle.run_record.specs.declared.Stage.{Stage}
 use Rattle.run_record.specs.declared.Stage.the-variants.{Open, Stopped}
 use Rattle.run_record.specs.declared.Run.{Run}
-use Rattle.exports.specs.Words.{runWords, resultWords, within, stageIn, stageWord, ruleIn, ruleValue, runIn, wordsOf, resultWordsOf, Fitting}
+use Rattle.exports.specs.Words.{within, stageIn, stageWord, ruleIn, ruleValue, runIn, wordsOf, Fitting}
 
 -- ---- fields
 
@@ -70,16 +68,7 @@ words-back run f =
       sym (within-below 255 (run .status) (f .status-fits)),
     ) refl
 
--- ---- words in front of others
-
-pub run-length : (run : Run) → length (wordsOf run) ≡ runWords
-unfolding wordsOf
-run-length run = refl
-
-pub result-length : (x : FinishResult) → length (resultWordsOf x) ≡ resultWords
-unfolding resultWordsOf
-result-length x = refl
-
+-- words behind a record's own are not read
 pub front-held : (run : Run) (words : List ℕ) → runIn (over (wordsOf run) words) ≡ runIn (wordsOf run)
 unfolding runIn wordsOf
 front-held run words = refl

@@ -156,10 +156,10 @@ fn result_words(x: FinishResult) -> [u64; RESULT_WORDS]
     ]
 }
 
-// Copies words into a slice of as many.
-fn copy_words(to: &mut [u64], from: &[u64])
-    requires { ⌜ length (now to) ≡ length (now from) ⌝ }
-    ensures { λ _. ⌜ now (to .exit) ≡ now (from .entry) ⌝ }
+// Writes words over the front of a slice.
+fn put_words(to: &mut [u64], from: &[u64])
+    requires { ⌜ length (now from) ≤ length (now to) ⌝ }
+    ensures { λ _. ⌜ now (to .exit) ≡ over (now (from .entry)) (now (to .entry)) ⌝ }
 {
     let mut k = 0;
     while k < from.len() {
@@ -174,7 +174,7 @@ pub fn put_run(run: Run, words: &mut [u64])
     ensures { λ _. ⌜ (now (words .exit) ≡ over (wordsOf run) (now (words .entry))) × (runIn (now (words .exit)) ≡ run) ⌝ }
 {
     let made = words_of(run);
-    copy_words(&mut words[..RUN_WORDS], &made);
+    put_words(words, &made);
 }
 
 // Writes a result over the front of the words.
@@ -183,5 +183,5 @@ pub fn put_result(x: FinishResult, words: &mut [u64])
     ensures { λ _. ⌜ now (words .exit) ≡ over (resultWordsOf x) (now (words .entry)) ⌝ }
 {
     let made = result_words(x);
-    copy_words(&mut words[..RESULT_WORDS], &made);
+    put_words(words, &made);
 }
