@@ -8,7 +8,7 @@ mkdir -p target/bench
 export CARGO_TARGET_DIR="$PWD/target/oracle"
 (cd oracle && cargo build --release --offline --locked --quiet)
 oracle=$CARGO_TARGET_DIR/release/oracle
-gcc -O2 -Wall -Wextra -Iinclude -o target/bench/time_record bench/time_record.c "$archive" -lm
+gcc -O2 -Wall -Wextra -Iinclude -o target/bench/time_record bench/time_record.c "$archive"
 
 echo "the whole record call, large job: ours, the Rust"
 for rule in 0 1 2 3 4; do

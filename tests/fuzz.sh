@@ -12,7 +12,7 @@ tests/checked_archive.sh
 rm -rf target/fuzz/stored target/fuzz/corpus
 mkdir -p target/fuzz/stored target/fuzz/corpus target/log
 checked() { # NAME CHECKS
-    clang -std=c11 -O2 -g -Wall -Wextra -D_GNU_SOURCE -Iinclude -fsanitize="$2" -fno-sanitize-recover=all -o "target/fuzz/$1" "tests/$1.c" target/fuzz/libwagonplan.a -lm -lpthread
+    clang -std=c11 -O2 -g -Wall -Wextra -D_GNU_SOURCE -Iinclude -fsanitize="$2" -fno-sanitize-recover=all -o "target/fuzz/$1" "tests/$1.c" target/fuzz/libwagonplan.a -lpthread
 }
 checked replay address,undefined
 target/fuzz/replay tests/lists/*.txt | tail -n 1

@@ -3,14 +3,14 @@
 // Each line is called several times, on fresh memory that is filled with NaNs of many patterns and with other numbers: as it is stored, in blocks of just that
 // size (a slice of length 0 is null); between guards, in another floating-point mode; with every slice longer; and, where run, settings or result are words, with
 // each of them a word too short. With --short lines of more bytes, and those that go on with them, are passed over; with --stack each line is called once, on a
-// painted stack, and the most that any took is printed too. The exit status is 0 where nothing differs.
+// painted stack, and the most that each call took is printed and held to the header's. The exit status is 0 where nothing differs.
 #include <pthread.h>
 #include <stdio.h>
 #include <stdlib.h>
 #include <string.h>
 #include "wagonplan.h"
 
-enum { ARGUMENTS = 16, TABLE = 6, GUARD = 8, MORE = 5, NUMBERS = 256, STACK = 2 << 20, ODD_MODE = 0xFFE1 };
+enum { ARGUMENTS = 16, TABLE = 6, GUARD = 8, MORE = 5, NUMBERS = 256, STACK = 2 << 20 };
 enum { AS_STORED, GUARDED, LONGER, A_WORD_SHORT };
 
 static _Noreturn void give_up(const char *why);
@@ -404,20 +404,22 @@ static uint8_t painted(uint8_t (*call)(Argument *), size_t *most) {
     pthread_attr_t attributes;
     pthread_t thread;
     size_t low = 0;
-    memset(stack, 0xA5, STACK);
+    uint8_t paint = line_at % 2 ? 0xA5 : 0x5A;
+    memset(stack, paint, STACK);
     pthread_attr_init(&attributes);
     if (pthread_attr_setstack(&attributes, stack, STACK) || pthread_create(&thread, &attributes, on_thread, &made)) give_up("no thread");
     pthread_join(thread, 0);
-    while (low < STACK && stack[low] == 0xA5) low++;
+    while (low < STACK && stack[low] == paint) low++;
     if (*most < STACK - low) *most = STACK - low;
     return made.number;
 }
 
 // The call in another mode than IEEE's, which must stand afterwards; `stands` says whether it does. Where the machine doesn't keep the mode as set, what it keeps counts.
 static uint8_t in_odd_mode(uint8_t (*call)(Argument *), int *stands) {
+    static const unsigned modes[] = {0xBFE1, 0xDFD4, 0xFFE1, 0x9FC0}; // rounding down, up, toward zero, to nearest; subnormals flushed, some flags set
     unsigned before = _mm_getcsr(), odd;
     uint8_t got;
-    _mm_setcsr(ODD_MODE);
+    _mm_setcsr(modes[line_at % 4]);
     odd = _mm_getcsr();
     got = call(arguments);
     *stands = _mm_getcsr() == odd;
@@ -561,6 +563,7 @@ static void print_counts(void) {
         }
         if (*before == ',') printf("%s", on_stack ? ", " : "\n");
         if (*before == ',' && on_stack) printf("at most %zu bytes of stack\n", stack_of[k]);
+        if (WAGONPLAN_STACK < stack_of[k]) differences++, printf("%s takes more stack than the header says\n", calls[k].name);
     }
     printf("calls %zu, differences %zu\n", made, differences);
 }

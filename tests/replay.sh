@@ -8,7 +8,7 @@ set -euo pipefail
 cd "$(dirname "$0")/.."
 archive=$(tools/archive.sh)
 mkdir -p target/tests
-gcc -std=c11 -O2 -g -Wall -Wextra -Werror -D_GNU_SOURCE -Iinclude -o target/tests/replay tests/replay.c "$archive" -lm -lpthread
+gcc -std=c11 -O2 -g -Wall -Wextra -Werror -D_GNU_SOURCE -Iinclude -o target/tests/replay tests/replay.c "$archive" -lpthread
 case ${1:-} in
 '') target/tests/replay tests/lists/*.txt ;;
 --stack) target/tests/replay --stack tests/lists/*.txt ;;

@@ -285,6 +285,43 @@ def edge_runs(rng):
     yield lines
 
 
+# ---- words that are too large for their field ----------------------------------------------------
+
+
+def word_runs(rng):
+    """Pairs of a line for the oracle and the same with words above their fields: they are read as the largest that the field holds, a rule above 4 of a record as
+    a momentum that is none, a stage above 1 as stopped."""
+    t, o, record = base(rng)
+    stopped, finish, most = {**record, "stage": 1}, finish_of(rng, 3, 2), 2**32 - 1
+    opened = lambda meant, **given: (open_line(t, {**o, **meant}), open_line(t, {**o, **given}))
+    stands = lambda run, meant, **given: (record_line({**run, **meant}), record_line({**run, **given}))
+    yield "new", "new"
+    for x in (256, 2**32, 2**63, 2**64 - 1):
+        yield opened({"rule": 255}, rule=x)
+        yield opened({"start": 255}, start=x)
+    for x in (2**32, 2**64 - 1):
+        yield opened({"most": most}, most=x)
+        yield opened({"minimum": most}, minimum=x)
+        for run, line in ((record, sweep_line(t, 2, 6)), (stopped, finish_line(t, finish))):
+            for name, meant in (("sweeps", most), ("most", most), ("minimum", most), ("status", 255)):
+                yield stands(run, {name: meant}, **{name: x})
+                yield line, line
+            for rule in (5, 255, x):
+                yield stands(run, {"rule": 4, "number": NAN}, rule=rule, number=0)
+                yield line, line
+        for stage in (2, 255, x):
+            yield stands(stopped, {}, stage=stage)
+            yield sweep_line(t, 2, 6), sweep_line(t, 2, 6)
+            yield finish_line(t, finish), finish_line(t, finish)
+
+
+def word_answers(rng):
+    pairs = list(word_runs(rng))
+    answers = Answered([line for line, _ in pairs])
+    answers.calls = [(name, [int(w, 16) for w in words]) for name, *words in (line.split() for _, line in pairs)]
+    return answers
+
+
 # ---- random scripts, and the largest tables -------------------------------------------------------
 
 
@@ -519,7 +556,8 @@ def add(lines):
     rng = random.Random("runs 2")
     for text, answers in (
             ("whole runs", wholes), ("faults, alone and in pairs", broken), ("limits and tolerances", rest), ("random scripts, and the largest tables", others),
-            ("refused calls over NaNs", judged(nan_runs(rng))), ("round counts of sweeps", counted_answers(rng))):
+            ("refused calls over NaNs", judged(nan_runs(rng))), ("round counts of sweeps", counted_answers(rng)),
+            ("words that are too large for their field", word_answers(rng))):
         lines.heading(text)
         answers.add(lines)
     lines.heading("more than 1,000 sweeps")
