@@ -1,14 +1,15 @@
 #!/usr/bin/env bash
-# Each hall of examples/halls to a job record, through the program, and back to words: they must be those stored beside it. With --write they are stored. Where
-# the program isn't built it is proved and built first; WAGONPLAN may name another.
+# Tests tools/hall, tools/plan and tools/show_hall.sh: each hall of examples/halls through the program to words, which must be those stored beside it (with
+# --write they are stored), then tests/check_halls.py, then the plans in a browser where one is installed. WAGONPLAN may name another program.
 set -eu
 cd "$(dirname "$0")/.."
-program=${WAGONPLAN:-target/bin/wagonplan}
-mkdir -p target/tests target/log
-[ -x "$program" ] || rt check wagonplan >target/log/check_halls.txt 2>&1 || { tail -n 20 target/log/check_halls.txt; exit 1; }
-for hall in examples/halls/*.txt; do
-    tools/hall job "$hall" | "$program" >target/tests/answer
-    tools/hall words "$hall" target/tests/answer >target/tests/answer.words
-    tools/hall plan "$hall" target/tests/answer >"target/tests/$(basename "${hall%.txt}").svg"
-    if [ "${1:-}" = --write ]; then cp target/tests/answer.words "${hall%.txt}.words"; else cmp target/tests/answer.words "${hall%.txt}.words"; fi
+[ -x "${WAGONPLAN:-target/bin/wagonplan}" ] || { echo "there is no program ${WAGONPLAN:-target/bin/wagonplan}: run \`rt check wagonplan\` first" >&2; exit 1; }
+PYTHONPYCACHEPREFIX=$PWD/target/pycache python3 -m py_compile tools/hall tools/plan tools/halls/*.py tests/check_halls.py tests/look_at_plan.py
+mkdir -p target/halls
+for hall in examples/halls/*.txt examples/halls/*.csv; do
+    name=$(basename "${hall%.*}")
+    tools/plan "$hall" --plan "target/halls/$name.svg" >"target/halls/$name.words"
+    if [ "${1:-}" = --write ]; then cp "target/halls/$name.words" "${hall%.*}.words"; else cmp "target/halls/$name.words" "${hall%.*}.words"; fi
 done
+tests/check_halls.py
+tests/look_at_plan.py target/halls/*.svg || [ $? -eq 77 ]

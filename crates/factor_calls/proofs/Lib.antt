@@ -1,3 +1,4 @@
 pub mod Accepting
+pub mod Cursor
 pub mod Theorems
 pub mod Examples

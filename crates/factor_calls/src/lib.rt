@@ -1,20 +1,21 @@
 // The calls on a sign table given directly that take a factor. None has a `requires`: what can't be used is refused by its number, and a
 // refusal writes nothing.
 mod numbers;
+mod whole; // whole.rt: the multipliers over the whole table
 
-use maxcut_oracle::whole::whole_multipliers;
 use numbers::dual_number;
 use numbers::rounded_number;
 use run_limits::MOST_RANK;
 use run_limits::rank_meant;
 use table_calls::Eighths;
 use tables::limits::MOST_SIGNS;
+use whole::whole_multipliers;
 ghost use mathlib.Core.Path.{_≡_};
 ghost use Prim.Native.Nat.{_*_, _≤_, _^_};
 ghost use lib.ListN.{length};
 ghost use Rattle.laws.specs.Lists.{over};
 ghost use Rattle.tables.specs.Limits.{mostSigns};
-ghost use Rattle.tables.specs.Table.{tableOf, Lent, InRange, magnitudeOf};
+ghost use Rattle.tables.specs.Table.{tableOf, Lent, InRange, Rising, magnitudeOf};
 ghost use Rattle.run_limits.specs.Limits.{mostRank};
 ghost use Rattle.run_limits.specs.Rank.{rankMeant};
 ghost use Rattle.rounding.specs.Rounding.{roundedSol, roundedObjective};
@@ -134,7 +135,7 @@ fn multiply(
     factor: &[f64],
     out: &mut [f64],
 )
-    requires { ⌜ Lent count (now rows) (now cols) (now values) × InRange m (tableOf count (now rows) (now cols) (now values)) ⌝ }
+    requires { ⌜ Lent count (now rows) (now cols) (now values) × InRange m (tableOf count (now rows) (now cols) (now values)) × Rising (tableOf count (now rows) (now cols) (now values)) ⌝ }
     requires { ⌜ (m * rank ≤ length (now factor)) × (m ≤ length (now out)) × (rank ≤ mostRank) ⌝ }
     ensures { λ _. ⌜ now (out .exit) ≡ over (wholeMultipliers (tableOf count (now (rows .entry)) (now (cols .entry)) (now (values .entry))) m rank (now (factor .entry))) (now (out .entry)) ⌝ }
 {

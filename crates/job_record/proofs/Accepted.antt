@@ -1,6 +1,6 @@
 -- What an accepted record holds.
 use Prim.Native.Nat.{ℕ, _+_, _*_, _≤_}
-use mathlib.Core.Path.{_≡_, refl}
+use mathlib.Core.Path.{_≡_, refl, ap, _∙_}
 use mathlib.Core.List.{List}
 use native.Mathlib.Omega.{arith}
 use lib.ListN.{length}
@@ -8,6 +8,8 @@ use Rattle.tables.specs.Limits.{mostWagons, mostEntries}
 use Rattle.job_record.specs.Limits.{mostBytes, mostDrawn}
 use Rattle.job_record.specs.Fields.{wagons, entryCount, entryAt, rankAt, mostAt, startAt, settingsAfter}
 use Rattle.job_record.specs.Number.{jobNumber}
+use Rattle.job_reader.specs.Bytes.{bigEndian, fieldAt, valueOf, placeAfter}
+use Rattle.job_reader.specs.declared.Field.{Field}
 use Rattle.job_record.specs.declared.reading.SettingsValues.{SettingsValues}
 use Rattle.job_record.specs.Reading.{settingsFrom, settingsValues}
 use Rattle.job_record.specs.Values.{settingsPlace, drawsPlace, jobRank, jobStartCount, jobDrawn}
@@ -16,7 +18,7 @@ use Rattle.run_limits.proofs.Ranks.{meant-low}
 use Rattle.run_limits.proofs.Starts.{start-low}
 use Rattle.job_record.proofs.Sections.{Settings, Draws, head, run}
 use Rattle.job_record.proofs.Whole.{passed}
-use Rattle.job_record.proofs.FieldByField.{SettingsThere, settings-values-are}
+use Rattle.job_record.proofs.FieldByField.{SettingsThere, settings-values-are, field-there}
 
 pub record Fields (s : List ℕ) : Type 0 where
   pub small : length s ≤ mostBytes
@@ -59,3 +61,9 @@ drawn-fits s e = let f = fields s e in omega (arith, f .draws-end, f .small)
 -- its settings, as they were read
 pub settings-held : (s : List ℕ) → jobNumber s ≡ 0 → (v : SettingsValues) → v ≡ settingsValues (settingsFrom s (settingsPlace s)) → SettingsThere s (settingsPlace s) v
 settings-held s z v e = settings-values-are s (settingsPlace s) refl e (fields s z .settings .there)
+
+-- its draw count, as it was read
+pub drawn-held : (s : List ℕ) → jobNumber s ≡ 0 → {at : ℕ} {drawn : Field} → at ≡ drawsPlace s → drawn ≡ fieldAt s at 2 → (valueOf drawn ≡ bigEndian s (drawsPlace s) 2) × (placeAfter drawn at ≡ drawsPlace s + 2)
+drawn-held s z {at} e f =
+    let there = field-there s at 2 f (omega (arith, e, fields s z .draws .there)) in
+    (ap valueOf there ∙ ap (λ (p : ℕ). bigEndian s p 2) e, ap (λ (d : Field). placeAfter d at) there ∙ ap (λ (p : ℕ). p + 2) e)

@@ -22,7 +22,7 @@ ghost use lib.ListN.{length};
 ghost use Rattle.laws.specs.Lists.{fill};
 ghost use Rattle.tables.specs.Limits.{mostWagons, mostEntries};
 ghost use Rattle.run_limits.specs.Limits.{mostRank, mostStart};
-ghost use Rattle.job_record.specs.Limits.{mostBytes, mostDrawn};
+ghost use Rattle.job_record.specs.Limits.{mostDrawn};
 ghost use Rattle.job_record.specs.Fields.{wagons, entryCount};
 ghost use Rattle.job_record.specs.Number.{jobNumber};
 ghost use Rattle.job_record.specs.Reading.{settingsFrom, settingsValues};
@@ -54,13 +54,36 @@ fn accepted_head(job: &[u8]) -> HeadValues
 }
 
 // And of its settings.
-fn accepted_settings(job: &[u8]) -> SettingsValues
-    requires { ⌜ jobNumber (now job) ≡ 0 ⌝ }
+fn accepted_settings(job: &[u8], head: HeadValues) -> SettingsValues
+    requires { ⌜ (jobNumber (now job) ≡ 0) × (head .n ≡ wagons (now job)) × (head .count ≡ entryCount (now job)) ⌝ }
     ensures { λ r. ⌜ (r ≡ settingsValues (settingsFrom (now (job .entry)) (settingsPlace (now (job .entry))))) × (r .most < 2 ^ 32) × (r .minimum < 2 ^ 32) ⌝ }
 {
-    let head = accepted_head(job);
     let f = read_settings(job, settings_at(head.n as usize, head.count as usize));
     settings_values(f)
+}
+
+// What they say of the rest: the rank that is meant, the start's doubles from `start` on, and the draw count at `draws`.
+struct Parts {
+    rank: usize,
+    start: usize,
+    count: usize,
+    draws: usize,
+}
+
+fn parts_of(job: &[u8]) -> Parts
+    requires { ⌜ jobNumber (now job) ≡ 0 ⌝ }
+    ensures { λ r. ⌜ (r .rank ≡ jobRank (now (job .entry))) × (r .start ≡ settingsPlace (now (job .entry)) + 36) × (r .count ≡ jobStartCount (now (job .entry))) × (r .draws ≡ drawsPlace (now (job .entry))) × (r .rank ≤ mostRank) × (r .count ≤ mostStart) ⌝ }
+{
+    let head = accepted_head(job);
+    let f = accepted_settings(job, head);
+    let rank = rank_meant(head.n as usize + 1, f.rank as usize);
+    let count = start_length(f.start as u8, head.n as usize + 1, rank, f.most as u32);
+    Parts {
+        rank,
+        start: f.next,
+        count,
+        draws: f.next + count * 8,
+    }
 }
 
 // The rank that the job's means.
@@ -68,9 +91,8 @@ pub fn job_rank(job: &[u8]) -> usize
     requires { ⌜ jobNumber (now job) ≡ 0 ⌝ }
     ensures { λ r. ⌜ (r ≡ jobRank (now (job .entry))) × (r ≤ mostRank) ⌝ }
 {
-    let head = accepted_head(job);
-    let f = accepted_settings(job);
-    rank_meant(head.n as usize + 1, f.rank as usize)
+    let p = parts_of(job);
+    p.rank
 }
 
 // How many doubles its start has.
@@ -78,27 +100,8 @@ pub fn job_start_count(job: &[u8]) -> usize
     requires { ⌜ jobNumber (now job) ≡ 0 ⌝ }
     ensures { λ r. ⌜ (r ≡ jobStartCount (now (job .entry))) × (r ≤ mostStart) ⌝ }
 {
-    let head = accepted_head(job);
-    let f = accepted_settings(job);
-    let rank = job_rank(job);
-    start_length(f.start as u8, head.n as usize + 1, rank, f.most as u32)
-}
-
-// Where the start's doubles stand: behind the settings.
-fn start_at(job: &[u8]) -> usize
-    requires { ⌜ jobNumber (now job) ≡ 0 ⌝ }
-    ensures { λ r. ⌜ (r ≡ settingsPlace (now (job .entry)) + 36) × (r ≤ mostBytes) ⌝ }
-{
-    let f = accepted_settings(job);
-    f.next
-}
-
-// Where the draw count stands: behind them.
-fn draws_at(job: &[u8]) -> usize
-    requires { ⌜ jobNumber (now job) ≡ 0 ⌝ }
-    ensures { λ r. ⌜ (r ≡ drawsPlace (now (job .entry))) × (r ≤ mostBytes) ⌝ }
-{
-    start_at(job) + job_start_count(job) * 8
+    let p = parts_of(job);
+    p.count
 }
 
 // The settings.
@@ -107,8 +110,9 @@ pub fn job_of(job: &[u8]) -> Job
     ensures { λ r. ⌜ r ≡ jobOf (now (job .entry)) ⌝ }
 {
     let head = accepted_head(job);
-    let f = accepted_settings(job);
-    let drawn = read_draw_count(job, draws_at(job));
+    let f = accepted_settings(job, head);
+    let p = parts_of(job);
+    let drawn = read_draw_count(job, p.draws);
     Job {
         n: head.n as usize,
         count: head.count as usize,
@@ -130,9 +134,8 @@ fn read_start(job: &[u8], start: &mut [f64])
     requires { ⌜ (jobNumber (now job) ≡ 0) × (mostStart ≤ length (now start)) ⌝ }
     ensures { λ _. ⌜ now (start .exit) ≡ fill (jobStart (now (job .entry))) (jobStartCount (now (job .entry))) (now (start .entry)) ⌝ }
 {
-    let at = start_at(job);
-    let count = job_start_count(job);
-    read_doubles(job, at, count, start);
+    let p = parts_of(job);
+    read_doubles(job, p.start, p.count, start);
 }
 
 // The draws: behind their count.
@@ -140,10 +143,11 @@ fn read_draws(job: &[u8], draws: &mut [f64])
     requires { ⌜ (jobNumber (now job) ≡ 0) × (mostDrawn ≤ length (now draws)) ⌝ }
     ensures { λ _. ⌜ now (draws .exit) ≡ fill (jobDraw (now (job .entry))) (jobDrawn (now (job .entry))) (now (draws .entry)) ⌝ }
 {
-    let at = draws_at(job);
+    let p = parts_of(job);
+    let at = p.draws;
     let drawn = read_draw_count(job, at);
     let first = place_after(drawn, at);
-    let count = value_of(drawn) as usize * job_rank(job);
+    let count = value_of(drawn) as usize * p.rank;
     read_doubles(job, first, count, draws);
 }
 

@@ -16,7 +16,7 @@ rank-meant-requires c κs = let a = c .before .before .before .before .before .b
 
 multiply-requires : tie.Need-multiply-requires
 multiply-requires c κs = let a = c .before .before .before .before .before .before .before .before .args in let u = dual-accepted (a .m) (a .count) (now (a .rows)) (now (a .cols)) (now (a .values)) (a .rank) (length (now (a .factor))) (length (now (a .out))) (sym (c .before .before .before .dual-number .ensures) ∙ c .before .before .if1 .left) in
-    ((u .lent, u .table .in-range), (rw (c .before .rank-meant .ensures .0) (u .factor-long), u .out-long, c .before .rank-meant .ensures .1))
+    ((u .lent, u .table .in-range, u .table .rising), (rw (c .before .rank-meant .ensures .0) (u .factor-long), u .out-long, c .before .rank-meant .ensures .1))
 
 returns-2 : tie.Need-returns-2
 returns-2 c = record {

@@ -1,6 +1,6 @@
--- `maxcut_oracle::whole::whole_multipliers` meets its contract. The first i elements are written. Assumes nothing.
+-- `factor_calls::whole::whole_multipliers` meets its contract. The first i elements are written, and `from` is where row i starts. Assumes nothing.
 use borrow.Author.Needs.{needs}
-use mathlib.Core.Path.{_≡_}
+use mathlib.Core.Path.{_≡_, refl}
 use Prim.Native.Nat.{_≤_, _-_}
 use native.Mathlib.Omega.{arith}
 use lib.ListN.{length, length-set}
@@ -9,22 +9,24 @@ use Rattle.tables.specs.Table.{tableOf}
 use Rattle.laws.specs.Lists.{over, tabulate}
 use Rattle.laws.proofs.Made.{tabulate-next, tabulate-all}
 use Rattle.laws.proofs.Parts.{row-within}
+use Rattle.sign_table.specs.Walk.{At}
 use Rattle.maxcut_oracle.specs.Whole.{numerator, wholeMultipliers}
-use Rattle.maxcut_oracle.proofs.whole.whole_multipliers.Tie as tie
-use Rattle.maxcut_oracle.proofs.whole.whole_multipliers.Statement.{statement}
+use Rattle.factor_calls.proofs.Cursor.{at-first}
+use Rattle.factor_calls.proofs.whole.whole_multipliers.Tie as tie
+use Rattle.factor_calls.proofs.whole.whole_multipliers.Statement.{statement}
 
 abbrev Inv-loop : tie.InvT-loop
-Inv-loop m count rows cols values rank factor sums₀ dual₀ i₀ sums dual i = (i ≤ m) × (length sums ≡ rank) × (length dual ≡ length dual₀) × (dual ≡ over (tabulate (numerator (tableOf count rows cols values) rank factor) i) dual₀)
+Inv-loop m count rows cols values rank factor sums₀ dual₀ i₀ from₀ sums dual i from = (i ≤ m) × (length sums ≡ rank) × (length dual ≡ length dual₀) × (dual ≡ over (tabulate (numerator (tableOf count rows cols values) rank factor) i) dual₀) × At (tableOf count rows cols values) from i 0
 
 abbrev μ-loop : tie.MeasureT-loop
-μ-loop m count rows cols values rank factor sums₀ dual₀ i₀ sums dual i = m - i
+μ-loop m count rows cols values rank factor sums₀ dual₀ i₀ from₀ sums dual i from = m - i
 
 loop-holds : tie.Need-loop-holds Inv-loop μ-loop
 unfolding tabulate
-loop-holds c = search needs
+loop-holds c = (omega arith, c .before .before .before .before .before .pre .1 .1, omega arith, refl, at-first _)
 
 whole-row-requires : tie.Need-whole-row-requires Inv-loop μ-loop
-whole-row-requires c κs = (c .before .before .before .before .before .before .before .before .pre .0, (c .before .before .before .before .before .before .before .before .pre .1 .0, c .before .before .loop .inv .1))
+whole-row-requires c κs = let p = c .before .before .before .before .before .before .before .before .pre in ((p .0 .0, p .0 .1), ((p .0 .2, c .before .before .loop .inv .4), (p .1 .0, c .before .before .loop .inv .1)))
 
 row-requires : tie.Need-row-requires Inv-loop μ-loop
 row-requires c κs = omega (arith, row-within _ _ (c .before .before .before .before .before .before .before .before .before .before .before .before .args .rank) (c .before .before .before .before .before .loop-test .taken), c .before .before .before .before .before .before .before .before .before .before .before .before .pre .1 .0)
@@ -34,7 +36,7 @@ dot-requires c κs = omega (arith, c .row .ensures .1)
 
 loop-again : tie.Need-loop-again Inv-loop μ-loop
 unfolding numerator
-loop-again c = (omega arith, omega arith, simp length-set (omega arith), rw (c .dot .ensures, c .before .before .before .before .before .whole-row .ensures, c .before .row .ensures .0) (tabulate-next _ _ _ _ nan (omega arith) (c .before .before .before .before .before .before .before .before .loop .inv .3)))
+loop-again c = (omega arith, omega arith, simp length-set (omega arith), rw (c .dot .ensures, c .before .before .before .before .before .whole-row .ensures .0, c .before .row .ensures .0) (tabulate-next _ _ _ _ nan (omega arith) (c .before .before .before .before .before .before .before .before .loop .inv .3)), c .before .before .before .before .before .whole-row .ensures .1)
 
 returns : tie.Need-returns Inv-loop μ-loop
 unfolding wholeMultipliers

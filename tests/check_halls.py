@@ -1,0 +1,506 @@
+#!/usr/bin/env python3
+"""Tests of tools/hall, tools/plan and tools/show_hall.sh; tests/check_halls.sh runs it. WAGONPLAN may name another program than target/bin/wagonplan."""
+import json
+import os
+import random
+import shutil
+import struct
+import subprocess
+import sys
+import tempfile
+import unittest
+import xml.etree.ElementTree
+
+sys.dont_write_bytecode = True
+sys.path.insert(0, os.path.join(os.path.dirname(os.path.dirname(os.path.abspath(__file__))), "tools"))
+from halls import answer, hall, picture, program, record, say  # noqa: E402
+from halls.text import Refused, Wrong  # noqa: E402
+
+TOP = answer.TOP
+PROGRAM = os.environ.get("WAGONPLAN") or os.path.join(TOP, "target", "bin", "wagonplan")
+HALLS = "examples/halls"
+STALLS, DOORWAY = (os.path.join(TOP, HALLS, name) for name in ("stalls.txt", "doorway.txt"))
+TWO = "wagon a 1\nwagon b -2\n"
+FRAME = "wagon a 0\npair a a 1\nrank 24\n"
+SVG = "{http://www.w3.org/2000/svg}"
+
+
+def run(*words, given=b"", **env):
+    """A command of tools/ as a user runs it."""
+    return subprocess.run([os.path.join(TOP, "tools", words[0]), *words[1:]], input=given, capture_output=True, env={**os.environ, **env}, check=False)
+
+
+def many(wagons, more=""):
+    return "".join(f"wagon w{i} 0\n" for i in range(wagons)) + more
+
+
+def all_pairs(wagons, most):
+    pairs = [(i, k) for i in range(wagons) for k in range(i + 1, wagons)][:most]
+    return "".join(f"pair w{i} w{k} 1\n" for i, k in pairs)
+
+
+def empty_table(wagons):
+    return "".join(f",w{i}" for i in range(wagons)) + "\n" + "".join(f"w{i}{',' * wagons}\n" for i in range(wagons))
+
+
+def contents(path):
+    with open(path, "rb") as file:
+        return file.read()
+
+
+def changed(data, at, new):
+    return data[:at] + new + data[at + len(new) :]
+
+
+class Case(unittest.TestCase):
+    def setUp(self):
+        self.folder = tempfile.mkdtemp()
+        self.addCleanup(shutil.rmtree, self.folder)
+
+    def file(self, name, data):
+        path = os.path.join(self.folder, name)
+        with open(path, "wb") as file:
+            file.write(data if isinstance(data, bytes) else data.encode())
+        return path
+
+    def script(self, text):
+        path = self.file("program", "#!/bin/sh\n" + text)
+        os.chmod(path, 0o755)
+        return path
+
+    def hall(self, text, name="hall.txt"):
+        return hall.read_hall(self.file(name, text))
+
+    def sentence(self, text, name="hall.txt"):
+        with self.assertRaises(Refused) as caught:
+            record.job_of(self.hall(text, name))
+        return str(caught.exception)
+
+    def answered(self, made):
+        job = record.job_of(made)
+        data = subprocess.run([PROGRAM], input=job, capture_output=True, check=True).stdout
+        return data, answer.read_answer(data, made)
+
+    def ends(self, done, status, *sentences):
+        """The status, and no traceback; each sentence is on standard error."""
+        said = done.stderr.decode()
+        self.assertEqual(done.returncode, status, said)
+        self.assertNotIn("Traceback", said)
+        for sentence in sentences:
+            self.assertIn(sentence, said)
+
+
+class HallFiles(Case):
+    WRONG = [
+        ("wagon a\n", "line 1: it is written `wagon NAME COST`, and here wagon is followed by 1 word."),
+        ("wagon a 1\nwagon a 2\n", "line 2: there are two wagons named a."),
+        ("wagon a one\n", "line 1: one is not a whole number."),
+        ("wagon a 1.5\n", "line 1: 1.5 is not a whole number."),
+        (TWO + "pair a c 1\n", "line 3: no wagon above is named c."),
+        (TWO + "pair a b 1\npair b a 1\n", "line 4: the pair b a has a cost already."),
+        (TWO + "row A a b\nrow A a\n", "line 4: there are two rows named A."),
+        (TWO + "row A a\nrow B b a\n", "line 4: wagon a stands in row A already."),
+        (TWO + "row A a a\n", "line 3: wagon a stands in row A already."),
+        (TWO + "row A c\n", "line 3: no wagon above is named c."),
+        (TWO + "row A\n", "line 3: it is written `row NAME WAGON..`, and here row is followed by 1 word."),
+        (TWO + "retractable c\n", "line 3: no wagon above is named c."),
+        ("wagons a 1\n", "line 1: a line starts with one of wagon, pair, table, row, "),
+        ("rule Fast\n", "line 1: a rule is one of Grad, "),
+        ("rule CoordMomentum 1\n", "line 1: the momentum 1 of CoordMomentum is not from 0 to below 1."),
+        ("rule CoordMomentum nan\n", "line 1: the momentum nan "),
+        ("start middle\n", "line 1: a start is one of random, factor, signs, not middle."),
+        ("tolerances 0 small\n", "line 1: small is not a number."),
+        ("wagon a\x01 1\n", "line 1: the word a? has a character that can't be printed."),
+        (TWO + "start factor 1 2\n", "line 3: `start factor` needs a line `rank R` with R from 1 to 32"),
+        (TWO + "start signs + +\n", "line 3: this start has 3 numbers (3 rows with the anchor's), not 2."),
+        (TWO + "rank 2\nstart factor 1 2\n", "line 4: this start has 6 numbers (3 rows with the anchor's, rank 2), not 2."),
+        (TWO + "rank 2\ndraw 1 0\ndraw 1\ndraw 1 0\n", "line 5: draw 2 has 1 number; it has 2, as many as the rank."),
+        (FRAME + ("draw" + " 0" * 24 + "\n") * 340, "line 343: the job takes 65,728 bytes"),
+        (TWO + "table absent.csv\n", "line 3: the table absent.csv can't be read: No such file or directory."),
+    ]
+
+    def test_wrong_lines(self):
+        for text, sentence in self.WRONG:
+            self.assertIn(sentence, self.sentence(text))
+
+    def test_bytes_that_are_no_text(self):
+        self.assertIn("hall.txt is not UTF-8 text: byte 7 is FF in hexadecimal.", self.sentence(b"wagon \xff 1\n"))
+        self.assertIn("is longer than 4,194,304 bytes.", self.sentence(b"#" * (1 << 22) + b"\n"))
+
+    # What stands at a limit, which the program must answer, and one beyond it.
+    LIMITS = [
+        (many(127), many(128), "line 128: wagon w127 is number 128; a hall has at most 127 wagons."),
+        (many(127, all_pairs(127, 2048)), many(127, all_pairs(127, 2049)), "line 2176: with the pair w17 w60 the table has 4,098 entries; it has at most 4,096"),
+        (f"wagon a {2**39}\n", f"wagon a {2**39 + 1}\n", "line 1: with the cost 549755813889 of a the magnitude is above 2^40 = 1,099,511,627,776"),
+        (TWO + f"pair a b {2**39 - 3}\n", TWO + f"pair a b -{2**39 - 2}\n", "line 3: with the cost -549755813886 of the pair a b the magnitude is above 2^40"),
+        (TWO + f"pair a a {2**40 - 6}\n", TWO + f"pair a a {2**40 - 5}\n", "line 3: with the cost 1099511627771 of the pair a a the magnitude is above 2^40"),
+        (TWO + "rank 32\n", TWO + "rank 33\n", "line 3: the rank is 33; it is from 0 to 32."),
+        (TWO + "width 128\n", TWO + "width 129\n", "line 3: the width is 129; it is from 0 to 128."),
+        (TWO + "draws 1000\n", TWO + "draws 1001\n", "line 3: the count of draws is 1001; it is from 1 to 1,000."),
+        (TWO + "draws 1\n", TWO + "draws 0\n", "line 3: the count of draws is 0; it is from 1 to 1,000."),
+        (TWO + "rank 1\n" + "draw 1\n" * 1000, TWO + "rank 1\n" + "draw 1\n" * 1001, "line 1004: this is draw 1,001; a job has at most 1,000."),
+        (TWO + "sweeps 4294967295\n", TWO + "sweeps 4294967296\n", "line 3: the most sweeps is 4294967296; it is from 0 to 4,294,967,295."),
+        (TWO + "width 0\n", TWO + "width -1\n", "line 3: the width is -1; it is from 0 to 128."),
+        (FRAME + "draws 339\n", FRAME + "draws 340\n", "line 4: the job takes 65,728 bytes, 18 for the table, 420 for settings and start, "
+         "65,282 for the draws, and has at most 65,536: 339 draws of 24 numbers would fit."),
+        ("rule CoordMomentum 0.99\n", "rule CoordMomentum -0.01\n", "line 1: the momentum -0.01 of CoordMomentum is not from 0 to below 1."),
+        (f"wagon {'n' * 24} 0\nrow {'r' * 16} {'n' * 24}\n", f"wagon {'n' * 25} 0\n", " has 25 characters; it has at most 24."),
+        (TWO + f"row {'r' * 16} a\n", TWO + f"row {'r' * 17} a\n", "line 3: the row's name rrrrrrrrrrrrrrrrr has 17 characters; it has at most 16."),
+    ]
+
+    def test_limits(self):
+        for at, beyond, sentence in self.LIMITS:
+            self.answered(self.hall(at))
+            self.assertIn(sentence, self.sentence(beyond))
+
+    def test_no_draw_fits(self):
+        text = many(127, all_pairs(127, 2048)) + "rank 32\n"
+        self.assertIn("no draw would fit; a lower rank makes start and draws shorter", self.sentence(text))
+
+    def test_longest_job(self):
+        self.assertEqual(len(record.job_of(self.hall(FRAME + "draws 339\n"))), 65536)
+
+
+class Tables(Case):
+    TEXT = TWO + "wagon c 0\npair a b 3\npair b c -4\n"
+    CSV = "costs,a,b,c\na,1,3,\nb,3,-2,-4\nc,0,-4,0\n"
+
+    def test_same_as_text(self):
+        job = record.job_of(self.hall(self.TEXT))
+        for old, new in ((",", ","), (",", ";"), (",", "\t"), ("\n", "\r\n"), ("a", '"a"'), ("c,0,-4,0\n", "c,0,-4,0\n,,,\n"), ("costs", "\ufeffcosts")):
+            self.assertEqual(job, record.job_of(self.hall(self.CSV.replace(old, new), "table.csv")))
+        self.file("table.csv", self.CSV)
+        self.assertEqual(job, record.job_of(self.hall("table table.csv\nrow A a b\n")))
+
+    WRONG = [
+        ("", "table.csv is empty"),
+        (",a,b\na,1,2\nb,3,1\n", "table.csv, cell B3 (b with a) is 3, and cell C2 (a with b) is 2: they must be the same."),
+        (",a,b\na,1,2\n", "table.csv names 2 wagons in its first row and has 1 rows below it: it must be square."),
+        (",a,b\na,1,2\nb,2\n", "table.csv, row 3 has 2 cells, the first row has 3."),
+        (",a,b\nb,1,2\na,2,1\n", "table.csv, cell A2 is `b`, and cell B1 is a: row and column have the same names in the same order."),
+        (",a,b\na,1,x\nb,x,1\n", "table.csv, cell C2: x is not a whole number."),
+        (",a,b\na,1,2\nb,x,1\n", "table.csv, cell B3: x is not a whole number."),
+        (",a,b\na,1.5,2\nb,2,1\n", "table.csv, cell B2: 1.5 is not a whole number."),
+        (",a,a\na,1,2\na,2,1\n", "table.csv, cell C3: there are two wagons named a."),
+        (",a a\na a,1\n", "table.csv, cell B1: a wagon's name is one word without #, not `a a`."),
+        (",a,b\na,1,549755813888\nb,549755813888,0\n", "table.csv, cell C2: with the cost 549755813888 of the pair a b the magnitude is above 2^40"),
+        (empty_table(128), "table.csv, cell DY129: wagon w127 is number 128; a hall has at most 127 wagons."),
+        (b',"\xff"\n', "table.csv is not UTF-8 text"),
+        ("," + "x" * 200000 + "\n", "table.csv is no CSV table: field larger than field limit"),
+    ]
+
+    def test_wrong_cells(self):
+        for data, sentence in self.WRONG:
+            self.assertIn(sentence, self.sentence(data, "table.csv"))
+
+    def test_error_in_a_named_table(self):
+        self.file("table.csv", ",a,b\na,1,2\nb,3,1\n")
+        self.assertRegex(self.sentence(TWO + "table table.csv\n"), r"hall.txt, line 3: .*table.csv, cell B2: there are two wagons named a\.$")
+
+
+class Answers(Case):
+    def setUp(self):
+        super().setUp()
+        self.stalls = hall.read_hall(STALLS)
+        self.good, self.fields = self.answered(self.stalls)
+
+    def wrong_answers(self):
+        """Each kind of wrong answer with its sentence; the good one costs -50, its floor is -65, its search fell from -35 in 4 rounds."""
+        good, eighths = self.good, lambda x: struct.pack(">q", round(8 * x))
+        moved = [1 - b if i == 0 else b for i, b in enumerate(self.fields["choice"])]
+        cost = struct.pack(">q", answer.cost_of(self.stalls, moved))
+        yield good[:-1], "it is cut short, 71 bytes where its length field says 72"
+        yield good + b"\0", "it has 73 bytes, and its length field says 72"
+        yield b"", "it has 0 bytes, and an answer begins with its length in 4"
+        yield bytes(4), "it has 4 bytes, and an answer has 60 and one for each wagon"
+        yield changed(good, 3, b"\x39"), "it has 72 bytes, and its length field says 61"
+        yield changed(good, 4, b"\2"), "its version is 2, not 1"
+        yield changed(good, 7, b"\x0b"), "it is for 11 wagons, and the hall has 12"
+        yield changed(good, 3, b"\x45") + b"\0", "it has 73 bytes, and an answer for 12 wagons has 72"
+        yield changed(good, 5, b"\3"), "its status is 3, which is from 0 to 2"
+        yield changed(good, 60, b"\2"), "it has wagon A1 in store 2, which is 0 for left or 1 for right"
+        yield changed(good, 44, eighths(-49)), "its cost is -49, and by the hall's own costs its choice costs -50"
+        yield changed(good, 60, b"\1"), "its cost is -50, and by the hall's own costs its choice costs -41"
+        yield changed(good, 28, eighths(-49.875)), "its cost -50 is below its floor -49.875"
+        yield changed(good, 28, eighths(-66)), "its floor is -66, and by the hall's own costs it is -65"
+        yield changed(good, 20, struct.pack(">d", -64.0)), "its float bound is -64.0, and by the hall's own costs it is -65.00000000000992"
+        yield changed(good, 20, answer.NAN), "its float bound is nan, and by the hall's own costs it is -65.00000000000992"
+        yield changed(good, 36, eighths(-51)), "its cost -50 is above -51, which the search started from"
+        yield changed(good, 52, struct.pack(">Q", 31)), "it counts 31 rounds, and the fall from -35 to -50 allows at most 30"
+        yield changed(good, 52, bytes(8)), "its cost fell from -35 to -50 in no round"
+        yield changed(changed(changed(good, 60, bytes(moved)), 44, cost), 36, eighths(0)), "with wagon A1 moved to the other store the choice costs 9 less"
+        yield changed(good, 6, b"\6"), "its rank is 6, and the hall's is 7"
+        yield changed(good, 8, struct.pack(">I", 21)), "it made 21 sweeps, and the hall allows 20"
+        yield changed(good, 8, struct.pack(">I", 19)), "its status says that all sweeps were made, and it made 19 of 20"
+        yield changed(changed(good, 5, b"\1"), 8, bytes(4)), "its status is 1, a stop, and it made no sweep"
+        yield changed(good, 12, bytes.fromhex("FFF8000000000000")), "its relaxed objective is the NaN FFF8000000000000, not 7FF8000000000000"
+        yield bytes([0, 0, 0, 2, 1, 31]), "it is a refusal by 31, and a job is refused by a number from 11 to 19"
+        yield bytes([0, 0, 0, 2, 2, 11]), "it is a refusal of version 2, not 1"
+
+    def test_wrong_answers(self):
+        for data, sentence in self.wrong_answers():
+            with self.assertRaises(Wrong) as caught:
+                answer.read_answer(data, self.stalls)
+            self.assertEqual(f"The answer is wrong: {sentence}"[:90], str(caught.exception)[:90].rstrip("."))
+            self.assertNotIsInstance(caught.exception, Refused)
+
+    def test_status_of_wrong_answers(self):
+        kinds = list(self.wrong_answers())
+        for form, (data, sentence) in zip(["words", "json", "plan"] * len(kinds), kinds[::3]):
+            self.ends(run("hall", form, STALLS, "-", given=data), 1, sentence)
+
+    def test_refusals(self):
+        for number in answer.NUMBERS:
+            done = run("hall", "words", STALLS, "-", given=bytes([0, 0, 0, 2, 1, number]))
+            self.ends(done, 1, f"The job was refused by {number}: {answer.sentence_of(number)}")
+            self.assertNotIn("no sentence", done.stderr.decode())
+
+    def test_all_wagons_and_no_width(self):
+        made = self.hall("wagon a -3\nwagon b -3\npair a b 4\nsweeps 0\nwidth 0\nstart signs + + +\ndraw 1 0 0\n")
+        data, fields = self.answered(made)
+        self.assertEqual((fields["choice"], fields["rounds"]), ([0, 0], 0))  # both in the right store cost less: -2
+        made.width = 1
+        apart = self.hall("wagon a 1\nwagon b 1\npair a b -3\nsweeps 0\nstart signs + + +\ndraw 1 0 0\n")
+        for other, sentence in ((made, "with wagon a moved"), (apart, "with all wagons moved to the other store the choice costs 1 less")):
+            table = answer.sign_table(other)
+            with self.assertRaises(Wrong) as caught:
+                answer.read_answer(changed(data, 20, struct.pack(">dq", answer.bound_of(table), answer.floor_of(table))), other)
+            self.assertIn(sentence, str(caught.exception))
+        made.width = 0
+        with self.assertRaises(Wrong) as caught:
+            answer.read_answer(changed(changed(data, 52, struct.pack(">Q", 1)), 36, struct.pack(">q", 8)), made)
+        self.assertIn("it counts 1 round of a search of width 0", str(caught.exception))
+        self.assertIn("one wagon moved may make it cheaper", "\n".join(say.words(made, fields)))
+
+    def test_stored_jobs(self):
+        """Every stored answer is right by its job, and every refusal has its sentence."""
+        counts = [0, 0]
+        with open(os.path.join(TOP, "tests", "lists", "jobs.txt"), encoding="ascii") as file:
+            lines = (line.split() for line in file if line.startswith("answer ") and " ~ " not in line)
+            for job, stored in ((words[1], words[-1]) for words in lines if words[-2] != "1F"):
+                data = bytes.fromhex(stored)
+                if len(data) == 6:
+                    self.assertRaises(Refused, answer.refuse, data)
+                else:
+                    answer.read_answer(data, record.hall_of(bytes.fromhex(job)))
+                counts[len(data) == 6] += 1
+        self.assertGreater(min(counts), 100)
+
+    def test_json(self):
+        done = run("hall", "json", STALLS, "-", given=self.good)
+        self.ends(done, 0)
+        found = json.loads(done.stdout)
+        self.assertEqual([("left", "right").index(found["choice"][name]) for name in self.stalls.names], self.fields["choice"])
+        self.assertEqual([found[key] for key in ("cost", "floor", "rounded_cost", "rounds", "status", "sweeps", "rank")], [-50, -65, -35, 4, 0, 20, 7])
+        self.assertEqual((found["rows"]["B"], found["retractable"]), (["B1", "B2", "B3", "B4"], ["A2", "A4", "B2", "B4", "C3"]))
+        not_finite = json.loads(say.as_json(self.stalls, {**self.fields, "relaxed": float("nan")}))
+        self.assertIsNone(not_finite["relaxed_objective"])
+
+    def test_eighths(self):
+        self.assertEqual([answer.eighths(x) for x in (0, 1, -1, -12, 8, 8 * 2**40 + 7)], ["0", "0.125", "-0.125", "-1.5", "1", "1,099,511,627,776.875"])
+
+
+class Pictures(Case):
+    def drawn(self, made):
+        """The picture's root, once it is well formed and has its words."""
+        _, fields = self.answered(made)
+        root = xml.etree.ElementTree.fromstring("\n".join(picture.plan(made, fields)))
+        title, told = root.find(f"{SVG}title").text, root.find(f"{SVG}desc").text
+        self.assertIn(f"{len(made.names)} wagon", title)
+        for words in ("Left store: ", "Right store: ", f"Cost {answer.eighths(fields['cost'])}.", "No choice at all costs less"):
+            self.assertIn(words, told)
+        wagons = [group for group in root.iter(f"{SVG}g") if group.get("class", "").startswith("wagon")]
+        self.assertEqual(sorted(group.find(f"{SVG}text").text for group in wagons), sorted(made.names))
+        red = [group.find(f"{SVG}text").text for group in wagons if group.find(f"{SVG}rect").get("fill") == picture.RED]
+        self.assertEqual(sorted(red), sorted(made.names[i] for i in made.retractable))
+        return root, fields
+
+    def texts(self, root):
+        return [found.text for found in root.iter(f"{SVG}text")]
+
+    def test_stalls(self):
+        root, _ = self.drawn(hall.read_hall(STALLS))
+        said = self.texts(root)
+        promised = ["No choice at all costs less than -65, the floor.", "No single wagon moved to the other store makes it cheaper, nor all of them at once."]
+        for words in ("LEFT STORE: 7 wagons", "RIGHT STORE: 5 wagons", "Row A", "Row C", "Cost -50     Floor -65", "retractable", *promised):
+            self.assertIn(words, said)
+
+    def test_names_that_xml_must_escape(self):
+        self.drawn(self.hall("wagon <a&b>\" -1\nwagon ' 2\nrow <&> '\nretractable '\n"))
+
+    def test_no_wagon_and_no_search(self):
+        self.drawn(self.hall(""))
+        root, _ = self.drawn(self.hall("wagon a -1\nwagon b -1\npair a b 3\nwidth 0\n"))
+        self.assertIn("The search was off (width 0): one wagon moved may make it cheaper.", self.texts(root))
+
+    def test_largest_hall(self):
+        """127 wagons of a full table, in rows, in as many rows as wagons, and in none; kept for the browser."""
+        os.makedirs(os.path.join(TOP, "target", "halls"), exist_ok=True)
+        costs = "".join(f"wagon w{i} {i % 9 - 5}\n" for i in range(127))
+        table = costs + all_pairs(127, 2048) + "sweeps 5\ndraws 2\nretractable w1 w126\n"
+        rows = ["".join(f"row {k} {' '.join(f'w{i}' for i in range(k, min(127, k + step)))}\n" for k in range(0, 127, step)) for step in (13, 1)]
+        for name, more in (("rows", rows[0]), ("single", rows[1]), ("none", "")):
+            made = self.hall(table + more)
+            root, fields = self.drawn(made)
+            sizes = {float(group.find(f"{SVG}text").get("font-size")) for group in root.iter(f"{SVG}g") if group.get("class") == "wagon"}
+            self.assertGreaterEqual(min(sizes), picture.READABLE)
+            program.write_file(os.path.join(TOP, "target", "halls", f"largest-{name}.svg"), "\n".join(picture.plan(made, fields)).encode())
+            self.assertEqual("Row 0" in self.texts(root), name == "rows")
+
+
+class Commands(Case):
+    def test_help_and_version(self):
+        for words in (("hall", "--help"), ("hall", "--version"), ("hall", "solve", "--help"), ("plan", "--help"), ("plan", "--version")):
+            done = run(*words)
+            self.ends(done, 0)
+            self.assertTrue(done.stdout)
+
+    def test_bad_usage(self):
+        for words in ((), ("draw",), ("words", STALLS), ("solve",), ("job", STALLS, "--plan", "x")):
+            self.ends(run("hall", *words), 1, "usage: hall")
+        self.ends(run("plan", STALLS, "--drawing", "x"), 2, "usage: plan")
+        self.ends(run("hall", "job", "absent.txt"), 1, "absent.txt can't be read: No such file or directory.")
+        self.ends(run("hall", "job", self.folder), 1, "can't be read: Is a directory.")
+        self.ends(run("plan", "absent.txt"), 2, "absent.txt can't be read: No such file or directory.")
+
+    def test_solve_and_plan(self):
+        made = hall.read_hall(STALLS)
+        data, fields = self.answered(made)
+        words = "".join(line + "\n" for line in say.words(made, fields))
+        files = [os.path.join(self.folder, name) for name in ("answer", "plan.svg", "plan.json")]
+        for command in (("hall", "solve"), ("plan",)):
+            done = run(*command, STALLS, "--answer", files[0], "--plan", files[1], "--json", files[2])
+            self.ends(done, 0)
+            self.assertEqual(done.stdout.decode(), words)
+            written = [contents(path) for path in files]
+            self.assertEqual(written, [data, "".join(line + "\n" for line in picture.plan(made, fields)).encode(), say.as_json(made, fields).encode()])
+            self.assertEqual(sorted(os.listdir(self.folder)), sorted(map(os.path.basename, files)))
+        self.assertEqual(run("hall", "job", STALLS).stdout, record.job_of(made))
+
+    def test_job_on_standard_input(self):
+        done = run("plan", given=record.job_of(hall.read_hall(DOORWAY)))
+        self.ends(done, 0)
+        self.assertIn("Left store: 1.\nRight store: 0.\nThis costs -1.", done.stdout.decode())
+        job = record.job_of(hall.read_hall(DOORWAY))
+        for bad, number in ((job[:-1], 11), (b"", 11), (changed(job, 4, b"\2"), 12), (changed(job, 5, b"\x80"), 13), (job + bytes(1 << 20), 11)):
+            self.ends(run("plan", "-", given=bad), 1, f"The job was refused by {number}: {answer.sentence_of(number)}")
+
+    def test_refused_halls(self):
+        self.ends(run("plan", self.file("hall.txt", many(128))), 1, "hall.txt, line 128: wagon w127 is number 128")
+
+    PROGRAMS = [
+        ("kill -9 $$", "was killed by signal 9 and gave no whole answer."),
+        ("exit 3", "ended with status 3 and gave no whole answer."),
+        ("exit 0", "The answer is wrong: it has 0 bytes"),
+        (f"'{PROGRAM}' | head -c 61", "it is cut short, 61 bytes where its length field says 62"),
+        (f"'{PROGRAM}' | head -c 6", "it is cut short, 6 bytes where its length field says 62"),
+        (f"'{PROGRAM}' | {{ dd bs=1 count=51 status=none; printf '\\000'; dd bs=1 count=1 of=/dev/null status=none; cat; }}",
+         "its cost is -32, and by the hall's own costs its choice costs -1"),
+        (f"'{PROGRAM}'; echo", "it has 63 bytes, and its length field says 62"),
+    ]
+
+    def test_no_whole_answer(self):
+        old = self.file("answer", "old")
+        for text, sentence in self.PROGRAMS:
+            other = self.script(text)
+            self.ends(run("plan", DOORWAY, "--answer", old, WAGONPLAN=other), 2, sentence)
+        self.ends(run("hall", "solve", DOORWAY, WAGONPLAN=other), 1, sentence)
+        for absent in (os.path.join(self.folder, "absent"), self.folder, old):
+            self.ends(run("plan", DOORWAY, "--answer", old, WAGONPLAN=absent), 2, f"The program {absent} can't be run: ")
+        self.assertEqual(contents(old), b"old")
+
+    def test_full_disk(self):
+        """The old file stays, nothing else is left behind, and the answer is still said."""
+        old = self.file("answer", "old")
+        done = subprocess.run(["bash", "-c", 'ulimit -f 0; "$0" "$1" --answer "$2"', os.path.join(TOP, "tools", "plan"), DOORWAY, old], capture_output=True, check=False)
+        self.ends(done, 2, "answer can't be written: File too large; what was there before is unchanged.")
+        self.assertIn(b"Left store: back.", done.stdout)
+        self.assertEqual((contents(old), os.listdir(self.folder)), (b"old", ["answer"]))
+        with open("/dev/full", "wb") as full:
+            done = subprocess.run([os.path.join(TOP, "tools", "plan"), DOORWAY], stdout=full, stderr=subprocess.PIPE, check=False)
+        self.ends(done, 2, "Standard output can't be written: No space left on device.")
+        self.ends(run("plan", DOORWAY, "--json", "/dev/full"), 2, "/dev/full can't be written: No space left on device")
+        self.ends(run("plan", DOORWAY, "--json", os.path.join(self.folder, "absent", "x")), 2, "can't be written: No such file or directory")
+
+    def test_first_command(self):
+        """From a tree in which nothing is built, with an rt that only says what the real one says."""
+        for name in ("tools", HALLS, answer.HEADER, "crates.txt"):
+            source, to = os.path.join(TOP, name), os.path.join(self.folder, name)
+            if os.path.exists(source):
+                os.makedirs(os.path.dirname(to), exist_ok=True)
+                (shutil.copytree if os.path.isdir(source) else shutil.copy)(source, to)
+        says = "echo 'fn laws::a: proved'; echo 'rt: laws proved (1 s)'; echo 'rt: wagonplan proved (21 s)'"
+        shutil.move(self.script(f"{says}; mkdir -p target/bin; ln -s '{PROGRAM}' target/bin/wagonplan"), os.path.join(self.folder, "rt"))
+        command = [os.path.join(self.folder, "tools", "show_hall.sh")]
+        done = subprocess.run(command, capture_output=True, env={**os.environ, "PATH": self.folder + ":" + os.environ["PATH"], "WAGONPLAN": ""}, check=False)
+        self.ends(done, 0)
+        total = len(needed("wagonplan"))
+        self.assertRegex(done.stdout.decode(), rf"^The program wagonplan isn't built yet. Its {total} crates are proved now(.|\n)*minutes(.|\n)*"
+                         rf"\[ 1 of {total}\]   0:0\d  laws \(1 s\)\n\[ 2 of {total}\]   0:0\d  wagonplan \(21 s\)\n(.|\n)*took 4 rounds(.|\n)*target/plan.svg")
+        xml.etree.ElementTree.parse(os.path.join(self.folder, "target", "plan.svg"))
+
+
+def needed(name):
+    """The crates that one stands on, itself among them."""
+    with open(os.path.join(TOP, "crates.txt"), encoding="utf-8") as file:
+        edges = dict(line.split(":") for line in file if line[0].isalpha())
+    seen, todo = set(), [name]
+    while todo:
+        crate = todo.pop()
+        if crate in edges and crate not in seen:
+            seen.add(crate)
+            todo += edges[crate].split()
+    return seen
+
+
+class Fuzz(Case):
+    """Random and damaged inputs: a sentence or an answer, never another exception."""
+
+    def damaged(self, made, data):
+        data = bytearray(data)
+        for _ in range(made.randint(1, 4)):
+            at = made.randrange(len(data) + 1)
+            act = made.randrange(4)
+            if act == 0:
+                data[at : at + 1] = bytes([made.randrange(256)])
+            elif act == 1:
+                del data[at : at + made.randrange(20)]
+            elif act == 2:
+                data[at:at] = made.choice([b"\n", b" ", b"9" * 30, b"-", b"nan", b"1e999", b"\0", b"wagon ", b"table .\n", b",", b"\xff", "\u2028é".encode()])
+            else:
+                data = data[:at]
+        return bytes(data) if made.randrange(10) else made.randbytes(made.randrange(100))
+
+    def test_halls_and_tables(self):
+        made = random.Random(7)
+        sources = [(contents(STALLS), "hall.txt"), (contents(DOORWAY), "hall.txt"), (Tables.CSV.encode(), "table.csv")]
+        for _ in range(800):
+            data, name = made.choice(sources)
+            try:
+                record.job_of(self.hall(self.damaged(made, data), name))
+            except Refused:
+                pass
+
+    def test_answers(self):
+        made = random.Random(8)
+        stalls = hall.read_hall(STALLS)
+        good, _ = self.answered(stalls)
+        for _ in range(1500):
+            try:
+                fields = answer.read_answer(self.damaged(made, good), stalls)
+                "".join([*say.words(stalls, fields), *picture.plan(stalls, fields), say.as_json(stalls, fields)])
+            except Wrong:
+                pass
+
+    def test_jobs(self):
+        made = random.Random(9)
+        job = record.job_of(hall.read_hall(DOORWAY))
+        for _ in range(300):
+            try:
+                record.hall_of(self.damaged(made, job))
+            except Wrong:
+                pass
+
+
+if __name__ == "__main__":
+    unittest.main()

@@ -1,0 +1,74 @@
+"""Running `wagonplan`, and writing what it answers so that nothing is lost."""
+import os
+import stat
+import subprocess
+import tempfile
+
+from .answer import TOP
+from .text import Wrong
+
+
+def answered(job):
+    """The program's bytes to a job."""
+    program = os.environ.get("WAGONPLAN") or os.path.join(TOP, "target", "bin", "wagonplan")
+    try:
+        done = subprocess.run([program], input=job, stdout=subprocess.PIPE, check=False)
+    except OSError as error:
+        raise Wrong(f"The program {program} can't be run: {error.strerror}. tools/show_hall.sh proves and builds it; WAGONPLAN may name another.") from None
+    if done.returncode != 0:
+        how = f"was killed by signal {-done.returncode}" if done.returncode < 0 else f"ended with status {done.returncode}"
+        raise Wrong(f"The program {program} {how} and gave no whole answer.")
+    return done.stdout
+
+
+def write_files(files):
+    """Each of (path, bytes); all are tried, and then the first that failed is the error."""
+    failed = []
+    for path, data in files:
+        try:
+            write_file(path, data)
+        except OSError as error:
+            failed.append(f"{path} can't be written: {error.strerror}; what was there before is unchanged.")
+    if failed:
+        raise Wrong(failed[0])
+
+
+def write_file(path, data):
+    """Beside the file first, then moved into its place, so that it holds the old bytes or all of the new ones."""
+    path = os.path.realpath(path)
+    if os.path.exists(path) and not stat.S_ISREG(os.stat(path).st_mode):
+        with open(path, "wb") as file:  # a device or a pipe is written, never replaced
+            file.write(data)
+        return
+    handle, beside = tempfile.mkstemp(dir=os.path.dirname(path), prefix=os.path.basename(path) + ".")
+    try:
+        with os.fdopen(handle, "wb") as file:
+            file.write(data)
+            file.flush()
+            os.fsync(file.fileno())
+        os.chmod(beside, 0o666 & ~umask())
+        os.replace(beside, path)
+    except BaseException:
+        os.unlink(beside)
+        raise
+
+
+def umask():
+    mask = os.umask(0)
+    os.umask(mask)
+    return mask
+
+
+def standard_input(most):
+    """Its first bytes, at most so many."""
+    with open(0, "rb", closefd=False) as file:
+        return file.read(most)
+
+
+def emit(data):
+    """Bytes to standard output, all of them."""
+    try:
+        while data:
+            data = data[os.write(1, data) :]
+    except OSError as error:
+        raise Wrong(f"Standard output can't be written: {error.strerror}.") from None

@@ -1,0 +1,59 @@
+"""A checked answer in words, and as JSON."""
+import json
+import math
+
+from .answer import STATUSES, STORES, eighths
+from .text import counted
+
+
+def words(hall, answer):
+    """For the technician: stores first, then what they cost and what is promised."""
+    for side, wagons in zip(STORES, stores(hall, answer)):
+        yield f"{side.capitalize()} store: {listed(hall, wagons)}."
+    if hall.retractable:
+        yield f"Retractable: {listed(hall, sorted(hall.retractable))}."
+    yield " ".join([f"This costs {eighths(answer['cost'])}.", *promises(hall, answer)])
+    yield f"The search started from a cost of {eighths(answer['rounded'])} and took {counted(answer['rounds'], 'round')}."
+    floats = f"Relaxed objective {answer['relaxed']:.6g}, float bound {answer['bound']:.6g}."
+    yield f"Sweeps: {answer['sweeps']} at rank {answer['rank']}; {STATUSES[answer['status']]}. {floats}"
+
+
+def listed(hall, wagons):
+    return ", ".join(hall.names[i] for i in wagons) or "no wagon"
+
+
+def stores(hall, answer):
+    """The wagons of each store."""
+    return [[i for i, b in enumerate(answer["choice"]) if b == store] for store in (0, 1)]
+
+
+def promises(hall, answer):
+    """What holds of this choice beside its cost, a sentence for each."""
+    if answer["cost"] == answer["floor"]:
+        return ["No choice at all costs less."]
+    floor = f"No choice at all costs less than {eighths(answer['floor'])}, the floor."
+    if hall.width == 0:
+        return [floor, "The search was off (width 0): one wagon moved may make it cheaper."]
+    return [floor, "No single wagon moved to the other store makes it cheaper, nor all of them at once."]
+
+
+def as_json(hall, answer):
+    """Costs in whole units, which a double holds exactly; null where a float is not finite."""
+    finite = lambda x: x if math.isfinite(x) else None
+    fields = {
+        "hall": hall.title,
+        "choice": {name: STORES[b] for name, b in zip(hall.names, answer["choice"])},
+        "cost": answer["cost"] / 8,
+        "floor": answer["floor"] / 8,
+        "rounded_cost": answer["rounded"] / 8,
+        "rounds": answer["rounds"],
+        "status": answer["status"],
+        "status_words": STATUSES[answer["status"]],
+        "sweeps": answer["sweeps"],
+        "rank": answer["rank"],
+        "relaxed_objective": finite(answer["relaxed"]),
+        "float_bound": finite(answer["bound"]),
+        "rows": {row: [hall.names[i] for i in members] for row, members in hall.rows.items()},
+        "retractable": [hall.names[i] for i in sorted(hall.retractable)],
+    }
+    return json.dumps(fields, indent=2, ensure_ascii=False, allow_nan=False) + "\n"
