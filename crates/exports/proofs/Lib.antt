@@ -2,3 +2,4 @@ pub mod Back
 pub mod Answering
 pub mod Running
 pub mod Asked
+pub mod Enough
