@@ -2,11 +2,7 @@
 use Prim.Native.Nat.{ℕ}
 use mathlib.Core.List.{List, [], _∷_}
 use Rattle.laws.specs.Lists.{elem}
-use Rattle.tables.specs.Limits.{mostWagons, mostEntries, mostSigns, mostSignEntries}
-use Rattle.run_limits.specs.Limits.{mostRank, mostWidth, mostDraws, mostStart, searchWorkspace}
-use Rattle.job_record.specs.Limits.{mostBytes}
-use Rattle.record_call.specs.Record.{leastAnswer}
-use Rattle.reduced.specs.Limits.{mostSize}
+use Rattle.limits.specs.Limits.{mostWagons, mostEntries, mostSigns, mostSignEntries, mostRank, mostWidth, mostDraws, mostStart, searchWorkspace, mostBytes, leastAnswer, mostSize}
 use Rattle.exports.specs.Words.{runWords, settingWords, resultWords}
 
 abbrev pub callsVersion : ℕ

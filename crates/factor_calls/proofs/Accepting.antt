@@ -12,7 +12,7 @@ use lib.Ieee.{Float}
 use Rattle.laws.specs.Refusal.{short}
 use Rattle.laws.proofs.Refusal.{clear, first-head, first-rest}
 use Rattle.laws.proofs.Any.{any-head, any-rest, any-not, any-none}
-use Rattle.tables.specs.Limits.{mostSigns, mostSignEntries, mostSignMagnitude}
+use Rattle.limits.specs.Limits.{mostSigns, mostSignEntries, mostSignMagnitude, mostRank, mostDraws}
 use Rattle.tables.specs.Table.{Table, Lent, tableOf}
 use Rattle.laws.proofs.Made.{length-tabulate}
 use Rattle.maxcut_oracle.specs.Whole.{numerator, wholeMultipliers}
@@ -20,7 +20,6 @@ use Rattle.rounding.specs.Rounding.{leastDraw, roundedSol}
 use Rattle.rounding.proofs.Least.{length-signsOf}
 use Rattle.tables.specs.Check.{Accepted}
 use Rattle.tables.proofs.Checks.{long-enough, table-lent, table-accepted}
-use Rattle.run_limits.specs.Limits.{mostRank, mostDraws}
 use Rattle.run_limits.specs.Rank.{rankMeant}
 use Rattle.table_calls.specs.Numbers.{badSigns}
 use Rattle.table_calls.proofs.Accepting.{signs-passes, signs-parts}

@@ -7,9 +7,8 @@ use lib.Dec.{ltb, eqb}
 use lib.ListN.{length}
 use lib.IntN.{ℤ}
 use Rattle.laws.specs.Refusal.{_if_, first, anyOf, short}
-use Rattle.tables.specs.Limits.{mostSignEntries}
+use Rattle.limits.specs.Limits.{mostSignEntries, mostRank, mostDraws}
 use Rattle.tables.specs.Check.{shortTable}
-use Rattle.run_limits.specs.Limits.{mostRank, mostDraws}
 use Rattle.run_limits.specs.Rank.{rankMeant}
 use Rattle.table_calls.specs.Numbers.{badSigns, signTableNumber}
 

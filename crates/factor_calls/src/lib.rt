@@ -3,20 +3,19 @@
 mod numbers;
 mod whole; // whole.rt: the multipliers over the whole table
 
+use limits::MOST_RANK;
+use limits::MOST_SIGNS;
 use numbers::dual_number;
 use numbers::rounded_number;
-use run_limits::MOST_RANK;
 use run_limits::rank_meant;
 use table_calls::Eighths;
-use tables::limits::MOST_SIGNS;
 use whole::whole_multipliers;
 ghost use mathlib.Core.Path.{_≡_};
-ghost use Prim.Native.Nat.{_*_, _≤_, _^_};
+ghost use Prim.Native.Nat.{_*_, _≤_};
 ghost use lib.ListN.{length};
 ghost use Rattle.laws.specs.Lists.{over};
-ghost use Rattle.tables.specs.Limits.{mostSigns};
+ghost use Rattle.limits.specs.Limits.{mostSigns, mostSignMagnitude, mostRank};
 ghost use Rattle.tables.specs.Table.{tableOf, Lent, InRange, Rising, magnitudeOf};
-ghost use Rattle.run_limits.specs.Limits.{mostRank};
 ghost use Rattle.run_limits.specs.Rank.{rankMeant};
 ghost use Rattle.rounding.specs.Rounding.{roundedSol, roundedObjective};
 ghost use Rattle.maxcut_oracle.specs.Whole.{wholeMultipliers};
@@ -25,14 +24,14 @@ ghost use Rattle.factor_calls.specs.Answers.{RoundsFactor, Multiplies};
 
 // Room for a direction, or for a row's sums.
 fn direction_room() -> [f64; MOST_RANK]
-    ensures { λ r. ⌜ 32 ≡ length r ⌝ }
+    ensures { λ r. ⌜ mostRank ≡ length r ⌝ }
 {
     [0.0; MOST_RANK]
 }
 
 // Room for signs.
 fn signs_room() -> [u8; MOST_SIGNS]
-    ensures { λ r. ⌜ 128 ≡ length r ⌝ }
+    ensures { λ r. ⌜ mostSigns ≡ length r ⌝ }
 {
     [0; MOST_SIGNS]
 }
@@ -51,7 +50,7 @@ fn round(
     out: &mut [u8],
 ) -> i64
     requires { ⌜ Lent count (now rows) (now cols) (now values) × InRange m (tableOf count (now rows) (now cols) (now values))
-        × (magnitudeOf (tableOf count (now rows) (now cols) (now values)) ≤ 2 ^ 42) ⌝ }
+        × (magnitudeOf (tableOf count (now rows) (now cols) (now values)) ≤ mostSignMagnitude) ⌝ }
     requires { ⌜ (m * rank ≤ length (now factor)) × («draw_count» * rank ≤ length (now draws)) × (1 ≤ «draw_count») × (m ≤ length (now out)) × (m ≤ mostSigns) × (rank ≤ mostRank) ⌝ }
     ensures { λ r. ⌜ r ≡ roundedObjective (now (factor .entry)) rank m (now (draws .entry)) (tableOf count (now (rows .entry)) (now (cols .entry)) (now (values .entry))) «draw_count» ⌝ }
     ensures { λ _. ⌜ now (out .exit) ≡ over (roundedSol (now (factor .entry)) rank m (now (draws .entry)) (tableOf count (now (rows .entry)) (now (cols .entry)) (now (values .entry))) «draw_count») (now (out .entry)) ⌝ }

@@ -1,14 +1,14 @@
 // The numbers of the calls, in 01's order: 31, 13 to 16, 17, 19.
-use run_limits::MOST_DRAWS;
-use run_limits::MOST_RANK;
+use limits::MOST_DRAWS;
+use limits::MOST_RANK;
+use limits::MOST_SIGN_ENTRIES;
+use limits::MOST_SIGN_MAGNITUDE;
+use limits::MOST_SIGNS;
 use run_limits::rank_meant;
 use tables::check::bad_signs;
 use tables::check::short_table;
 use tables::check::table_number;
 use tables::check::too_short;
-use tables::limits::MOST_SIGN_ENTRIES;
-use tables::limits::MOST_SIGN_MAGNITUDE;
-use tables::limits::MOST_SIGNS;
 ghost use mathlib.Core.Path.{_≡_};
 ghost use lib.ListN.{length};
 ghost use Rattle.factor_calls.specs.Numbers.{badRank, badDraws, factorShort, drawsRefused, drawsShort, roundedShort, roundedNumber, dualShort, dualNumber};

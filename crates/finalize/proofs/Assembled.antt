@@ -18,7 +18,7 @@ use mir.Facts.{toZ-ofZ}
 use Rattle.laws.specs.Lists.{over, fill, tabulate}
 use Rattle.laws.proofs.MapFirst.{fill-none, fill-more}
 use Rattle.laws.proofs.Made.{tabulate-next}
-use Rattle.tables.specs.Limits.{mostWagons, mostEntries, mostMagnitude, mostSigns, mostSignEntries, mostSignMagnitude}
+use Rattle.limits.specs.Limits.{mostWagons, mostEntries, mostMagnitude, mostSigns, mostSignEntries, mostSignMagnitude, mostWidth, searchWorkspace}
 use Rattle.tables.specs.Table.{Table, tableOf, Lent, floorOf}
 use Rattle.tables.specs.Check.{Hall, Accepted}
 use Rattle.tables.specs.Bound.{entrywise}
@@ -35,7 +35,6 @@ use Rattle.sign_table.proofs.Theorems.{hall-sign-table}
 use Rattle.prepared_table.specs.Work.{diagonalSum}
 use Rattle.maxcut_oracle.specs.Table.{dualVariables}
 use Rattle.finalize.specs.Finalize.{choiceOf, floorEighths, floatBound, diagonalTotal, multipliersOf, roundedSigns, roundedCost, searchResult, searchedChoice, searchedCost, searchedRounds}
-use Rattle.run_limits.specs.Limits.{mostWidth, searchWorkspace}
 use Rattle.finalize.specs.Contracts.{Fits, ChoiceFits, Chooses, Works, Finalizes}
 
 module _ {A : Type 0} where
@@ -79,8 +78,8 @@ module _ {m : ℕ} {t : Table} (ok : Accepted mostSigns mostSignEntries mostSign
   pub sound : {len : ℕ} → len ≡ m → Sound len t
   sound e = rw e (record { mirrors = accepted-mirrors ok; climbs = rising-climbs t (ok .rising); small = ok .magnitude })
 
-  pub room : {len width space : ℕ} → len ≡ m → width ≤ mostWidth → searchWorkspace ≤ space → LevelRoom 128 len width space
-  room e w s = rw e (record { signs-few = ok .signs; width-few = w; level-room = s })
+  pub room : {len width space : ℕ} → len ≡ m → width ≤ mostWidth → searchWorkspace ≤ space → LevelRoom mostSigns len width space
+  room e w s = rw e (record { signs-few = ok .signs; width-few = omega (arith, w); level-room = s })
 
   -- an objective is an i64
   pub objective-held : (x : List ℕ) {z : ℤ} → z ≡ objectiveIn t x → toZ w64 (ofZ w64 z) ≡ z

@@ -11,7 +11,7 @@ use Rattle.prepared_table.specs.Work.{diagonalSum}
 use Rattle.maxcut_oracle.specs.Table.{dualVariables}
 use Rattle.rounding.specs.Rounding.{roundedSol}
 use Rattle.sign_search.specs.Search.{objectiveIn, beamSearch}
-use Rattle.run_limits.specs.Limits.{mostRank, mostDraws, mostWidth, searchWorkspace}
+use Rattle.limits.specs.Limits.{mostRank, mostWidth, mostDraws, searchWorkspace}
 use Rattle.finalize.specs.Finalize.{choiceOf, floorEighths, floatBound, diagonalTotal, multipliersOf, roundedCost, searchedChoice, searchedCost, searchedRounds}
 
 -- the settings are accepted, and the slices, of these lengths, long enough

@@ -8,8 +8,7 @@ ghost use Prim.Native.Nat.{suc, _≤_};
 ghost use lib.ListN.{length};
 ghost use Rattle.tables.specs.Table.{tableOf, Lent};
 ghost use Rattle.tables.specs.Check.{Accepted};
-ghost use Rattle.tables.specs.Limits.{mostSigns, mostSignEntries, mostSignMagnitude};
-ghost use Rattle.run_limits.specs.Limits.{mostRank};
+ghost use Rattle.limits.specs.Limits.{mostSigns, mostSignEntries, mostSignMagnitude, mostRank};
 ghost use Rattle.finalize.specs.Contracts.{ChoiceFits, Chooses};
 
 // The cost of the rounded choice, that of the search's answer, and the rounds.

@@ -17,7 +17,7 @@ ghost use lib.ListN.{length, take};
 ghost use Rattle.laws.specs.Lists.{elemZ};
 ghost use Rattle.tables.specs.Table.{tableOf, Lent};
 ghost use Rattle.tables.specs.Check.{Hall, Accepted};
-ghost use Rattle.tables.specs.Limits.{mostWagons, mostEntries, mostMagnitude, mostSigns, mostSignEntries, mostSignMagnitude};
+ghost use Rattle.limits.specs.Limits.{mostWagons, mostEntries, mostMagnitude, mostSigns, mostSignEntries, mostSignMagnitude};
 ghost use Rattle.finalize.specs.Contracts.{Fits, Works, Finalizes};
 
 // The figures of a finish; the choice and the multipliers are in the slices lent for them. Floor and costs are in eighths.

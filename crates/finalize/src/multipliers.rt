@@ -10,8 +10,7 @@ ghost use Rattle.laws.specs.Lists.{over};
 ghost use Rattle.tables.specs.Table.{tableOf, Lent, InRange};
 ghost use Rattle.prepared_table.specs.Work.{diagonalOf, diagonalSum};
 ghost use Rattle.maxcut_oracle.specs.Table.{dualVariables};
-ghost use Rattle.tables.specs.Limits.{mostSigns, mostSignEntries};
-ghost use Rattle.run_limits.specs.Limits.{mostRank};
+ghost use Rattle.limits.specs.Limits.{mostSigns, mostSignEntries, mostRank};
 ghost use Rattle.finalize.specs.Contracts.{Rooms};
 
 // The multipliers of m rows in `dual`, by a diagonal of m numbers, with room for the table without its diagonal and for its product with the factor.

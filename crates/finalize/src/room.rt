@@ -1,18 +1,16 @@
 // Arrays for the sign table, for what is made of it and for the signs, of which the first places are used: every place holds 0.
-use run_limits::MOST_RANK;
-use tables::limits::MOST_SIGN_ENTRIES;
-use tables::limits::MOST_SIGNS;
+use limits::MOST_FACTOR;
+use limits::MOST_RANK;
+use limits::MOST_SIGN_ENTRIES;
+use limits::MOST_SIGNS;
 ghost use mathlib.Core.Path.{_≡_};
-ghost use Prim.Native.Nat.{_+_, _*_};
+ghost use Prim.Native.Nat.{_+_};
 ghost use lib.IntN.{pos};
 ghost use lib.ListN.{length, replicate};
 ghost use Rattle.ieee.specs.Floats.{zero64};
-ghost use Rattle.tables.specs.Limits.{mostSigns, mostSignEntries};
-ghost use Rattle.run_limits.specs.Limits.{mostRank};
+ghost use Rattle.limits.specs.Limits.{mostSigns, mostSignEntries, mostRank, mostFactor};
 
 const ROW_STARTS: usize = MOST_SIGNS + 1;
-
-const MOST_NUMBERS: usize = MOST_SIGNS * MOST_RANK;
 
 // Rows or columns of a table.
 pub fn indices() -> [u16; MOST_SIGN_ENTRIES]
@@ -47,11 +45,11 @@ pub fn row_starts() -> [usize; ROW_STARTS]
 }
 
 // Rows of as many numbers as a factor's.
-pub fn rows_of_numbers() -> [f64; MOST_NUMBERS]
-    ensures { λ r. ⌜ r ≡ replicate (mostSigns * mostRank) zero64 ⌝ }
-    ensures { λ r. ⌜ mostSigns * mostRank ≡ length r ⌝ }
+pub fn rows_of_numbers() -> [f64; MOST_FACTOR]
+    ensures { λ r. ⌜ r ≡ replicate mostFactor zero64 ⌝ }
+    ensures { λ r. ⌜ mostFactor ≡ length r ⌝ }
 {
-    [0.0; MOST_NUMBERS]
+    [0.0; MOST_FACTOR]
 }
 
 // A number for each sign.

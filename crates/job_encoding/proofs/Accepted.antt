@@ -15,14 +15,12 @@ use Rattle.laws.specs.Refusal.{_if_, first}
 use Rattle.laws.proofs.Refusal.{neither, none-of}
 use Rattle.laws.proofs.Any.{below-false}
 use Rattle.laws.proofs.Following.{moves-on, moves-on-if, answers-last, passes-last, first-append}
-use Rattle.tables.specs.Limits.{mostWagons, mostEntries, mostMagnitude}
+use Rattle.limits.specs.Limits.{mostWagons, mostEntries, mostMagnitude, mostRank, mostWidth, mostDraws, lastRule, lastStart}
 use Rattle.tables.proofs.Checks.{order-passes, mirror-passes}
 use Rattle.tables.specs.Check.{badEntry, badOrder, hallMagnitude}
 use Rattle.job_reader.specs.Bytes.{bigEndian}
 use Rattle.job_reader.specs.Encode.{bytesOf}
 use Rattle.job_reader.proofs.Encode.{length-bytesOf, read-bytes}
-use Rattle.run_limits.specs.Limits.{mostRank, mostWidth, mostDraws}
-use Rattle.job_record.specs.Limits.{lastRule, lastStart}
 use Rattle.run_limits.specs.Momentum.{isMomentum}
 use Rattle.job_record.specs.Fields.{restLength, version, wagons, entryAt, row, column, value, entries, signedFrom, ruleNumberAt, rankOf}
 use Rattle.job_record.specs.Number.{endsBefore, boundedNumber, frameNumber, versionNumber, entryNumber, momentumNumber, headNumbers, entriesNumbers, costsNumbers, settingsNumbers, drawsNumbers, runNumbers, jobNumber}

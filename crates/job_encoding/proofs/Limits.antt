@@ -12,6 +12,7 @@ use lib.IntN.{natAbs}
 use lib.Ieee.{nan, binary64, fits}
 use Rattle.laws.proofs.Integer.{fits-abs}
 use Rattle.laws.proofs.Sums.{total-at}
+use Rattle.limits.specs.Limits.{mostWagons, mostEntries, mostMagnitude, mostRank, mostWidth, mostDraws, lastRule, lastStart, mostBytes}
 use Rattle.tables.specs.Check.{Hall}
 use Rattle.run_limits.specs.Start.{startLength}
 use Rattle.run_limits.specs.Momentum.{isMomentum}
@@ -20,16 +21,16 @@ use Rattle.job_encoding.specs.Encode.{Values, jobBytes}
 use Rattle.job_encoding.specs.Allowed.{entryOf, costIn, tableIn, rankIn, Typed, Allowed}
 use Rattle.job_encoding.proofs.Accepted.{accepted-back}
 
--- n up to 127, at most 4,096 entries in range, in order and mirrored, magnitude at most 2^40; rank up to 32, rule up to 4, momentum in range; most
--- and minimum of 4 bytes, W up to 128, start 0 to 2, 1 with a rank; the start's doubles, 1 to 1,000 draws of rank doubles each; at most 65,536 bytes
+-- wagons, entries in range, in order and mirrored, and their magnitude; rank, rule, momentum in range; most and minimum of 4 bytes, W, start, 1 with
+-- a rank; the start's doubles, one draw or more, of rank doubles each; the bytes
 module _ (v : Values)
-    (hall : Hall 127 4096 (2 ^ 40) (length (v .c)) (tableIn v) (costIn v))
-    (rank : v .rank ≤ 32) (rule : v .rule ≤ 4) (momentum : v .rule ≡ 4 → isMomentum (v .ruleNumber) ≡ true)
+    (hall : Hall mostWagons mostEntries mostMagnitude (length (v .c)) (tableIn v) (costIn v))
+    (rank : v .rank ≤ mostRank) (rule : v .rule ≤ lastRule) (momentum : v .rule ≡ 4 → isMomentum (v .ruleNumber) ≡ true)
     (most : v .most < 2 ^ 32) (minimum : v .minimum < 2 ^ 32)
-    (width : v .width ≤ 128) (start : v .start ≤ 2) (given : v .start ≡ 1 → v .rank ≡ 0 → ⊥)
+    (width : v .width ≤ mostWidth) (start : v .start ≤ lastStart) (given : v .start ≡ 1 → v .rank ≡ 0 → ⊥)
     (started : length (v .startNumbers) ≡ startLength (v .start) (length (v .c) + 1) (rankIn v) (v .most))
-    (some : 1 ≤ v .drawCount) (few : v .drawCount ≤ 1000) (draws : length (v .draws) ≡ v .drawCount * rankIn v)
-    (small : length (jobBytes v) ≤ 65536)
+    (some : 1 ≤ v .drawCount) (few : v .drawCount ≤ mostDraws) (draws : length (v .draws) ≡ v .drawCount * rankIn v)
+    (small : length (jobBytes v) ≤ mostBytes)
     -- the doubles are doubles
     (number : T (fits binary64 (v .ruleNumber))) (objective : T (fits binary64 (v .objectiveTolerance))) (stationarity : T (fits binary64 (v .stationarityTolerance)))
     (starts : (i : ℕ) → i < length (v .startNumbers) → T (fits binary64 (getD (v .startNumbers) i nan)))

@@ -9,13 +9,11 @@ use lib.Ieee.{nan, binary64, fits}
 use mir.Syntax.{w64}
 use mir.Val.{SFits}
 use Rattle.tables.specs.Table.{Table}
-use Rattle.tables.specs.Limits.{mostWagons, mostEntries, mostMagnitude}
+use Rattle.limits.specs.Limits.{mostWagons, mostEntries, mostMagnitude, mostRank, mostWidth, mostDraws, lastRule, lastStart, mostBytes}
 use Rattle.tables.specs.Check.{Hall}
-use Rattle.run_limits.specs.Limits.{mostRank, mostWidth, mostDraws}
 use Rattle.run_limits.specs.Rank.{rankMeant}
 use Rattle.run_limits.specs.Start.{startLength}
 use Rattle.run_limits.specs.Momentum.{isMomentum}
-use Rattle.job_record.specs.Limits.{mostBytes, lastRule, lastStart}
 use Rattle.job_encoding.specs.Encode.{Entry, Values, jobBytes}
 
 -- entry k of H and c_i

@@ -4,8 +4,7 @@ use mathlib.Core.Path.{_≡_, refl, ap, _∙_}
 use mathlib.Core.List.{List}
 use native.Mathlib.Omega.{arith}
 use lib.ListN.{length}
-use Rattle.tables.specs.Limits.{mostWagons, mostEntries}
-use Rattle.job_record.specs.Limits.{mostBytes, mostDrawn}
+use Rattle.limits.specs.Limits.{mostWagons, mostEntries, mostStart, mostBytes, mostDrawn}
 use Rattle.job_record.specs.Fields.{wagons, entryCount, entryAt, rankAt, mostAt, startAt, settingsAfter}
 use Rattle.job_record.specs.Number.{jobNumber}
 use Rattle.job_reader.specs.Bytes.{bigEndian, fieldAt, valueOf, placeAfter}
@@ -13,7 +12,6 @@ use Rattle.job_reader.specs.declared.Field.{Field}
 use Rattle.job_record.specs.declared.reading.SettingsValues.{SettingsValues}
 use Rattle.job_record.specs.Reading.{settingsFrom, settingsValues}
 use Rattle.job_record.specs.Values.{settingsPlace, drawsPlace, jobRank, jobStartCount, jobDrawn}
-use Rattle.run_limits.specs.Limits.{mostStart}
 use Rattle.run_limits.proofs.Ranks.{meant-low}
 use Rattle.run_limits.proofs.Starts.{start-low}
 use Rattle.job_record.proofs.Sections.{Settings, Draws, head, run}

@@ -86,7 +86,7 @@ module _ (s : List ℕ) (n count whole : ℕ) (few : whole ≤ count) (there : e
           same : whole ≡ count
           same = omega arith
 
-          pub placed : n ≤ 127 → Placed (elem rows) (elem cols) count
+          pub placed : n ≤ 65536 → Placed (elem rows) (elem cols) count
           placed h = order-placed n (tableOf count rows cols values) (omega arith) (rw (← same) (sym judgement ∙ passed))
 
           mirrors-are : unmirrored (tableOf count rows cols values) ≡ unmirrored (entries s count)

@@ -16,8 +16,7 @@ use Rattle.laws.specs.Refusal.{_if_, orElse, first}
 use Rattle.laws.proofs.Refusal.{clear, first-head}
 use Rattle.laws.proofs.Following.{answers-if, moves-on-if, answers-last, first-append}
 use Rattle.ieee.specs.Floats.{doubleOf}
-use Rattle.tables.specs.Limits.{mostWagons, mostEntries}
-use Rattle.run_limits.specs.Limits.{mostRank, mostWidth}
+use Rattle.limits.specs.Limits.{mostWagons, mostEntries, mostRank, mostWidth, lastRule, lastStart, mostBytes}
 use Rattle.run_limits.specs.Momentum.{isMomentum}
 use Rattle.job_reader.specs.Bytes.{bigEndian, fieldAt, valueOf, after, afterAll, taken}
 use Rattle.job_reader.specs.declared.Field.{Field}
@@ -26,7 +25,6 @@ use Rattle.job_record.specs.declared.reading.HeadFields.{HeadFields}
 use Rattle.job_record.specs.declared.reading.HeadValues.{HeadValues}
 use Rattle.job_record.specs.declared.reading.SettingsFields.{SettingsFields}
 use Rattle.job_record.specs.declared.reading.SettingsValues.{SettingsValues}
-use Rattle.job_record.specs.Limits.{mostBytes, lastRule, lastStart}
 use Rattle.job_record.specs.Fields.{wagons, entryCount, rankAt, ruleAt, ruleNumberAt, mostAt, minimumAt, objectiveToleranceAt, stationarityToleranceAt, widthAt, startAt}
 use Rattle.job_record.specs.Number.{endsBefore, boundedNumber, frameNumber, versionNumber, momentumNumber, headNumbers, settingsNumbers}
 use Rattle.job_record.specs.Reading.{headOf, settingsFrom, headValues, settingsValues, isShort, fieldNumber, frameJudged, headJudged, ruleJudged, startJudged, settingsJudged}

@@ -17,7 +17,7 @@ use Rattle.laws.proofs.Refusal.{clear, each, first-head, first-rest}
 use Rattle.laws.proofs.Any.{below-none}
 use Rattle.laws.proofs.Following.{passes-last, moves-on-if}
 use Rattle.tables.specs.Table.{Table, tableOf}
-use Rattle.tables.specs.Limits.{mostWagons, mostEntries, mostMagnitude}
+use Rattle.limits.specs.Limits.{mostWagons, mostEntries, mostMagnitude}
 use Rattle.tables.specs.Check.{badOrder, unmirrored, hallMagnitude, hallNumber}
 use Rattle.tables.proofs.Checks.{size-passes}
 use Rattle.job_record.specs.Fields.{wagons, entryCount, entryAt, row, column, value, entries, signedFrom}

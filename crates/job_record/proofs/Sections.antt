@@ -9,11 +9,9 @@ use lib.ListN.{length}
 use Rattle.laws.specs.Refusal.{first}
 use Rattle.laws.proofs.Refusal.{clear, both, first-head, first-rest}
 use Rattle.laws.proofs.Following.{first-append}
-use Rattle.tables.specs.Limits.{mostWagons, mostEntries}
+use Rattle.limits.specs.Limits.{mostWagons, mostEntries, mostRank, mostWidth, mostDraws, lastRule, lastStart, mostBytes}
 use Rattle.job_reader.specs.Bytes.{bigEndian}
-use Rattle.run_limits.specs.Limits.{mostRank, mostWidth, mostDraws}
 use Rattle.run_limits.specs.Momentum.{isMomentum}
-use Rattle.job_record.specs.Limits.{mostBytes, lastRule, lastStart}
 use Rattle.job_record.specs.Fields.{restLength, wagons, entryCount, rankAt, ruleAt, ruleNumberAt, widthAt, startAt, rankOf, drawsAfter}
 use Rattle.job_record.specs.Number.{frameNumber, headNumbers, momentumNumber, settingsNumbers, drawsNumbers, runNumbers}
 use Rattle.job_record.proofs.Bounded.{bounded-passed}

@@ -1,4 +1,3 @@
-pub mod Limits
 pub mod Fields
 pub mod Number
 pub mod Reading

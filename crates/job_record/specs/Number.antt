@@ -6,12 +6,10 @@ use mathlib.Core.List.{List, [], _∷_, _++_}
 use lib.ListN.{length}
 use lib.Dec.{ltb, eqb}
 use Rattle.laws.specs.Refusal.{_if_, first, firstOf}
-use Rattle.tables.specs.Limits.{mostWagons, mostEntries, mostMagnitude}
+use Rattle.limits.specs.Limits.{mostWagons, mostEntries, mostMagnitude, mostRank, mostWidth, mostDraws, lastRule, lastStart, mostBytes}
 use Rattle.tables.specs.Check.{badEntry, unmirrored, hallMagnitude}
 use Rattle.job_reader.specs.Bytes.{bigEndian}
-use Rattle.run_limits.specs.Limits.{mostRank, mostWidth, mostDraws}
 use Rattle.run_limits.specs.Momentum.{isMomentum}
-use Rattle.job_record.specs.Limits.{mostBytes, lastRule, lastStart}
 use Rattle.job_record.specs.Fields.{restLength, version, wagons, entryCount, entryAt, row, column, entries, signedFrom, settingsAfter, rankAt, ruleAt, ruleNumberAt, startAt, rankOf, drawsAfter}
 
 -- the record ends before `end`

@@ -6,13 +6,11 @@ use mathlib.Core.List.{List, [], _∷_, _++_}
 use lib.Dec.{ltb, eqb}
 use Rattle.laws.specs.Refusal.{_if_}
 use Rattle.ieee.specs.Floats.{doubleOf}
-use Rattle.tables.specs.Limits.{mostWagons, mostEntries}
-use Rattle.run_limits.specs.Limits.{mostRank, mostWidth}
+use Rattle.limits.specs.Limits.{mostWagons, mostEntries, mostRank, mostWidth, lastRule, lastStart, mostBytes}
 use Rattle.run_limits.specs.Momentum.{isMomentum}
 use Rattle.job_reader.specs.Bytes.{valueOf, afterAll, taken}
 use Rattle.job_reader.specs.declared.Field.{Field}
 use Rattle.job_reader.specs.declared.Field.the-variants.{Value, Short}
-use Rattle.job_record.specs.Limits.{mostBytes, lastRule, lastStart}
 use Rattle.job_record.specs.declared.reading.HeadFields.{HeadFields}
 use Rattle.job_record.specs.declared.reading.SettingsFields.{SettingsFields}
 use Rattle.job_record.specs.declared.reading.HeadValues.{HeadValues}

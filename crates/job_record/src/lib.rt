@@ -1,7 +1,6 @@
 // The job record: its number, its fields, and its tables read into slices.
 pub mod arrays;
 pub mod job;
-pub mod limits;
 pub mod number;
 pub mod places;
 pub mod reading;

@@ -1,9 +1,6 @@
 // The number of a job record: the first refusal in reading order, or 0.
 use crate::arrays::read_entries;
 use crate::arrays::read_signed;
-use crate::limits::MOST_BYTES;
-use crate::limits::MOST_ENTRIES;
-use crate::limits::MOST_WAGONS;
 use crate::places::ENTRY;
 use crate::places::HEAD;
 use crate::places::entry_at;
@@ -14,9 +11,12 @@ use crate::reading::read_head;
 use crate::settings::limit_number;
 use crate::settings::run_number;
 use job_reader::Field;
+use limits::MOST_BYTES;
+use limits::MOST_ENTRIES;
+use limits::MOST_MAGNITUDE;
+use limits::MOST_WAGONS;
 use tables::check::bad_order;
 use tables::check::hall_too_large;
-use tables::limits::MOST_MAGNITUDE;
 use tables::mirror::unmirrored;
 ghost use mathlib.Core.Path.{_≡_};
 ghost use mathlib.Core.Bool.{not};
@@ -25,7 +25,7 @@ ghost use lib.ListN.{length};
 ghost use lib.Dec.{eqb};
 ghost use Rattle.laws.specs.Refusal.{first, orElse};
 ghost use Rattle.laws.specs.Lists.{elemZ};
-ghost use Rattle.tables.specs.Limits.{mostWagons, mostEntries};
+ghost use Rattle.limits.specs.Limits.{mostWagons, mostEntries};
 ghost use Rattle.job_record.specs.Fields.{entryAt, value};
 ghost use Rattle.job_record.specs.Reading.{fieldNumber, frameJudged, headJudged};
 ghost use Rattle.job_record.specs.Number.{entriesNumbers, costsNumbers, jobNumber};
@@ -136,7 +136,7 @@ fn costs_number(job: &[u8], n: usize, count: usize, values: &[i64]) -> u8
     if job.len() < settings_at(n, count) {
         return 11;
     }
-    let mut c = [0i64; tables::limits::MOST_WAGONS];
+    let mut c = [0i64; limits::MOST_WAGONS];
     read_signed(job, entry_at(count), n, &mut c);
     if hall_too_large(MOST_MAGNITUDE, n, count, values, &c) {
         return 16;
@@ -149,9 +149,9 @@ fn table_number(job: &[u8], n: usize, count: usize) -> u8
     requires { ⌜ (8 ≤ length (now job)) × (n ≤ mostWagons) × (count ≤ mostEntries) ⌝ }
     ensures { λ r. ⌜ r ≡ orElse (first (entriesNumbers (now (job .entry)) n count)) (first (costsNumbers (now (job .entry)) n count)) ⌝ }
 {
-    let mut rows = [0u16; tables::limits::MOST_ENTRIES];
-    let mut cols = [0u16; tables::limits::MOST_ENTRIES];
-    let mut values = [0i64; tables::limits::MOST_ENTRIES];
+    let mut rows = [0u16; limits::MOST_ENTRIES];
+    let mut cols = [0u16; limits::MOST_ENTRIES];
+    let mut values = [0i64; limits::MOST_ENTRIES];
     let entries = entries_number(job, n, count, &mut rows, &mut cols, &mut values);
     if entries != 0 {
         return entries;

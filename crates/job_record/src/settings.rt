@@ -1,9 +1,4 @@
 // The settings of a job record, its start and its draws: the first number from there on.
-use crate::limits::LAST_RULE;
-use crate::limits::LAST_START;
-use crate::limits::MOST_DRAWS;
-use crate::limits::MOST_RANK;
-use crate::limits::MOST_WIDTH;
 use crate::reading::SettingsFields;
 use crate::reading::read_draw_count;
 use crate::reading::read_settings;
@@ -12,6 +7,11 @@ use ieee::bits::double_of;
 use job_reader::Field;
 use job_reader::place_after;
 use job_reader::value_of;
+use limits::LAST_RULE;
+use limits::LAST_START;
+use limits::MOST_DRAWS;
+use limits::MOST_RANK;
+use limits::MOST_WIDTH;
 use run_limits::is_momentum;
 use run_limits::rank_meant;
 use run_limits::start_length;
@@ -21,21 +21,19 @@ ghost use Prim.Native.Nat.{_≤_};
 ghost use lib.Dec.{ltb, eqb};
 ghost use Rattle.ieee.specs.Floats.{doubleOf};
 ghost use Rattle.laws.specs.Refusal.{first};
-ghost use Rattle.tables.specs.Limits.{mostWagons};
-ghost use Rattle.run_limits.specs.Limits.{mostRank};
+ghost use Rattle.limits.specs.Limits.{mostWagons, mostRank, mostBytes};
 ghost use Rattle.run_limits.specs.Momentum.{isMomentum};
-ghost use Rattle.job_record.specs.Limits.{mostBytes};
 ghost use Rattle.job_record.specs.Reading.{isShort, fieldNumber, ruleJudged, startJudged, settingsJudged};
 ghost use Rattle.job_record.specs.Number.{drawsNumbers, runNumbers};
 
 // A field: 11 past the end, `number` above its limit.
-pub fn limit_number(field: Field, most: u64, number: u8) -> u8
+pub fn limit_number(field: Field, most: usize, number: u8) -> u8
     ensures { λ r. ⌜ r ≡ fieldNumber field (ltb most) number ⌝ }
 {
     match field {
         Field::Short => 11,
         Field::Value(value, _) => {
-            if most < value {
+            if (most as u64) < value {
                 return number;
             }
             0

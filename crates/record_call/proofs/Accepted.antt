@@ -16,10 +16,9 @@ use borrow.Author.Tests.{lt-ltb, ne-eqb}
 use Rattle.laws.specs.Lists.{elem, elemZ, tabulate}
 use Rattle.laws.proofs.Made.{length-tabulate, getD-tabulate}
 use Rattle.tables.specs.Table.{tableOf}
-use Rattle.tables.specs.Limits.{mostWagons, mostEntries, mostMagnitude}
+use Rattle.limits.specs.Limits.{mostWagons, mostEntries, mostMagnitude, mostRank, searchWorkspace}
 use Rattle.tables.specs.Check.{hallNumber}
 use Rattle.run_record.specs.declared.Run.{Run}
-use Rattle.run_limits.specs.Limits.{mostRank, searchWorkspace}
 use Rattle.run_limits.specs.Momentum.{isMomentum}
 use Rattle.run_limits.specs.Start.{isSigns, drawsFollow, startLength}
 use Rattle.run_record.specs.Numbers.{isStopped, tableShort, costTableNumber, badMomentum, sweepNumber, FinishLengths, widthRefused, finishNumber, openRankRefused}
@@ -111,24 +110,24 @@ module _ (s : List ℕ) (e : jobNumber s ≡ 0) where
   unfolding jobCosts
   few = fields s e .few
 
-  pub rank-some : 1 ≤ openRank (jobSettings s)
+  pub rank-some : 1 ≤ openRank (jobSettings (jobCosts s) s)
   unfolding jobSettings
   rank-some = meant-some (jobCosts s .n + 1) (jobOf s .rank)
 
-  pub rank-few : openRank (jobSettings s) ≤ 32
+  pub rank-few : openRank (jobSettings (jobCosts s) s) ≤ mostRank
   unfolding jobSettings
   rank-few = meant-low (jobCosts s .n + 1) (jobOf s .rank) (omega (arith, few)) rank-low
 
   -- the rank that is meant, and the start's numbers, as the record's reader counts them
-  pub rank-is : openRank (jobSettings s) ≡ jobRank s
+  pub rank-is : openRank (jobSettings (jobCosts s) s) ≡ jobRank s
   unfolding jobSettings jobCosts jobOf
   rank-is = refl
 
-  pub start-is : startLength (jobOf s .start) (jobCosts s .n + 1) (openRank (jobSettings s)) (jobOf s .most) ≡ jobStartCount s
+  pub start-is : startLength (jobOf s .start) (jobCosts s .n + 1) (openRank (jobSettings (jobCosts s) s)) (jobOf s .most) ≡ jobStartCount s
   unfolding jobSettings jobCosts jobOf
   start-is = refl
 
-  start-there : startLength (jobOf s .start) (jobCosts s .n + 1) (openRank (jobSettings s)) (jobOf s .most) ≤ length (tabulate (jobStart s) (jobStartCount s))
+  start-there : startLength (jobOf s .start) (jobCosts s .n + 1) (openRank (jobSettings (jobCosts s) s)) (jobOf s .most) ≤ length (tabulate (jobStart s) (jobStartCount s))
   start-there = let l = length-tabulate (jobStart s) (jobStartCount s) in omega (arith, start-is, l)
 
   kind-few : jobOf s .start ≤ 2
@@ -139,65 +138,65 @@ module _ (s : List ℕ) (e : jobNumber s ≡ 0) where
   unfolding jobOf
   rule-passed = let f = fields s e in (f .settings .rule, f .settings .momentum)
 
-  pub opens : (factor : ℕ) → openSize (jobSettings s) * openRank (jobSettings s) ≤ factor → openNumberOf (jobSettings s) factor ≡ 0
+  pub opens : (factor : ℕ) → openSize (jobSettings (jobCosts s) s) * openRank (jobSettings (jobCosts s) s) ≤ factor → openNumberOf (jobSettings (jobCosts s) s) factor ≡ 0
   unfolding jobSettings
   opens factor room =
       open-passes (jobCosts s) (jobOf s .rank) (jobOf s .rule) (jobOf s .«rule_number») (jobOf s .most) (jobOf s .start) _ factor (costs-there s) costs-pass start-there room
       rank-passed (rule-passes (jobOf s .rule) (jobOf s .«rule_number») (rule-passed .0) (rule-passed .1)) kind-few
 
   -- the start's factor has m rows of the rank that is meant
-  pub start-whole : length (startFactor (jobSettings s)) ≡ openSize (jobSettings s) * openRank (jobSettings s)
+  pub start-whole : length (startFactor (jobSettings (jobCosts s) s)) ≡ openSize (jobSettings (jobCosts s) s) * openRank (jobSettings (jobCosts s) s)
   unfolding startFactor
   start-whole =
-      let o = jobSettings s in
+      let o = jobSettings (jobCosts s) s in
       let ready = open-accepted o (openSize o * openRank o) (opens (openSize o * openRank o) (omega arith)) in
       length-start (isSigns (o .start)) (drawsFollow (o .most) (openRank o)) (openRank o) (openSize o) (o .numbers) (ready .numbers-room)
 
   -- ---- the record
 
-  just-opened : Sound (openSize (jobSettings s)) (openRank (jobSettings s)) (ruleOf (jobOf s .rule) (jobOf s .«rule_number»)) (jobOf s .most) (openRun (jobSettings s))
+  just-opened : Sound (openSize (jobSettings (jobCosts s) s)) (openRank (jobSettings (jobCosts s) s)) (ruleOf (jobOf s .rule) (jobOf s .«rule_number»)) (jobOf s .most) (openRun (jobSettings (jobCosts s) s))
   unfolding openRun jobSettings
   just-opened = record { size-is = refl; rank-is = refl; rule-is = refl; most-is = refl; sweeps-few = omega arith; status-few = omega arith }
 
   pub rule-good : (run : Run) → run .rule ≡ ruleOf (jobOf s .rule) (jobOf s .«rule_number») → badMomentum (run .rule) ≡ false
   rule-good run is = rw is (momentum-passes (jobOf s .rule) (jobOf s .«rule_number») (rule-passed .0) (rule-passed .1))
 
-  pub sweeps : 0 < jobOf s .most → (factor : ℕ) → used (openRun (jobSettings s)) ≤ factor → sweepNumber (openRun (jobSettings s)) (jobCosts s) factor ≡ 0
+  pub sweeps : 0 < jobOf s .most → (factor : ℕ) → used (openRun (jobSettings (jobCosts s) s)) ≤ factor → sweepNumber (openRun (jobSettings (jobCosts s) s)) (jobCosts s) factor ≡ 0
   unfolding openRun jobSettings
   sweeps some factor room =
-      sweep-passes (openRun (jobSettings s)) (jobCosts s) factor (costs-there s) room (is-open (jobOf s .most) some)
-      (open-record (openRun (jobSettings s)) (jobCosts s .n) refl rank-some rank-few some refl) costs-pass (rule-good (openRun (jobSettings s)) refl)
+      sweep-passes (openRun (jobSettings (jobCosts s) s)) (jobCosts s) factor (costs-there s) room (is-open (jobOf s .most) some)
+      (open-record (openRun (jobSettings (jobCosts s) s)) (jobCosts s .n) refl rank-some rank-few some refl) costs-pass (rule-good (openRun (jobSettings (jobCosts s) s)) refl)
 
   -- the plain run's state is what open and sweep leave; where the most is 0 no sweep is made, and none is left
-  pub stopped-is : stateOf (stopped s) ≡ sweepsUpTo (jobOf s .most) (callWork (jobCosts s)) (openRun (jobSettings s)) (startFactor (jobSettings s))
+  pub stopped-is : stateOf (stopped (jobCosts s) s) ≡ sweepsUpTo (jobOf s .most) (callWork (jobCosts s)) (openRun (jobSettings (jobCosts s) s)) (startFactor (jobSettings (jobCosts s) s))
   unfolding stopped opened
   stopped-is =
-      ap stateOf (none (jobOf s .most) (callWork (jobCosts s)) (plainOpen (jobSettings s))) ∙ opened-follows (jobSettings s) (jobOf s .most) (callWork (jobCosts s))
+      ap stateOf (none (jobOf s .most) (callWork (jobCosts s)) (plainOpen (jobSettings (jobCosts s) s))) ∙ opened-follows (jobSettings (jobCosts s) s) (jobOf s .most) (callWork (jobCosts s))
 
-  run-is : recordOf (stopped s) ≡ sweepsUpTo (jobOf s .most) (callWork (jobCosts s)) (openRun (jobSettings s)) (startFactor (jobSettings s)) .run
+  run-is : recordOf (stopped (jobCosts s) s) ≡ sweepsUpTo (jobOf s .most) (callWork (jobCosts s)) (openRun (jobSettings (jobCosts s) s)) (startFactor (jobSettings (jobCosts s) s)) .run
   unfolding stateOf
   run-is = ap (λ (x : State). x .run) stopped-is
 
-  factor-is : stopped s .factor ≡ sweepsUpTo (jobOf s .most) (callWork (jobCosts s)) (openRun (jobSettings s)) (startFactor (jobSettings s)) .factor
+  factor-is : stopped (jobCosts s) s .factor ≡ sweepsUpTo (jobOf s .most) (callWork (jobCosts s)) (openRun (jobSettings (jobCosts s) s)) (startFactor (jobSettings (jobCosts s) s)) .factor
   unfolding stateOf
   factor-is = ap (λ (x : State). x .factor) stopped-is
 
-  left : Running (openRun (jobSettings s))
+  left : Running (openRun (jobSettings (jobCosts s) s))
   unfolding openRun jobSettings
   left = some-left (jobOf s .most)
 
-  enough : openRun (jobSettings s) .most ≤ openRun (jobSettings s) .sweeps + jobOf s .most
+  enough : openRun (jobSettings (jobCosts s) s) .most ≤ openRun (jobSettings (jobCosts s) s) .sweeps + jobOf s .most
   unfolding openRun jobSettings
   enough = omega arith
 
-  pub stops : Ended (openSize (jobSettings s)) (openRank (jobSettings s)) (ruleOf (jobOf s .rule) (jobOf s .«rule_number»)) (jobOf s .most) (recordOf (stopped s))
+  pub stops : Ended (openSize (jobSettings (jobCosts s) s)) (openRank (jobSettings (jobCosts s) s)) (ruleOf (jobOf s .rule) (jobOf s .«rule_number»)) (jobOf s .most) (recordOf (stopped (jobCosts s) s))
   stops =
       rw run-is
-      (ends (jobOf s .most) (callWork (jobCosts s)) (openRun (jobSettings s)) (startFactor (jobSettings s)) just-opened left enough)
+      (ends (jobOf s .most) (callWork (jobCosts s)) (openRun (jobSettings (jobCosts s) s)) (startFactor (jobSettings (jobCosts s) s)) just-opened left enough)
 
   -- the factor keeps its m rows
-  pub factor-whole : length (stopped s .factor) ≡ openSize (jobSettings s) * openRank (jobSettings s)
-  factor-whole = rw factor-is (sweeps-long (jobOf s .most) (callWork (jobCosts s)) (openRun (jobSettings s)) (startFactor (jobSettings s)) ∙ start-whole)
+  pub factor-whole : length (stopped (jobCosts s) s .factor) ≡ openSize (jobSettings (jobCosts s) s) * openRank (jobSettings (jobCosts s) s)
+  factor-whole = rw factor-is (sweeps-long (jobOf s .most) (callWork (jobCosts s)) (openRun (jobSettings (jobCosts s) s)) (startFactor (jobSettings (jobCosts s) s)) ∙ start-whole)
 
   -- ---- finish
 
@@ -209,15 +208,15 @@ module _ (s : List ℕ) (e : jobNumber s ≡ 0) where
   unfolding jobOf
   settings-pass = let f = fields s e in width-passes _ _ (f .settings .width) (f .draws .some) (f .draws .few)
 
-  pub size-is : openSize (jobSettings s) ≡ jobCosts s .n + 1
+  pub size-is : openSize (jobSettings (jobCosts s) s) ≡ jobCosts s .n + 1
   unfolding jobSettings
   size-is = refl
 
-  pub finishes : (lent : FinishLengths) → jobDrawn s ≤ lent .draws → openSize (jobSettings s) * openRank (jobSettings s) ≤ lent .factor → jobCosts s .n ≤ lent .b
+  pub finishes : (lent : FinishLengths) → jobDrawn s ≤ lent .draws → openSize (jobSettings (jobCosts s) s) * openRank (jobSettings (jobCosts s) s) ≤ lent .factor → jobCosts s .n ≤ lent .b
       → jobCosts s .n + 1 ≤ lent .dual → searchWorkspace ≤ lent .workspace
-      → finishNumber (recordOf (stopped s)) (jobCosts s) (jobOf s .width) (jobOf s .«draw_count») lent ≡ 0
+      → finishNumber (recordOf (stopped (jobCosts s) s)) (jobCosts s) (jobOf s .width) (jobOf s .«draw_count») lent ≡ 0
   finishes lent ds fs bs ms ws =
-      let run = recordOf (stopped s) in
+      let run = recordOf (stopped (jobCosts s) s) in
       let sound = stops .sound in
       finish-passes run (jobCosts s) (jobOf s .width) (jobOf s .«draw_count») lent (costs-there s) (draws-fit (run .rank) (lent .draws) (sound .rank-is ∙ rank-is) ds)
       (rw (sound .size-is, sound .rank-is) fs) bs ms ws (stops .is-stopped)

@@ -14,7 +14,8 @@ use Rattle.run_contract.specs.declared.FinishResult.{FinishResult}
 use Rattle.job_record.specs.Number.{jobNumber}
 use Rattle.answer_record.specs.Answer.{answerBytes, refusalBytes}
 use Rattle.answer_record.specs.declared.answer.Answer.{Answer}
-use Rattle.record_call.specs.Record.{jobCosts, jobResult, jobChoice, fieldsOf, bytesBy, answerOf, leastAnswer, leastWorkspace, tooShort, callNumber, answerAfter}
+use Rattle.limits.specs.Limits.{mostWagons, leastAnswer}
+use Rattle.record_call.specs.Record.{jobCosts, jobResult, jobChoice, fieldsOf, bytesBy, answerOf, leastWorkspace, tooShort, callNumber, answerAfter}
 use Rattle.record_call.specs.Promise.{Answers}
 use Rattle.record_call.proofs.Accepted.{few}
 use Rattle.record_call.proofs.Figures.{n-is, rank-low}
@@ -23,13 +24,13 @@ use Rattle.record_call.proofs.Promise.{accepted-bytes, choice-size, fie
 -- ---- an accepted job
 
 module _ (s : List ℕ) (e : jobNumber s ≡ 0) where
-  pub bytes-hold : (x : FinishResult) → x ≡ jobResult s → (x .rank < 256) × (x .n < 256)
+  pub bytes-hold : (x : FinishResult) → x ≡ jobResult (jobCosts s) s → (x .rank < 256) × (x .n < 256)
   bytes-hold x is =
-      let rank : x .rank ≡ jobResult s .rank = ap (λ (y : FinishResult). y .rank) is in
+      let rank : x .rank ≡ jobResult (jobCosts s) s .rank = ap (λ (y : FinishResult). y .rank) is in
       let n : x .n ≡ jobCosts s .n = ap (λ (y : FinishResult). y .n) is ∙ n-is s e in
       (omega (arith, rank-low s e), omega (arith, few s e))
 
-  pub n-fits : (a : Answer) (x : FinishResult) → a ≡ fieldsOf x → x ≡ jobResult s → a .n ≤ 127
+  pub n-fits : (a : Answer) (x : FinishResult) → a ≡ fieldsOf x → x ≡ jobResult (jobCosts s) s → a .n ≤ mostWagons
   n-fits a x p q = let n : a .n ≡ jobCosts s .n = ap (λ (y : Answer). y .n) p ∙ ap (λ (y : FinishResult). y .n) q ∙ n-is s e in omega (arith, few s e)
 
   same-bytes : (a : Answer) (b b′ : List ℕ) → take (a .n) b ≡ take (a .n) b′ → answerBytes a b ≡ answerBytes a b′
@@ -37,11 +38,11 @@ module _ (s : List ℕ) (e : jobNumber s ≡ 0) where
   same-bytes a b b′ h = rw h
 
   -- a choice at the front of a slice is written as alone
-  pub written-bytes : (a : Answer) (x : FinishResult) (b b₀ : List ℕ) → a ≡ fieldsOf x → x ≡ jobResult s → b ≡ over (jobChoice s) b₀
-      → answerBytes a b ≡ answerBytes (fieldsOf (jobResult s)) (jobChoice s)
+  pub written-bytes : (a : Answer) (x : FinishResult) (b b₀ : List ℕ) → a ≡ fieldsOf x → x ≡ jobResult (jobCosts s) s → b ≡ over (jobChoice (jobCosts s) s) b₀
+      → answerBytes a b ≡ answerBytes (fieldsOf (jobResult (jobCosts s) s)) (jobChoice (jobCosts s) s)
   written-bytes a x b b₀ p q r =
       rw (p, q, r)
-      (same-bytes (fieldsOf (jobResult s)) (over (jobChoice s) b₀) (jobChoice s) (take-append-le (jobResult s .n) (jobChoice s) (drop (length (jobChoice s)) b₀) (omega (arith, n-is s e, choice-size s e))))
+      (same-bytes (fieldsOf (jobResult (jobCosts s) s)) (over (jobChoice (jobCosts s) s) b₀) (jobChoice (jobCosts s) s) (take-append-le (jobResult (jobCosts s) s .n) (jobChoice (jobCosts s) s) (drop (length (jobChoice (jobCosts s) s)) b₀) (omega (arith, n-is s e, choice-size s e))))
 
 -- ---- the call
 
@@ -95,13 +96,13 @@ module _ (job workspace answer : List ℕ) where
   number-none t is = first-skip 31 _ _ t ∙ first-next (jobNumber job) [] is ∙ first-end
 
   answer-left : (answer′ : List ℕ) → tooShort (length workspace) (length answer) ≡ false → jobNumber job ≡ 0
-      → answer′ ≡ over (answerBytes (fieldsOf (jobResult job)) (jobChoice job)) answer → answer′ ≡ answerAfter job (length workspace) answer
+      → answer′ ≡ over (answerBytes (fieldsOf (jobResult (jobCosts job) job)) (jobChoice (jobCosts job) job)) answer → answer′ ≡ answerAfter job (length workspace) answer
   unfolding answerAfter
   answer-left answer′ t is e = rw (t, accepted-bytes job is) e
 
   pub answers-accepted : ((i : ℕ) → getD job i 0 < 256) → (workspace′ answer′ : List ℕ) → drop leastWorkspace workspace′ ≡ drop leastWorkspace workspace
       → tooShort (length workspace) (length answer) ≡ false → jobNumber job ≡ 0
-      → answer′ ≡ over (answerBytes (fieldsOf (jobResult job)) (jobChoice job)) answer → Answers job workspace answer 0 workspace′ answer′
+      → answer′ ≡ over (answerBytes (fieldsOf (jobResult (jobCosts job) job)) (jobChoice (jobCosts job) job)) answer → Answers job workspace answer 0 workspace′ answer′
   answers-accepted bytes workspace′ answer′ tail t is e =
       record {
         numbered = sym (number-none t is);

@@ -13,7 +13,7 @@ use Rattle.laws.specs.Lists.{over, fill, tabulate}
 use Rattle.laws.proofs.MapFirst.{length-fill}
 use Rattle.laws.proofs.Made.{length-tabulate, tabulate-getD, over-all}
 use Rattle.ieee.specs.Floats.{zero64}
-use Rattle.tables.specs.Limits.{mostWagons, mostSigns, mostEntries}
+use Rattle.limits.specs.Limits.{mostWagons, mostEntries, mostSigns, mostRank, mostFactor, mostStart, mostDrawn}
 use Rattle.run_record.specs.declared.Run.{Run}
 use Rattle.run_record.specs.CostTable.{CostTable, costTable}
 use Rattle.run_sweep.specs.Work.{callWork}
@@ -30,8 +30,6 @@ use Rattle.run_contract.specs.declared.FinishResult.{FinishResult}
 use Rattle.run_contract.specs.Calls as Calls
 use Rattle.run_record.specs.Numbers.{sweepNumber, finishNumber}
 use Rattle.run_contract.specs.Calls.{Settings, openNumberOf, openSize, openRank, openRun, startFactor, used, finishResult, finishChoice, Opens, Finishes}
-use Rattle.run_limits.specs.Limits.{mostStart}
-use Rattle.job_record.specs.Limits.{mostDrawn}
 use Rattle.job_record.specs.Fields.{wagons, entryCount, row, column, value}
 use Rattle.job_record.specs.Number.{jobNumber}
 use Rattle.job_record.specs.Values.{jobOf, jobCost, jobRank, jobStartCount, jobStart, jobDrawn, jobDraw, Stored}
@@ -120,66 +118,66 @@ module _ {s : List ℕ} {j : Job} {rows cols : List ℕ} {values c : List ℤ} {
   abbrev asked : Settings
   asked = Calls.settingsOf costs (j .rank) (j .rule) (j .«rule_number») (j .most) (j .minimum) (j .«objective_tolerance») (j .«stationarity_tolerance») (j .start) start
 
-  asked-is : asked ≡ jobSettings s
+  asked-is : asked ≡ jobSettings (jobCosts s) s
   unfolding jobSettings
   asked-is = same-settings (d .costs-are) (d .job-is) (d .start-is)
 
-  pub opened-run : {answer : Opened} {factor factor′ : List Float} → length factor ≡ openSize (jobSettings s) * openRank (jobSettings s) → Opens asked factor answer factor′
-      → (answer ≡ O.Started (openRun (jobSettings s))) × (factor′ ≡ startFactor (jobSettings s))
+  pub opened-run : {answer : Opened} {factor factor′ : List Float} → length factor ≡ openSize (jobSettings (jobCosts s) s) * openRank (jobSettings (jobCosts s) s) → Opens asked factor answer factor′
+      → (answer ≡ O.Started (openRun (jobSettings (jobCosts s) s))) × (factor′ ≡ startFactor (jobSettings (jobCosts s) s))
   opened-run {answer} {factor} {factor′} whole o =
-      let o′ : Opens (jobSettings s) factor answer factor′ = subst (λ (x : Settings). Opens x factor answer factor′) asked-is o in
+      let o′ : Opens (jobSettings (jobCosts s) s) factor answer factor′ = subst (λ (x : Settings). Opens x factor answer factor′) asked-is o in
       let (is, made) = o′ .accepted (o′ .numbered ∙ opens s (d .accepted) (length factor) (omega (arith, whole))) in
-      (is, made ∙ over-all (startFactor (jobSettings s)) factor (whole ∙ sym (start-whole s (d .accepted))))
+      (is, made ∙ over-all (startFactor (jobSettings (jobCosts s) s)) factor (whole ∙ sym (start-whole s (d .accepted))))
 
   most-is : j .most ≡ jobOf s .most
   most-is = ap (λ (x : Job). x .most) (d .job-is)
 
-  opened-used : used (openRun (jobSettings s)) ≡ length (startFactor (jobSettings s))
+  opened-used : used (openRun (jobSettings (jobCosts s) s)) ≡ length (startFactor (jobSettings (jobCosts s) s))
   unfolding openRun
   opened-used = sym (start-whole s (d .accepted))
 
-  stopped-used : used (recordOf (stopped s)) ≡ length (stopped s .factor)
+  stopped-used : used (recordOf (stopped (jobCosts s) s)) ≡ length (stopped (jobCosts s) s .factor)
   stopped-used =
       let sound = stops s (d .accepted) .sound in
       rw (sound .size-is, sound .rank-is) (sym (factor-whole s (d .accepted)))
 
-  pub unswept-run : j .most ≡ 0 → (openRun (jobSettings s) ≡ recordOf (stopped s)) × (startFactor (jobSettings s) ≡ stopped s .factor)
+  pub unswept-run : j .most ≡ 0 → (openRun (jobSettings (jobCosts s) s) ≡ recordOf (stopped (jobCosts s) s)) × (startFactor (jobSettings (jobCosts s) s) ≡ stopped (jobCosts s) s .factor)
   unfolding stateOf
   unswept-run none =
-      let run = openRun (jobSettings s) in
-      let factor = startFactor (jobSettings s) in
+      let run = openRun (jobSettings (jobCosts s) s) in
+      let factor = startFactor (jobSettings (jobCosts s) s) in
       let w = callWork (jobCosts s) in
-      let e : stateOf (stopped s) ≡ record { run = run; factor = factor } =
+      let e : stateOf (stopped (jobCosts s) s) ≡ record { run = run; factor = factor } =
       stopped-is s (d .accepted) ∙ ap (λ (k : ℕ). sweepsUpTo k w run factor) (sym most-is ∙ none) ∙ sweeps-none w run factor in
       (sym (ap (λ (x : State). x .run) e), sym (ap (λ (x : State). x .factor) e))
 
   -- nothing refuses the open
-  pub opens-now : (factor : List Float) → length factor ≡ openSize (jobSettings s) * openRank (jobSettings s) → openNumberOf asked (length factor) ≡ 0
+  pub opens-now : (factor : List Float) → length factor ≡ openSize (jobSettings (jobCosts s) s) * openRank (jobSettings (jobCosts s) s) → openNumberOf asked (length factor) ≡ 0
   opens-now factor whole = subst (λ (x : Settings). openNumberOf x (length factor) ≡ 0) (sym asked-is) (opens s (d .accepted) (length factor) (omega (arith, whole)))
 
   -- nor the sweep
-  pub sweeps-now : {run : Run} {factor : List Float} → 0 < j .most → run ≡ openRun (jobSettings s) → factor ≡ startFactor (jobSettings s)
+  pub sweeps-now : {run : Run} {factor : List Float} → 0 < j .most → run ≡ openRun (jobSettings (jobCosts s) s) → factor ≡ startFactor (jobSettings (jobCosts s) s)
       → Sweeping run costs (length factor) × (length factor ≡ used run)
   sweeps-now {run} {factor} some is made =
-      let run₀ = openRun (jobSettings s) in
-      let factor₀ = startFactor (jobSettings s) in
+      let run₀ = openRun (jobSettings (jobCosts s) s) in
+      let factor₀ = startFactor (jobSettings (jobCosts s) s) in
       let none : sweepNumber run₀ costs (length factor₀) ≡ 0 =
       subst (λ (x : CostTable). sweepNumber run₀ x (length factor₀) ≡ 0) (sym (d .costs-are)) (sweeps s (d .accepted) (omega (arith, most-is)) (length factor₀) (omega (arith, opened-used))) in
       let at : Sweeping run₀ costs (length factor₀) × (length factor₀ ≡ used run₀) = (sweep-accepted run₀ costs (length factor₀) none, sym opened-used) in
       subst (λ (x : Run). Sweeping x costs (length factor) × (length factor ≡ used x)) (sym is)
       (subst (λ (x : List Float). Sweeping run₀ costs (length x) × (length x ≡ used run₀)) (sym made) at)
 
-  pub swept-run : {run run′ : Run} {factor factor′ : List Float} → run ≡ openRun (jobSettings s) → factor ≡ startFactor (jobSettings s)
+  pub swept-run : {run run′ : Run} {factor factor′ : List Float} → run ≡ openRun (jobSettings (jobCosts s) s) → factor ≡ startFactor (jobSettings (jobCosts s) s)
       → run′ ≡ sweepsUpTo (j .most) (callWork costs) run factor .run → factor′ ≡ sweepsUpTo (j .most) (callWork costs) run factor .factor
-      → (run′ ≡ recordOf (stopped s)) × (factor′ ≡ stopped s .factor)
+      → (run′ ≡ recordOf (stopped (jobCosts s) s)) × (factor′ ≡ stopped (jobCosts s) s .factor)
   unfolding stateOf
   swept-run {run} {run′} {factor} {factor′} is made after left =
-      let run₀ = openRun (jobSettings s) in
-      let e : sweepsUpTo (j .most) (callWork costs) run factor ≡ stateOf (stopped s) =
+      let run₀ = openRun (jobSettings (jobCosts s) s) in
+      let e : sweepsUpTo (j .most) (callWork costs) run factor ≡ stateOf (stopped (jobCosts s) s) =
       ap (λ (x : Run). sweepsUpTo (j .most) (callWork costs) x factor) is
       ∙ ap (λ (x : List Float). sweepsUpTo (j .most) (callWork costs) run₀ x) made
-      ∙ ap (λ (x : CostTable). sweepsUpTo (j .most) (callWork x) run₀ (startFactor (jobSettings s))) (d .costs-are)
-      ∙ ap (λ (x : ℕ). sweepsUpTo x (callWork (jobCosts s)) run₀ (startFactor (jobSettings s))) most-is
+      ∙ ap (λ (x : CostTable). sweepsUpTo (j .most) (callWork x) run₀ (startFactor (jobSettings (jobCosts s) s))) (d .costs-are)
+      ∙ ap (λ (x : ℕ). sweepsUpTo x (callWork (jobCosts s)) run₀ (startFactor (jobSettings (jobCosts s) s))) most-is
       ∙ sym (stopped-is s (d .accepted)) in
       (after ∙ ap (λ (x : State). x .run) e, left ∙ ap (λ (x : State). x .factor) e)
 
@@ -187,31 +185,31 @@ module _ {s : List ℕ} {j : Job} {rows cols : List ℕ} {values c : List ℤ} {
   unfolding jobDraws
   drawn-long = length-tabulate (jobDraw s) (jobDrawn s)
 
-  result-is : finishResult (recordOf (stopped s)) (jobCosts s) (jobOf s .width) (jobOf s .«draw_count») (jobDraws s) (stopped s .factor) ≡ jobResult s
+  result-is : finishResult (recordOf (stopped (jobCosts s) s)) (jobCosts s) (jobOf s .width) (jobOf s .«draw_count») (jobDraws s) (stopped (jobCosts s) s .factor) ≡ jobResult (jobCosts s) s
   unfolding jobResult
   result-is = refl
 
-  choice-is : finishChoice (recordOf (stopped s)) (jobCosts s) (jobOf s .width) (jobOf s .«draw_count») (jobDraws s) (stopped s .factor) ≡ jobChoice s
+  choice-is : finishChoice (recordOf (stopped (jobCosts s) s)) (jobCosts s) (jobOf s .width) (jobOf s .«draw_count») (jobDraws s) (stopped (jobCosts s) s .factor) ≡ jobChoice (jobCosts s) s
   unfolding jobChoice
   choice-is = refl
 
   -- nor the finish
-  pub finishes-now : {run : Run} {draws factor : List Float} (b : List ℕ) (dual : List Float) (workspace : List ℕ) → run ≡ recordOf (stopped s) → draws ≡ jobDraws s → factor ≡ stopped s .factor
+  pub finishes-now : {run : Run} {draws factor : List Float} (b : List ℕ) (dual : List Float) (workspace : List ℕ) → run ≡ recordOf (stopped (jobCosts s) s) → draws ≡ jobDraws s → factor ≡ stopped (jobCosts s) s .factor
       → mostWagons ≤ length b → mostSigns ≤ length dual → leastWorkspace ≤ length workspace
       → finishNumber run costs (j .width) (j .«draw_count») (Calls.finishLengths draws factor b dual workspace) ≡ 0
   finishes-now b dual workspace is ds made br dr wr =
       let n = few s (d .accepted) in
-      let lengths = Calls.finishLengths (jobDraws s) (stopped s .factor) b dual workspace in
+      let lengths = Calls.finishLengths (jobDraws s) (stopped (jobCosts s) s .factor) b dual workspace in
       let none = finishes s (d .accepted) lengths (omega (arith, drawn-long)) (omega (arith, factor-whole s (d .accepted))) (omega arith) (omega arith) wr in
       rw (is, ds, made, d .costs-are, ap (λ (x : Job). x .width) (d .job-is), ap (λ (x : Job). x .«draw_count») (d .job-is)) none
 
-  pub finished : {run : Run} {draws factor : List Float} {b b′ : List ℕ} {dual dual′ : List Float} {workspace workspace′ : List ℕ} {answer : Finished} → run ≡ recordOf (stopped s) → draws ≡ jobDraws s → factor ≡ stopped s .factor
+  pub finished : {run : Run} {draws factor : List Float} {b b′ : List ℕ} {dual dual′ : List Float} {workspace workspace′ : List ℕ} {answer : Finished} → run ≡ recordOf (stopped (jobCosts s) s) → draws ≡ jobDraws s → factor ≡ stopped (jobCosts s) s .factor
       → mostWagons ≤ length b → mostSigns ≤ length dual → leastWorkspace ≤ length workspace
       → Finishes run costs (j .width) (j .«draw_count») draws factor b dual workspace answer b′ dual′ workspace′
-      → (answer ≡ F.Result (jobResult s)) × (b′ ≡ over (jobChoice s) b)
+      → (answer ≡ F.Result (jobResult (jobCosts s) s)) × (b′ ≡ over (jobChoice (jobCosts s) s) b)
   finished {run} {draws} {factor} {b} {b′} {dual} {dual′} {workspace} {workspace′} {answer} is ds made br dr wr f =
-      let run₀ = recordOf (stopped s) in
-      let factor₀ = stopped s .factor in
+      let run₀ = recordOf (stopped (jobCosts s) s) in
+      let factor₀ = stopped (jobCosts s) s .factor in
       let width = jobOf s .width in
       let drawCount = jobOf s .«draw_count» in
       let g : Finishes run₀ (jobCosts s) width drawCount (jobDraws s) factor₀ b dual workspace answer b′ dual′ workspace′ =
@@ -226,12 +224,12 @@ module _ {s : List ℕ} {j : Job} {rows cols : List ℕ} {values c : List ℤ} {
       )
 
   -- the size of the factor
-  pub sizes : (rank : ℕ) → rank ≡ jobRank s → (j .n ≤ 127) × ((j .n + 1) * rank ≤ 4096) × ((j .n + 1) * rank ≡ openSize (jobSettings s) * openRank (jobSettings s))
+  pub sizes : (rank : ℕ) → rank ≡ jobRank s → (j .n ≤ mostWagons) × ((j .n + 1) * rank ≤ mostFactor) × ((j .n + 1) * rank ≡ openSize (jobSettings (jobCosts s) s) * openRank (jobSettings (jobCosts s) s))
   sizes rank is =
       let n : j .n ≡ jobCosts s .n = ap (λ (t : CostTable). t .n) (d .costs-are) in
       let low = few s (d .accepted) in
-      let r : rank ≡ openRank (jobSettings s) = is ∙ sym (rank-is s (d .accepted)) in
-      let within : (j .n + 1) * rank ≤ 128 * 32 = area (j .n + 1) rank 128 32 (omega arith) (rw r (rank-few s (d .accepted))) in
+      let r : rank ≡ openRank (jobSettings (jobCosts s) s) = is ∙ sym (rank-is s (d .accepted)) in
+      let within : (j .n + 1) * rank ≤ mostFactor = area (j .n + 1) rank mostSigns mostRank (omega arith) (rw r (rank-few s (d .accepted))) in
       (omega arith, omega (arith, within), rw (r, n, ← (size-is s (d .accepted))))
 
 -- ---- answers that are told apart

@@ -20,7 +20,7 @@ use Rattle.laws.proofs.Made.{over-all}
 use Rattle.tables.specs.Table.{Table, magnitudeOf, floorTerm, floorOf}
 use Rattle.tables.specs.Bound.{entrywise}
 use Rattle.tables.specs.Check.{Hall}
-use Rattle.tables.specs.Limits.{mostWagons, mostEntries, mostMagnitude}
+use Rattle.limits.specs.Limits.{mostWagons, mostEntries, mostMagnitude, mostSignMagnitude, mostRank}
 use Rattle.tables.proofs.Checks.{hall-accepted}
 use Rattle.tables.proofs.Shares.{abs-least}
 use Rattle.sign_table.specs.SignTable.{signTable}
@@ -43,10 +43,10 @@ use Rattle.record_call.proofs.Accepted.{costs-pass, few, stops, rank-fe
 -- ---- what a finish finds, of any hall
 
 module _ {n : ℕ} {h : Table} {c : ℕ → ℤ} (hall : Hall mostWagons mostEntries mostMagnitude n h c) (rank : ℕ) (factor draws : List Float) (drawCount width : ℕ) where
-  small : magnitudeOf (signTable n h c) ≤ 2 ^ 42
+  small : magnitudeOf (signTable n h c) ≤ mostSignMagnitude
   small = hall-sign-table hall .magnitude
 
-  floor-low : natAbs (floorEighths n h c) ≤ 2 ^ 42
+  floor-low : natAbs (floorEighths n h c) ≤ mostSignMagnitude
   unfolding floorEighths
   floor-low =
       let t = signTable n h c in
@@ -54,11 +54,11 @@ module _ {n : ℕ} {h : Table} {c : ℕ → ℤ} (hall : Hall mostWagons mostEnt
       sum-bounded 1 (t .count) (t .count) (floorTerm t) (λ l. natAbs (t .value l)) (λ l. abs-least (t .row l) (t .column l) (t .value l)) (omega arith) in
       omega (arith, b, small)
 
-  rounded-low : natAbs (roundedCost n h c rank factor draws drawCount) ≤ 2 ^ 43
+  rounded-low : natAbs (roundedCost n h c rank factor draws drawCount) ≤ 2 * mostSignMagnitude
   unfolding roundedCost
   rounded-low = objective-abs (hall-mirrors hall) small (roundedSigns n h c rank factor draws drawCount)
 
-  cost-low : natAbs (searchedCost n h c rank factor draws drawCount width) ≤ 2 ^ 43
+  cost-low : natAbs (searchedCost n h c rank factor draws drawCount width) ≤ 2 * mostSignMagnitude
   unfolding searchedCost
   cost-low = objective-abs (hall-mirrors hall) small (searchResult n h c rank factor draws drawCount width .answer)
 
@@ -93,7 +93,7 @@ module _ {n : ℕ} {h : Table} {c : ℕ → ℤ} (hall : Hall mostWagons mostEnt
         few (searchedRounds n h c rank factor draws drawCount width) (roundedCost n h c rank factor draws drawCount) (searchedCost n h c rank factor draws drawCount width)
         (demanded .rounds-few) rounded-low cost-low
       where
-        few : (rounds : ℕ) (a b : ℤ) → pos (4 * rounds) ≤ℤ (a -ℤ b) → natAbs a ≤ 2 ^ 43 → natAbs b ≤ 2 ^ 43 → rounds < 2 ^ 64
+        few : (rounds : ℕ) (a b : ℤ) → pos (4 * rounds) ≤ℤ (a -ℤ b) → natAbs a ≤ 2 * mostSignMagnitude → natAbs b ≤ 2 * mostSignMagnitude → rounds < 2 ^ 64
         few rounds a b d x y = omega (integers, add-parts a (negℤ b), neg-⁺ b, neg-⁻ b, abs-parts a, abs-parts b)
 
 rounds-low : {n : ℕ} {h : Table} {c : ℕ → ℤ} → Hall mostWagons mostEntries mostMagnitude n h c → (rank : ℕ) (factor draws : List Float) (drawCount width : ℕ)
@@ -117,19 +117,19 @@ module _ (s : List ℕ) (e : jobNumber s ≡ 0) where
   pub job-hall : Hall mostWagons mostEntries mostMagnitude (jobCosts s .n) (quadratic (jobCosts s)) (linear (jobCosts s))
   job-hall = hall-accepted (costs-pass s e)
 
-  pub n-is : jobResult s .n ≡ jobCosts s .n
+  pub n-is : jobResult (jobCosts s) s .n ≡ jobCosts s .n
   unfolding jobResult finishResult
   n-is = refl
 
-  pub rank-low : jobResult s .rank ≤ 32
+  pub rank-low : jobResult (jobCosts s) s .rank ≤ mostRank
   unfolding jobResult finishResult
   rank-low = rw (stops s e .sound .rank-is) (rank-few s e)
 
-  status-low : jobResult s .status ≤ 2
+  status-low : jobResult (jobCosts s) s .status ≤ 2
   unfolding jobResult finishResult
   status-low = stops s e .sound .status-few
 
-  sweeps-low : jobResult s .sweeps ≤ jobOf s .most
+  sweeps-low : jobResult (jobCosts s) s .sweeps ≤ jobOf s .most
   unfolding jobResult finishResult
   sweeps-low = stops s e .sound .sweeps-few
 
@@ -138,20 +138,20 @@ module _ (s : List ℕ) (e : jobNumber s ≡ 0) where
   most-low bytes = read-low s bytes (settingsPlace s + 10) 4
 
   -- each double is a sum or a difference, rounded
-  relaxed-fits : T (fits binary64 (jobResult s .«relaxed_objective»))
+  relaxed-fits : T (fits binary64 (jobResult (jobCosts s) s .«relaxed_objective»))
   unfolding jobResult finishResult
   relaxed-fits = add-fits binary64 _ _
 
-  bound-fits : T (fits binary64 (jobResult s .«float_bound»))
+  bound-fits : T (fits binary64 (jobResult (jobCosts s) s .«float_bound»))
   unfolding jobResult finishResult floatBound entrywise
   bound-fits = sub-fits binary64 _ _
 
   -- of a job that is made of bytes
-  pub held : ((i : ℕ) → getD s i 0 < 256) → Held (fieldsOf (jobResult s))
+  pub held : ((i : ℕ) → getD s i 0 < 256) → Held (fieldsOf (jobResult (jobCosts s) s))
   unfolding jobResult finishResult recordOf
   held bytes =
-      let rank = stopped s .rank in
-      let factor = stopped s .factor in
+      let rank = stopped (jobCosts s) s .rank in
+      let factor = stopped (jobCosts s) s .factor in
       let draws = jobDraws s in
       let drawCount = jobOf s .«draw_count» in
       let width = jobOf s .width in

@@ -16,7 +16,8 @@ use Rattle.job_record.specs.Number.{jobNumber}
 use Rattle.answer_record.specs.Answer.{frameBytes, countBytes, floatBytes, eighthBytes, answerBytes, refusalBytes}
 use Rattle.answer_record.specs.declared.answer.Answer.{Answer}
 use Rattle.answer_record.proofs.Sizes.{length-frame, length-count, length-float, length-eighth}
-use Rattle.record_call.specs.Record.{jobResult, jobChoice, fieldsOf, bytesBy, answerOf, leastAnswer, leastWorkspace, tooShort, answerAfter}
+use Rattle.limits.specs.Limits.{leastAnswer}
+use Rattle.record_call.specs.Record.{jobCosts, jobResult, jobChoice, fieldsOf, bytesBy, answerOf, leastWorkspace, tooShort, answerAfter}
 use Rattle.record_call.proofs.Accepted.{few}
 use Rattle.record_call.proofs.Answering.{roomy}
 use Rattle.record_call.proofs.Figures.{n-is}
@@ -41,11 +42,11 @@ refusal-front k out = refl
 module _ (s out : List ℕ) where
   accepted-length : jobNumber s ≡ 0 → 4 + bigEndian (over (bytesBy 0 s) out) 0 4 ≡ length (bytesBy 0 s)
   accepted-length e =
-      let a = fieldsOf (jobResult s) in
+      let a = fieldsOf (jobResult (jobCosts s) s) in
       let low = few s e in
       let n = n-is s e in
-      let front = answer-front a (jobChoice s) out (omega arith) in
-      let size = answer-size a (jobChoice s) (omega (arith, choice-size s e)) in
+      let front = answer-front a (jobChoice (jobCosts s) s) out (omega arith) in
+      let size = answer-size a (jobChoice (jobCosts s) s) (omega (arith, choice-size s e)) in
       omega arith
 
   by-number : (n : ℕ) → jobNumber s ≡ n → 4 + bigEndian (over (bytesBy n s) out) 0 4 ≡ length (bytesBy n s)
@@ -56,14 +57,14 @@ module _ (s out : List ℕ) where
   unfolding answerOf
   record-length = by-number (jobNumber s) refl
 
-  -- it is at most 187 bytes
-  few-bytes : (n : ℕ) → jobNumber s ≡ n → length (bytesBy n s) ≤ 187
+  -- it fits the least answer slice
+  few-bytes : (n : ℕ) → jobNumber s ≡ n → length (bytesBy n s) ≤ leastAnswer
   few-bytes zero e =
-      let size = answer-size (fieldsOf (jobResult s)) (jobChoice s) (omega (arith, choice-size s e, n-is s e)) in
+      let size = answer-size (fieldsOf (jobResult (jobCosts s) s)) (jobChoice (jobCosts s) s) (omega (arith, choice-size s e, n-is s e)) in
       omega (arith, size, few s e, n-is s e)
   few-bytes (suc k) e = omega (arith, refusal-size (suc k))
 
-  pub record-few : length (answerOf s .bytes) ≤ 187
+  pub record-few : length (answerOf s .bytes) ≤ leastAnswer
   unfolding answerOf
   record-few = few-bytes (jobNumber s) refl
 

@@ -51,30 +51,30 @@ moved p q r s t d = rw (p, q, r, s, t) d
 
 module _ (s : List ℕ) (e : jobNumber s ≡ 0) where
   -- the answer's bytes
-  pub accepted-bytes : answerOf s .bytes ≡ answerBytes (fieldsOf (jobResult s)) (jobChoice s)
+  pub accepted-bytes : answerOf s .bytes ≡ answerBytes (fieldsOf (jobResult (jobCosts s) s)) (jobChoice (jobCosts s) s)
   unfolding answerOf
   accepted-bytes = rw e
 
-  pub choice-size : length (jobChoice s) ≡ jobCosts s .n
+  pub choice-size : length (jobChoice (jobCosts s) s) ≡ jobCosts s .n
   unfolding jobChoice recordOf
-  choice-size = length-choice (jobCosts s .n) (quadratic (jobCosts s)) (linear (jobCosts s)) (stopped s .rank) (stopped s .factor) (jobDraws s) (jobOf s .«draw_count») (jobOf s .width)
+  choice-size = length-choice (jobCosts s .n) (quadratic (jobCosts s)) (linear (jobCosts s)) (stopped (jobCosts s) s .rank) (stopped (jobCosts s) s .factor) (jobDraws s) (jobOf s .«draw_count») (jobOf s .width)
 
   -- over the front of any slice
   module _ (bytes : (i : ℕ) → getD s i 0 < 256) (out : List ℕ) where
     abbrev left : List ℕ
-    left = over (answerBytes (fieldsOf (jobResult s)) (jobChoice s)) out
+    left = over (answerBytes (fieldsOf (jobResult (jobCosts s) s)) (jobChoice (jobCosts s) s)) out
 
-    pub fields-read : Read.fieldsRead left ≡ fieldsOf (jobResult s)
-    fields-read = answer-back (fieldsOf (jobResult s)) (jobChoice s) out (held s e bytes)
+    pub fields-read : Read.fieldsRead left ≡ fieldsOf (jobResult (jobCosts s) s)
+    fields-read = answer-back (fieldsOf (jobResult (jobCosts s) s)) (jobChoice (jobCosts s) s) out (held s e bytes)
 
-    pub choice-read : Read.choiceRead left ≡ jobChoice s
+    pub choice-read : Read.choiceRead left ≡ jobChoice (jobCosts s) s
     choice-read =
-        choice-back (fieldsOf (jobResult s)) (jobChoice s) out (held s e bytes) (omega (arith, n-is s e, choice-size))
-        ∙ take-all (jobResult s .n) (jobChoice s) (omega (arith, n-is s e, choice-size))
+        choice-back (fieldsOf (jobResult (jobCosts s) s)) (jobChoice (jobCosts s) s) out (held s e bytes) (omega (arith, n-is s e, choice-size))
+        ∙ take-all (jobResult (jobCosts s) s .n) (jobChoice (jobCosts s) s) (omega (arith, n-is s e, choice-size))
 
     pub promise : 1 ≤ jobOf s .width → Promised s left
     unfolding jobResult finishResult jobChoice recordOf
     promise some =
         moved choice-read (ap (λ (a : Answer). a .floor) fields-read) (ap (λ (a : Answer). a .«rounded_cost») fields-read) (ap (λ (a : Answer). a .cost) fields-read)
         (ap (λ (a : Answer). a .rounds) fields-read)
-        (demanded (job-hall s e) (stopped s .rank) (stopped s .factor) (jobDraws s) (jobOf s .«draw_count») (jobOf s .width) some)
+        (demanded (job-hall s e) (stopped (jobCosts s) s .rank) (stopped (jobCosts s) s .factor) (jobDraws s) (jobOf s .«draw_count») (jobOf s .width) some)

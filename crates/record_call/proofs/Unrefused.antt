@@ -13,7 +13,7 @@ use Rattle.laws.proofs.Any.{any-none, any-not, or-none, and-right}
 use Rattle.tables.specs.Check.{shortTable}
 use Rattle.run_record.specs.declared.Run.{Run}
 use Rattle.run_record.specs.CostTable.{CostTable}
-use Rattle.run_limits.specs.Limits.{mostRank, mostWidth, mostDraws, searchWorkspace}
+use Rattle.limits.specs.Limits.{mostRank, mostWidth, mostDraws, searchWorkspace}
 use Rattle.run_limits.specs.Rank.{rankMeant}
 use Rattle.run_limits.specs.Momentum.{isMomentum}
 use Rattle.run_limits.specs.Start.{startLength}

@@ -13,7 +13,7 @@ use Rattle.record_call.specs.Record.{jobCosts, jobDraws, stopped, jobRes
 -- b, floor, rounded cost, cost and rounds of the answer, against the factor that the job's sweeps left
 abbrev pub Promised : List ℕ → List ℕ → Type 0
 Promised s answer =
-    Demand3 (jobCosts s .n) (quadratic (jobCosts s)) (linear (jobCosts s)) (stopped s .rank) (stopped s .factor) (jobDraws s) (jobOf s .«draw_count») (jobOf s .width)
+    Demand3 (jobCosts s .n) (quadratic (jobCosts s)) (linear (jobCosts s)) (stopped (jobCosts s) s .rank) (stopped (jobCosts s) s .factor) (jobDraws s) (jobOf s .«draw_count») (jobOf s .width)
     (Read.choiceRead answer) (Read.fieldsRead answer .floor) (Read.fieldsRead answer .«rounded_cost») (Read.fieldsRead answer .cost) (Read.fieldsRead answer .rounds)
 
 -- from the job's bytes and the lent slices to the number, and the slices at exit
@@ -24,5 +24,5 @@ pub record Answers (job workspace answer : List ℕ) (number : ℕ) (workspace�
   -- a longer workspace keeps its tail
   pub kept : drop leastWorkspace workspace′ ≡ drop leastWorkspace workspace
   -- status, rank, n, sweeps, relaxed objective, float bound, floor, rounded cost, cost and rounds of the result, and its choice
-  pub read : number ≡ 0 → (Read.fieldsRead answer′ ≡ fieldsOf (jobResult job)) × (Read.choiceRead answer′ ≡ jobChoice job)
+  pub read : number ≡ 0 → (Read.fieldsRead answer′ ≡ fieldsOf (jobResult (jobCosts job) job)) × (Read.choiceRead answer′ ≡ jobChoice (jobCosts job) job)
   pub promised : number ≡ 0 → 1 ≤ jobOf job .width → Promised job answer′

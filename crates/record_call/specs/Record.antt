@@ -7,7 +7,7 @@ use lib.ListN.{length}
 use lib.Ieee.{Float}
 use Rattle.laws.specs.Lists.{over, tabulate}
 use Rattle.laws.specs.Refusal.{first, _if_, anyOf}
-use Rattle.run_limits.specs.Limits.{searchWorkspace}
+use Rattle.limits.specs.Limits.{searchWorkspace, leastAnswer}
 use Rattle.run_record.specs.CostTable.{CostTable, costTable}
 use Rattle.run_sweep.specs.Work.{callWork}
 use Rattle.run_contract.specs.declared.FinishResult.{FinishResult}
@@ -28,31 +28,31 @@ jobCosts s =
     costTable (wagons s) (entryCount s) (tabulate (row s) (entryCount s)) (tabulate (column s) (entryCount s)) (tabulate (value s) (entryCount s))
     (tabulate (jobCost s) (wagons s))
 
--- of its open
-unfoldable pub jobSettings : List ℕ → Settings
-jobSettings s =
-    Calls.settingsOf (jobCosts s) (jobOf s .rank) (jobOf s .rule) (jobOf s .«rule_number») (jobOf s .most) (jobOf s .minimum) (jobOf s .«objective_tolerance»)
+-- of its open, over the table of the run
+unfoldable pub jobSettings : CostTable → List ℕ → Settings
+jobSettings t s =
+    Calls.settingsOf t (jobOf s .rank) (jobOf s .rule) (jobOf s .«rule_number») (jobOf s .most) (jobOf s .minimum) (jobOf s .«objective_tolerance»)
     (jobOf s .«stationarity_tolerance») (jobOf s .start) (tabulate (jobStart s) (jobStartCount s))
 
 unfoldable pub jobDraws : List ℕ → List Float
 jobDraws s = tabulate (jobDraw s) (jobDrawn s)
 
--- ---- the run: 01's plain run (run_contract/specs/PlainRun)
+-- ---- the run over a table: 01's plain run (run_contract/specs/PlainRun)
 
 -- after the job's open
-unfoldable pub opened : List ℕ → Plain
-opened s = plainOpen (jobSettings s)
+unfoldable pub opened : CostTable → List ℕ → Plain
+opened t s = plainOpen (jobSettings t s)
 
 -- and, where its most is above 0, a sweep up to the most
-unfoldable pub stopped : List ℕ → Plain
-stopped s = cond (ltb 0 (jobOf s .most)) (plainSweeps (jobOf s .most) (callWork (jobCosts s)) (opened s)) (opened s)
+unfoldable pub stopped : CostTable → List ℕ → Plain
+stopped t s = cond (ltb 0 (jobOf s .most)) (plainSweeps (jobOf s .most) (callWork t) (opened t s)) (opened t s)
 
 -- what a finish gives then, and its choice
-unfoldable pub jobResult : List ℕ → FinishResult
-jobResult s = finishResult (recordOf (stopped s)) (jobCosts s) (jobOf s .width) (jobOf s .«draw_count») (jobDraws s) (stopped s .factor)
+unfoldable pub jobResult : CostTable → List ℕ → FinishResult
+jobResult t s = finishResult (recordOf (stopped t s)) t (jobOf s .width) (jobOf s .«draw_count») (jobDraws s) (stopped t s .factor)
 
-unfoldable pub jobChoice : List ℕ → List ℕ
-jobChoice s = finishChoice (recordOf (stopped s)) (jobCosts s) (jobOf s .width) (jobOf s .«draw_count») (jobDraws s) (stopped s .factor)
+unfoldable pub jobChoice : CostTable → List ℕ → List ℕ
+jobChoice t s = finishChoice (recordOf (stopped t s)) t (jobOf s .width) (jobOf s .«draw_count») (jobDraws s) (stopped t s .factor)
 
 -- ---- the answer
 
@@ -79,7 +79,7 @@ pub record JobAnswer : Type 0 where
 
 -- the bytes by the number: an accepted job's answer record, or a refusal's six bytes
 abbrev pub bytesBy : ℕ → List ℕ → List ℕ
-bytesBy zero s = answerBytes (fieldsOf (jobResult s)) (jobChoice s)
+bytesBy zero s = answerBytes (fieldsOf (jobResult (jobCosts s) s)) (jobChoice (jobCosts s) s)
 bytesBy (suc k) s = refusalBytes (suc k)
 
 -- of a job's bytes: "An accepted job's answer record holds what a finish gives after that job's open and, where its most is above 0, a sweep up
@@ -89,10 +89,7 @@ answerOf s = record { number = jobNumber s; bytes = bytesBy (jobNumber s) s }
 
 -- ---- the call, lent a workspace of so many bytes and an answer slice
 
--- an answer slice and a workspace of fewer bytes are too short
-abbrev pub leastAnswer : ℕ
-leastAnswer = 187
-
+-- an answer slice of fewer than leastAnswer bytes is too short, and a workspace of fewer than these
 abbrev pub leastWorkspace : ℕ
 leastWorkspace = searchWorkspace
 

@@ -5,21 +5,20 @@ use answer_record::answer::Answer;
 use answer_record::answer::write_answer;
 use answer_record::answer::write_refusal;
 use job_record::number::job_number;
+use limits::LEAST_ANSWER;
+use limits::MOST_WAGONS;
+use limits::SEARCH_WORKSPACE;
 use run::job_result;
 use run_contract::FinishResult;
-use run_limits::SEARCH_WORKSPACE;
-use tables::limits::MOST_WAGONS;
 ghost use mathlib.Core.Path.{_≡_};
 ghost use Prim.Native.Nat.{_≤_, _<_};
 ghost use lib.ListN.{length};
 ghost use Rattle.laws.specs.Lists.{over};
 ghost use Rattle.job_record.specs.Number.{jobNumber};
 ghost use Rattle.answer_record.specs.Answer.{answerBytes};
-ghost use Rattle.record_call.specs.Record.{jobResult, jobChoice, fieldsOf, leastAnswer, leastWorkspace};
+ghost use Rattle.limits.specs.Limits.{leastAnswer};
+ghost use Rattle.record_call.specs.Record.{jobCosts, jobResult, jobChoice, fieldsOf, leastWorkspace};
 ghost use Rattle.record_call.specs.Promise.{Answers};
-
-// An answer slice of fewer bytes is too short: 60 bytes before b, and 127 of b.
-pub const LEAST_ANSWER: usize = 187;
 
 // The fields of an answer record.
 fn fields_of(x: FinishResult) -> Answer
@@ -43,7 +42,7 @@ fn fields_of(x: FinishResult) -> Answer
 // The answer record of an accepted job.
 fn answer_job(job: &[u8], workspace: &mut [u8], answer: &mut [u8])
     requires { ⌜ (jobNumber (now job) ≡ 0) × (leastWorkspace ≤ length (now workspace)) × (leastAnswer ≤ length (now answer)) ⌝ }
-    ensures { λ _. ⌜ now (answer .exit) ≡ over (answerBytes (fieldsOf (jobResult (now (job .entry)))) (jobChoice (now (job .entry)))) (now (answer .entry)) ⌝ }
+    ensures { λ _. ⌜ now (answer .exit) ≡ over (answerBytes (fieldsOf (jobResult (jobCosts (now (job .entry))) (now (job .entry)))) (jobChoice (jobCosts (now (job .entry))) (now (job .entry)))) (now (answer .entry)) ⌝ }
 {
     let mut b = [0u8; MOST_WAGONS];
     let result = job_result(job, &mut b, workspace);

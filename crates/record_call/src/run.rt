@@ -3,31 +3,28 @@ use job_record::job::Job;
 use job_record::job::job_rank;
 use job_record::job::job_start_count;
 use job_record::job::read_job;
-use job_record::limits::MOST_DRAWN;
+use limits::MOST_DRAWN;
+use limits::MOST_ENTRIES;
+use limits::MOST_FACTOR;
+use limits::MOST_SIGNS;
+use limits::MOST_START;
+use limits::MOST_WAGONS;
 use run_contract::FinishResult;
-use run_limits::MOST_START;
 use run_record::Run;
 use sdp_solver::finish::finish_accepted;
 use sdp_solver::open::open_accepted;
 use sdp_solver::sweep::sweep_accepted;
-use tables::limits::MOST_ENTRIES;
-use tables::limits::MOST_SIGNS;
-use tables::limits::MOST_WAGONS;
 ghost use mathlib.Core.Path.{_≡_};
 ghost use Prim.Native.Nat.{_+_, _*_, _≤_};
 ghost use lib.ListN.{length};
 ghost use Rattle.laws.specs.Lists.{over};
-ghost use Rattle.tables.specs.Limits.{mostWagons, mostSigns};
+ghost use Rattle.limits.specs.Limits.{mostWagons, mostSigns, mostDrawn};
 ghost use Rattle.run_contract.specs.Calls.{openSize, openRank};
 ghost use Rattle.run_contract.specs.PlainRun.{recordOf};
-ghost use Rattle.job_record.specs.Limits.{mostDrawn};
 ghost use Rattle.job_record.specs.Number.{jobNumber};
 ghost use Rattle.job_record.specs.Values.{jobOf, jobDrawn};
-ghost use Rattle.record_call.specs.Record.{jobSettings, jobDraws, stopped, jobResult, jobChoice, leastWorkspace};
+ghost use Rattle.record_call.specs.Record.{jobCosts, jobSettings, jobDraws, stopped, jobResult, jobChoice, leastWorkspace};
 ghost use Rattle.record_call.specs.Decoded.{Decoded};
-
-// As many numbers as any factor has.
-const MOST_NUMBERS: usize = 4096;
 
 // The job's open and, where its most is above 0, a sweep up to the most.
 fn run_job(
@@ -40,8 +37,8 @@ fn run_job(
     start: &[f64],
     factor: &mut [f64],
 ) -> Run
-    requires { ⌜ Decoded (now job) j (now rows) (now cols) (now values) (now c) (now start) × (length (now factor) ≡ openSize (jobSettings (now job)) * openRank (jobSettings (now job))) ⌝ }
-    ensures { λ r. ⌜ (r ≡ recordOf (stopped (now (job .entry)))) × (now (factor .exit) ≡ stopped (now (job .entry)) .factor) ⌝ }
+    requires { ⌜ Decoded (now job) j (now rows) (now cols) (now values) (now c) (now start) × (length (now factor) ≡ openSize (jobSettings (jobCosts (now job)) (now job)) * openRank (jobSettings (jobCosts (now job)) (now job))) ⌝ }
+    ensures { λ r. ⌜ (r ≡ recordOf (stopped (jobCosts (now (job .entry))) (now (job .entry)))) × (now (factor .exit) ≡ stopped (jobCosts (now (job .entry))) (now (job .entry)) .factor) ⌝ }
 {
     let run = open_accepted(
         j.n,
@@ -82,9 +79,9 @@ fn finish_run(
     dual: &mut [f64],
     workspace: &mut [u8],
 ) -> FinishResult
-    requires { ⌜ Decoded (now job) j (now rows) (now cols) (now values) (now c) (now start) × (now draws ≡ jobDraws (now job)) × (length (now factor) ≡ openSize (jobSettings (now job)) * openRank (jobSettings (now job)))
+    requires { ⌜ Decoded (now job) j (now rows) (now cols) (now values) (now c) (now start) × (now draws ≡ jobDraws (now job)) × (length (now factor) ≡ openSize (jobSettings (jobCosts (now job)) (now job)) * openRank (jobSettings (jobCosts (now job)) (now job)))
         × (mostWagons ≤ length (now b)) × (mostSigns ≤ length (now dual)) × (leastWorkspace ≤ length (now workspace)) ⌝ }
-    ensures { λ r. ⌜ (r ≡ jobResult (now (job .entry))) × (now (b .exit) ≡ over (jobChoice (now (job .entry))) (now (b .entry))) ⌝ }
+    ensures { λ r. ⌜ (r ≡ jobResult (jobCosts (now (job .entry))) (now (job .entry))) × (now (b .exit) ≡ over (jobChoice (jobCosts (now (job .entry))) (now (job .entry))) (now (b .entry))) ⌝ }
 {
     let run = run_job(job, j, rows, cols, values, c, start, factor);
     finish_accepted(
@@ -119,9 +116,9 @@ fn finish_job(
     workspace: &mut [u8],
 ) -> FinishResult
     requires { ⌜ Decoded (now job) j (now rows) (now cols) (now values) (now c) (now start) × (now draws ≡ jobDraws (now job)) × (mostWagons ≤ length (now b)) × (leastWorkspace ≤ length (now workspace)) ⌝ }
-    ensures { λ r. ⌜ (r ≡ jobResult (now (job .entry))) × (now (b .exit) ≡ over (jobChoice (now (job .entry))) (now (b .entry))) ⌝ }
+    ensures { λ r. ⌜ (r ≡ jobResult (jobCosts (now (job .entry))) (now (job .entry))) × (now (b .exit) ≡ over (jobChoice (jobCosts (now (job .entry))) (now (job .entry))) (now (b .entry))) ⌝ }
 {
-    let mut factor = [0.0f64; MOST_NUMBERS];
+    let mut factor = [0.0f64; MOST_FACTOR];
     let mut dual = [0.0f64; MOST_SIGNS];
     let rank = job_rank(job);
     let used = (j.n + 1) * rank;
@@ -153,7 +150,7 @@ fn drawn_numbers(job: &[u8], draw_count: usize) -> usize
 // What the finish of an accepted job gives; its choice over the front of b.
 pub fn job_result(job: &[u8], b: &mut [u8], workspace: &mut [u8]) -> FinishResult
     requires { ⌜ (jobNumber (now job) ≡ 0) × (mostWagons ≤ length (now b)) × (leastWorkspace ≤ length (now workspace)) ⌝ }
-    ensures { λ r. ⌜ (r ≡ jobResult (now (job .entry))) × (now (b .exit) ≡ over (jobChoice (now (job .entry))) (now (b .entry))) ⌝ }
+    ensures { λ r. ⌜ (r ≡ jobResult (jobCosts (now (job .entry))) (now (job .entry))) × (now (b .exit) ≡ over (jobChoice (jobCosts (now (job .entry))) (now (job .entry))) (now (b .entry))) ⌝ }
 {
     let mut rows = [0u16; MOST_ENTRIES];
     let mut cols = [0u16; MOST_ENTRIES];

@@ -12,7 +12,7 @@ use Rattle.laws.specs.Refusal.{orElse, first, firstOf, anyOf, short}
 use Rattle.tables.specs.Table.{valueAt, storedAt}
 use Rattle.tables.specs.Stored.{rowPlaces, places, valuesOf}
 use Rattle.tables.specs.Check.{before, badEntry, badOrder, shortTable}
-use Rattle.reduced.specs.Limits.{mostSize, mostEntries}
+use Rattle.limits.specs.Limits.{mostSignEntries, mostSize}
 use Rattle.reduced.specs.Indices.{outside, twice, indexRefused}
 use Rattle.reduced.specs.Lift.{liftedOf, liftShort, liftNumber}
 use Rattle.reduced.specs.Submatrix.{Slices, slicesOf, tableIn, reducedPlaces, valueIn, inputNumber, submatrixNumber}
@@ -60,10 +60,10 @@ none = slicesOf [] [] []
 
 limits : List ℕ
 limits =
-    submatrixNumber mostSize mostEntries 1024 0 none [] [] none
-    ∷ submatrixNumber mostSize mostEntries 1025 0 none [] [] none
-    ∷ submatrixNumber mostSize mostEntries 1024 4479 none [] [] none
-    ∷ submatrixNumber mostSize mostEntries 1024 4478 none [] [] none
+    submatrixNumber mostSize mostSignEntries 1024 0 none [] [] none
+    ∷ submatrixNumber mostSize mostSignEntries 1025 0 none [] [] none
+    ∷ submatrixNumber mostSize mostSignEntries 1024 4479 none [] [] none
+    ∷ submatrixNumber mostSize mostSignEntries 1024 4478 none [] [] none
     ∷ []
 
 limits-are : limits ≡ (0 ∷ 20 ∷ 13 ∷ 31 ∷ [])

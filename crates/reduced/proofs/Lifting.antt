@@ -15,7 +15,7 @@ use Rattle.laws.proofs.Refusal.{clear, first-here, first-skip, first-last, firs
 use Rattle.laws.proofs.Any.{any-head, any-rest, any-not, any-none}
 use Rattle.laws.proofs.MapFirst.{length-fill, getD-mapFirst}
 use Rattle.ieee.specs.Floats.{at, zero64}
-use Rattle.reduced.specs.Limits.{mostSize}
+use Rattle.limits.specs.Limits.{mostSize}
 use Rattle.reduced.specs.Indices.{indexRefused, putEach, Within, Mapped}
 use Rattle.reduced.specs.Lift.{liftedOf, liftShort, liftNumber, Lifts, LiftLent, LiftedAt, by-map, by-fixed, by-none}
 use Rattle.reduced.proofs.Put.{Last, found, none, length-put, put-last, put-beyond, beyond-mapFirst}

@@ -15,7 +15,7 @@ use Rattle.tables.specs.Table.{Lent}
 use Rattle.tables.specs.Stored.{Wrote, Room}
 use Rattle.tables.specs.Check.{badOrder}
 use Rattle.tables.proofs.Checks.{order-range, order-rising, order-passes, table-lent, lent-table}
-use Rattle.reduced.specs.Limits.{mostSize, mostEntries}
+use Rattle.limits.specs.Limits.{mostSignEntries, mostSize}
 use Rattle.reduced.specs.Indices.{indexRefused}
 use Rattle.reduced.specs.declared.from_principal_submatrix.Reduced.the-variants.{Count, Refused}
 use Rattle.reduced.specs.Submatrix.{Slices, tableIn, valueIn, reducedPlaces, slicesShort, inputNumber, submatrixNumber, Reduces, Input, Acceptable}
@@ -24,38 +24,38 @@ use Rattle.reduced.proofs.Distinct.{index-mapped, mapped-index, within-
 
 -- ---- 13, 14, 20
 
-module _ (mostSize mostEntries size count : ℕ) (rows cols map fixed : List ℕ) where
-  pub input-count : mostEntries < count → 13 ≡ inputNumber mostSize mostEntries size count rows cols map fixed
+module _ (mostSize mostSignEntries size count : ℕ) (rows cols map fixed : List ℕ) where
+  pub input-count : mostSignEntries < count → 13 ≡ inputNumber mostSize mostSignEntries size count rows cols map fixed
   unfolding inputNumber
   input-count h = sym (first-here 12 _ _ (lt-ltb _ _ h))
 
-  module _ (few : count ≤ mostEntries) {o : Bool} (is : o ≡ badOrder size (elem rows) (elem cols) count) where
-    pub input-order : o ≡ true → 14 ≡ inputNumber mostSize mostEntries size count rows cols map fixed
+  module _ (few : count ≤ mostSignEntries) {o : Bool} (is : o ≡ badOrder size (elem rows) (elem cols) count) where
+    pub input-order : o ≡ true → 14 ≡ inputNumber mostSize mostSignEntries size count rows cols map fixed
     unfolding inputNumber
     input-order n = sym (first-skip 13 _ _ (le-ltb _ _ few) ∙ first-here 13 _ _ (sym is ∙ n))
 
-    pub input-index : {r : ℕ} → o ≡ false → r ≡ 20 if indexRefused mostSize size map fixed → r ≡ inputNumber mostSize mostEntries size count rows cols map fixed
+    pub input-index : {r : ℕ} → o ≡ false → r ≡ 20 if indexRefused mostSize size map fixed → r ≡ inputNumber mostSize mostSignEntries size count rows cols map fixed
     unfolding inputNumber
     input-index z e = e ∙ sym (first-skip 13 _ _ (le-ltb _ _ few) ∙ first-skip 14 _ _ (sym is ∙ z) ∙ first-last _)
 
 -- ---- 31
 
-module _ {mostEntries count : ℕ} {s : Slices} where
-  pub slices-lent : slicesShort mostEntries count s ≡ false → count ≤ mostEntries → Lent count (s .rows) (s .cols) (s .values)
+module _ {mostSignEntries count : ℕ} {s : Slices} where
+  pub slices-lent : slicesShort mostSignEntries count s ≡ false → count ≤ mostSignEntries → Lent count (s .rows) (s .cols) (s .values)
   slices-lent e h = table-lent e h
 
-  pub lent-slices : count ≤ mostEntries → Lent count (s .rows) (s .cols) (s .values) → slicesShort mostEntries count s ≡ false
+  pub lent-slices : count ≤ mostSignEntries → Lent count (s .rows) (s .cols) (s .values) → slicesShort mostSignEntries count s ≡ false
   lent-slices h l = lent-table h l
 
 -- ---- the returns
 
 module _ {size count : ℕ} {from : Slices} {map fixed : List ℕ} {to : Slices} where
-  pub reduces-from : {b : Bool} → b ≡ slicesShort mostEntries count from → b ≡ true → Reduces size count from map fixed to (Refused 31) to
+  pub reduces-from : {b : Bool} → b ≡ slicesShort mostSignEntries count from → b ≡ true → Reduces size count from map fixed to (Refused 31) to
   unfolding submatrixNumber
   reduces-from e t =
       record { numbered = sym (first-here 30 _ _ (sym e ∙ t)); refused = λ _. refl; accepted = λ z. absurd (omega arith) }
 
-  pub reduces-to : {b d : Bool} → b ≡ slicesShort mostEntries count from → b ≡ false → d ≡ slicesShort mostEntries count to → d ≡ true
+  pub reduces-to : {b d : Bool} → b ≡ slicesShort mostSignEntries count from → b ≡ false → d ≡ slicesShort mostSignEntries count to → d ≡ true
       → Reduces size count from map fixed to (Refused 31) to
   unfolding submatrixNumber
   reduces-to e f g t =
@@ -67,17 +67,17 @@ module _ {size count : ℕ} {from : Slices} {map fixed : List ℕ} {to : Slices}
 
 -- the slices are long enough, and r is the number of the input
 pub record Judged (size count : ℕ) (from : Slices) (map fixed : List ℕ) (to : Slices) (r : ℕ) : Type 0 where
-  pub from-long : slicesShort mostEntries count from ≡ false
-  pub to-long : slicesShort mostEntries count to ≡ false
-  pub number : r ≡ inputNumber mostSize mostEntries size count (from .rows) (from .cols) map fixed
+  pub from-long : slicesShort mostSignEntries count from ≡ false
+  pub to-long : slicesShort mostSignEntries count to ≡ false
+  pub number : r ≡ inputNumber mostSize mostSignEntries size count (from .rows) (from .cols) map fixed
 
 pub judged : (size count : ℕ) (from : Slices) (map fixed : List ℕ) (to : Slices) {b d : Bool} {r : ℕ}
-    → b ≡ slicesShort mostEntries count from → b ≡ false → d ≡ slicesShort mostEntries count to → d ≡ false
-    → r ≡ inputNumber mostSize mostEntries size count (from .rows) (from .cols) map fixed → Judged size count from map fixed to r
+    → b ≡ slicesShort mostSignEntries count from → b ≡ false → d ≡ slicesShort mostSignEntries count to → d ≡ false
+    → r ≡ inputNumber mostSize mostSignEntries size count (from .rows) (from .cols) map fixed → Judged size count from map fixed to r
 judged size count from map fixed to e f g h n = record { from-long = sym e ∙ f; to-long = sym g ∙ h; number = n }
 
 module _ {size count : ℕ} {from : Slices} {map fixed : List ℕ} {to : Slices} {r : ℕ} (j : Judged size count from map fixed to r) where
-  is-number : r ≡ submatrixNumber mostSize mostEntries size count from map fixed to
+  is-number : r ≡ submatrixNumber mostSize mostSignEntries size count from map fixed to
   unfolding submatrixNumber
   is-number = j .number ∙ sym (first-skip 31 _ _ (j .from-long) ∙ first-skip 31 _ _ (j .to-long) ∙ first-last _)
 
@@ -91,28 +91,28 @@ module _ {size count : ℕ} {from : Slices} {map fixed : List ℕ} {to : Slices}
 
 -- ---- where the input is not refused
 
-module _ {mostSize mostEntries size count : ℕ} {from : Slices} {map fixed : List ℕ} where
-  pub input-accepted : inputNumber mostSize mostEntries size count (from .rows) (from .cols) map fixed ≡ 0 → Input mostSize mostEntries size count from map fixed
+module _ {mostSize mostSignEntries size count : ℕ} {from : Slices} {map fixed : List ℕ} where
+  pub input-accepted : inputNumber mostSize mostSignEntries size count (from .rows) (from .cols) map fixed ≡ 0 → Input mostSize mostSignEntries size count from map fixed
   unfolding inputNumber
   input-accepted e =
-      let e₁ = first-rest (13 if ltb mostEntries count) _ e in
+      let e₁ = first-rest (13 if ltb mostSignEntries count) _ e in
       let order = clear _ 13 (first-head (14 if badOrder size (elem (from .rows)) (elem (from .cols)) count) _ e₁) in
       let e₂ = first-rest (14 if badOrder size (elem (from .rows)) (elem (from .cols)) count) _ e₁ in
       record {
-        few = ltb-false _ _ (clear _ 12 (first-head (13 if ltb mostEntries count) _ e));
+        few = ltb-false _ _ (clear _ 12 (first-head (13 if ltb mostSignEntries count) _ e));
         in-range = order-range size (tableIn count from) order;
         rising = order-rising size (tableIn count from) order;
         mapped = index-mapped (clear _ 19 (first-head (20 if indexRefused mostSize size map fixed) [] e₂));
       }
 
-  pub input-passes : Input mostSize mostEntries size count from map fixed → inputNumber mostSize mostEntries size count (from .rows) (from .cols) map fixed ≡ 0
+  pub input-passes : Input mostSize mostSignEntries size count from map fixed → inputNumber mostSize mostSignEntries size count (from .rows) (from .cols) map fixed ≡ 0
   unfolding inputNumber
   input-passes i =
       first-skip 13 _ _ (le-ltb _ _ (i .few))
       ∙ first-skip 14 _ _ (order-passes size (tableIn count from) (i .in-range) (i .rising))
       ∙ first-skip 20 _ _ (mapped-index (i .mapped)) ∙ first-end
 
-  pub input-reducible : Input mostSize mostEntries size count from map fixed → Reducible mostSize mostEntries (tableIn count from) map
+  pub input-reducible : Input mostSize mostSignEntries size count from map fixed → Reducible mostSize mostSignEntries (tableIn count from) map
   input-reducible i =
       record {
         entries = i .few;
@@ -126,12 +126,12 @@ module _ {mostSize mostEntries size count : ℕ} {from : Slices} {map fixed : Li
       }
 
 -- what the input's check asks of the slices, and the writing of them, the table and the map
-pub count-lent : {mostEntries count : ℕ} (s : Slices) {b : Bool} → b ≡ slicesShort mostEntries count s → b ≡ false
-    → count ≤ mostEntries → (count ≤ length (s .rows)) × (count ≤ length (s .cols))
+pub count-lent : {mostSignEntries count : ℕ} (s : Slices) {b : Bool} → b ≡ slicesShort mostSignEntries count s → b ≡ false
+    → count ≤ mostSignEntries → (count ≤ length (s .rows)) × (count ≤ length (s .cols))
 count-lent s e f h = let l = slices-lent {s = s} (sym e ∙ f) h in (l .rows-there, l .cols-there)
 
 pub judged-asks : {size count : ℕ} {from : Slices} {map fixed : List ℕ} {to : Slices} {r : ℕ} → Judged size count from map fixed to r → r ≡ 0
-    → Lent count (from .rows) (from .cols) (from .values) × Reducible mostSize mostEntries (tableIn count from) map × Room 0 count (to .rows) (to .cols) (to .values)
+    → Lent count (from .rows) (from .cols) (from .values) × Reducible mostSize mostSignEntries (tableIn count from) map × Room 0 count (to .rows) (to .cols) (to .values)
 judged-asks {from = from} {to = to} j z =
     let i = input-accepted {from = from} (sym (j .number) ∙ z) in
     let l = slices-lent {s = to} (j .to-long) (i .few) in (
@@ -142,20 +142,20 @@ judged-asks {from = from} {to = to} j z =
 
 -- ---- the theorem: nothing is refused exactly where the slices are long enough and the input is as it should be
 
-module _ {mostSize mostEntries size count : ℕ} {from : Slices} {map fixed : List ℕ} {to : Slices} where
-  pub submatrix-accepted : submatrixNumber mostSize mostEntries size count from map fixed to ≡ 0 → Acceptable mostSize mostEntries size count from map fixed to
+module _ {mostSize mostSignEntries size count : ℕ} {from : Slices} {map fixed : List ℕ} {to : Slices} where
+  pub submatrix-accepted : submatrixNumber mostSize mostSignEntries size count from map fixed to ≡ 0 → Acceptable mostSize mostSignEntries size count from map fixed to
   unfolding submatrixNumber
   submatrix-accepted e =
-      let e₁ = first-rest (31 if slicesShort mostEntries count from) _ e in
-      let e₂ = first-rest (31 if slicesShort mostEntries count to) _ e₁ in
-      let i = input-accepted {from = from} (first-head (inputNumber mostSize mostEntries size count (from .rows) (from .cols) map fixed) [] e₂) in
+      let e₁ = first-rest (31 if slicesShort mostSignEntries count from) _ e in
+      let e₂ = first-rest (31 if slicesShort mostSignEntries count to) _ e₁ in
+      let i = input-accepted {from = from} (first-head (inputNumber mostSize mostSignEntries size count (from .rows) (from .cols) map fixed) [] e₂) in
       record {
-        from-lent = slices-lent {s = from} (clear _ 30 (first-head (31 if slicesShort mostEntries count from) _ e)) (i .few);
-        to-lent = slices-lent {s = to} (clear _ 30 (first-head (31 if slicesShort mostEntries count to) _ e₁)) (i .few);
+        from-lent = slices-lent {s = from} (clear _ 30 (first-head (31 if slicesShort mostSignEntries count from) _ e)) (i .few);
+        to-lent = slices-lent {s = to} (clear _ 30 (first-head (31 if slicesShort mostSignEntries count to) _ e₁)) (i .few);
         input = i;
       }
 
-  pub submatrix-passes : Acceptable mostSize mostEntries size count from map fixed to → submatrixNumber mostSize mostEntries size count from map fixed to ≡ 0
+  pub submatrix-passes : Acceptable mostSize mostSignEntries size count from map fixed to → submatrixNumber mostSize mostSignEntries size count from map fixed to ≡ 0
   unfolding submatrixNumber
   submatrix-passes a =
       first-skip 31 _ _ (lent-slices {s = from} (a .input .few) (a .from-lent))

@@ -13,7 +13,7 @@ use Rattle.tables.specs.Stored.{rowsOf, colsOf, valuesOf}
 use Rattle.tables.proofs.Mirrors.{value-here, stored-true, stored-here}
 use Rattle.tables.proofs.Kept.{place-at, places-have, row-listed, col-listed, value-listed}
 use Rattle.tables.proofs.Slices.{Same, written-same}
-use Rattle.reduced.specs.Limits.{mostSize, mostEntries}
+use Rattle.limits.specs.Limits.{mostSignEntries, mostSize}
 use Rattle.reduced.specs.declared.from_principal_submatrix.Reduced.the-variants.{Count}
 use Rattle.reduced.specs.Submatrix.{Slices, tableIn, keptIn, valueIn, reducedPlaces, Reduces, Acceptable, Stands}
 use Rattle.reduced.proofs.Numbers.{submatrix-accepted, input-reducible}
@@ -51,7 +51,7 @@ module _ {t : Table} (ri : Rising t) (map : List ℕ) where
       (k, h, e, value-here ri (elem map i) (elem map j) (s .entry) (s .inside) (s .row-is) (s .column-is) ∙ s .value-is)
 
 module _ {size count : ℕ} {from : Slices} {map fixed : List ℕ} {to : Slices} {n : ℕ} {to′ : Slices} (call : Reduces size count from map fixed to (Count n) to′) where
-  ok : Acceptable mostSize mostEntries size count from map fixed to
+  ok : Acceptable mostSize mostSignEntries size count from map fixed to
   ok = submatrix-accepted (sym (call .numbered))
 
   many : n ≡ length (reducedPlaces (tableIn count from) map)

@@ -1,4 +1,3 @@
-pub mod Limits
 pub mod Indices
 pub mod Submatrix
 pub mod Scatter

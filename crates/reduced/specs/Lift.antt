@@ -9,7 +9,7 @@ use lib.Ieee.{Float}
 use Rattle.laws.specs.Lists.{elem, fill}
 use Rattle.laws.specs.Refusal.{_if_, first, anyOf, short}
 use Rattle.ieee.specs.Floats.{at, zero64}
-use Rattle.reduced.specs.Limits.{mostSize}
+use Rattle.limits.specs.Limits.{mostSize}
 use Rattle.reduced.specs.Indices.{indexRefused, putEach}
 
 -- 0.0 below the original size, then the fixed values at their indices, then the reduced solution at the mapped indices; the tail stays

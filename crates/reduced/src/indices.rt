@@ -1,11 +1,10 @@
 // Number 20: the original size, the map and the fixed indices. Nothing here is written but a local array.
+use limits::MOST_SIZE;
 use tables::check::wide;
 ghost use mathlib.Core.Path.{_≡_};
 ghost use Rattle.laws.specs.Refusal.{_if_};
-ghost use Rattle.reduced.specs.Limits.{mostSize};
+ghost use Rattle.limits.specs.Limits.{mostSize};
 ghost use Rattle.reduced.specs.Indices.{outside, twice, indexRefused, Within};
-
-pub const MOST_SIZE: usize = 1_024;
 
 // Whether an index is not below the size.
 fn any_outside(size: usize, indices: &[u16]) -> bool

@@ -1,13 +1,13 @@
 // `lift_solution`: a reduced solution over the original indices.
-use crate::indices::MOST_SIZE;
 use crate::indices::index_refusal;
+use limits::MOST_SIZE;
 use tables::check::wide;
 ghost use mathlib.Core.Path.{_≡_};
 ghost use Prim.Native.Nat.{_≤_};
 ghost use lib.ListN.{length};
 ghost use Rattle.laws.specs.Lists.{elem, fill};
 ghost use Rattle.ieee.specs.Floats.{at, zero64};
-ghost use Rattle.reduced.specs.Limits.{mostSize};
+ghost use Rattle.limits.specs.Limits.{mostSize};
 ghost use Rattle.reduced.specs.Indices.{putEach, Within};
 ghost use Rattle.reduced.specs.Lift.{liftShort, Lifts};
 

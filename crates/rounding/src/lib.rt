@@ -2,12 +2,13 @@
 
 ghost use mathlib.Core.Path.{_≡_};
 ghost use mathlib.Core.List.{_++_};
-ghost use Prim.Native.Nat.{_+_, _*_, _≤_, _<_, _^_};
+ghost use Prim.Native.Nat.{_+_, _*_, _≤_, _<_};
 ghost use lib.Ieee as Ieee;
 ghost use lib.ListN.{length, drop};
 ghost use Rattle.laws.specs.Rows.{setRow};
 ghost use Rattle.laws.specs.Lists.{tabulate};
 ghost use Rattle.ieee.specs.Floats.{zero64};
+ghost use Rattle.limits.specs.Limits.{mostSignMagnitude};
 ghost use Rattle.factor.specs.Vectors.{unit};
 ghost use Rattle.tables.specs.Table.{tableOf, Lent, InRange, magnitudeOf};
 ghost use Rattle.rounding.specs.Rounding.{plusByte, roundedSign, drawSigns, signsOf, roundedSols, drawObjective, roundedSol, roundedObjective};
@@ -119,7 +120,7 @@ fn evaluate_draw(
     signs: &mut [u8],
 ) -> i64
     requires { ⌜ Lent count (now rows) (now cols) (now values) × InRange m (tableOf count (now rows) (now cols) (now values))
-        × (magnitudeOf (tableOf count (now rows) (now cols) (now values)) ≤ 2 ^ 42) ⌝ }
+        × (magnitudeOf (tableOf count (now rows) (now cols) (now values)) ≤ mostSignMagnitude) ⌝ }
     requires { ⌜ (m * rank ≤ length (now factor)) × (k * rank + rank ≤ length (now draws)) × (length (now direction) ≡ rank) × (length (now signs) ≡ m) ⌝ }
     ensures { λ r. ⌜ r ≡ drawObjective (now (factor .entry)) rank m (now (draws .entry)) (tableOf count (now (rows .entry)) (now (cols .entry)) (now (values .entry))) k ⌝ }
     ensures { λ _. ⌜ now (signs .exit) ≡ signsOf (now (factor .entry)) rank m (now (draws .entry)) k ⌝ }
@@ -144,7 +145,7 @@ pub fn compute_rounded_sol(
     best: &mut [u8],
 ) -> i64
     requires { ⌜ Lent count (now rows) (now cols) (now values) × InRange m (tableOf count (now rows) (now cols) (now values))
-        × (magnitudeOf (tableOf count (now rows) (now cols) (now values)) ≤ 2 ^ 42) ⌝ }
+        × (magnitudeOf (tableOf count (now rows) (now cols) (now values)) ≤ mostSignMagnitude) ⌝ }
     requires { ⌜ (m * rank ≤ length (now factor)) × («draw_count» * rank ≤ length (now draws)) × (1 ≤ «draw_count»)
         × (length (now direction) ≡ rank) × (length (now signs) ≡ m) × (length (now best) ≡ m) ⌝ }
     ensures { λ r. ⌜ r ≡ roundedObjective (now (factor .entry)) rank m (now (draws .entry)) (tableOf count (now (rows .entry)) (now (cols .entry)) (now (values .entry))) «draw_count» ⌝ }

@@ -9,13 +9,12 @@ use lib.Dec.{ltb, eqb}
 use lib.ListN.{length}
 use Rattle.laws.proofs.Refusal.{clear, first-head, first-rest}
 use Rattle.laws.proofs.Any.{any-head, any-rest, any-not, any-none, or-left, or-right, and-left}
-use Rattle.tables.specs.Limits.{mostWagons, mostEntries, mostMagnitude}
+use Rattle.limits.specs.Limits.{mostWagons, mostEntries, mostMagnitude, mostRank, mostWidth, mostDraws}
 use Rattle.tables.specs.Table.{Lent}
 use Rattle.tables.specs.Check.{Hall}
 use Rattle.tables.proofs.Checks.{hall-accepted}
 use Rattle.run_record.specs.declared.Run.{Run}
 use Rattle.run_record.specs.CostTable.{CostTable, quadratic, linear}
-use Rattle.run_limits.specs.Limits.{mostRank, mostWidth, mostDraws}
 use Rattle.run_limits.specs.Start.{isSigns, drawsFollow, startCount, startLength}
 use Rattle.run_record.specs.Numbers.{tableShort, factorRefused, factorShort, recordRefused, sweepShort, sweepNumber, drawsRefused, drawsShort, choiceShort, FinishLengths, finishShort, widthRefused, finishNumber, openRankRefused, startShort, openFactorShort, openShort, openNumber, ruleRefused}
 use Rattle.run_record.proofs.Short.{tested}

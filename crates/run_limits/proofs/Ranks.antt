@@ -3,19 +3,18 @@ use Prim.Native.Nat.{ℕ, zero, suc, _+_, _*_, _<_, _≤_, min, max}
 use mathlib.Core.Path.{_≡_, refl}
 use native.Mathlib.Omega.{arith}
 use native.Mathlib.Decide.{decLt}
-use Rattle.tables.specs.Limits.{mostSigns}
+use Rattle.limits.specs.Limits.{mostSigns, mostRank}
 use Rattle.tables.specs.Rank.{leastRoot, defaultRank}
 use Rattle.tables.proofs.Ranks.{root-least}
-use Rattle.run_limits.specs.Limits.{mostRank}
 use Rattle.run_limits.specs.Rank.{rankMeant}
 
--- 16·16 reaches 2m for m up to 128
+-- 31·31 reaches 2m for m up to 480
 pub default-low : (m : ℕ) → m ≤ mostSigns → defaultRank m ≤ mostRank
 unfolding defaultRank
-default-low m h = go (decLt 16 (leastRoot (2 * m)))
+default-low m h = go (decLt 31 (leastRoot (2 * m)))
   where
-    go : Dec (16 < leastRoot (2 * m)) → max 1 (min m (leastRoot (2 * m) + 1)) ≤ mostRank
-    go (yes l) = absurd (omega (arith, root-least (2 * m) 16 l))
+    go : Dec (31 < leastRoot (2 * m)) → max 1 (min m (leastRoot (2 * m) + 1)) ≤ mostRank
+    go (yes l) = absurd (omega (arith, root-least (2 * m) 31 l))
     go (no l) = omega arith
 
 pub meant-default : (m : ℕ) {rank : ℕ} → rank ≡ 0 → rankMeant m rank ≡ defaultRank m

@@ -3,15 +3,14 @@ use Prim.Native.Nat.{ℕ, _*_, _≤_}
 use mathlib.Core.Bool.{Bool, true, false}
 use native.Mathlib.Omega.{arith}
 use native.Mathlib.Nat.{mul-le-mul}
-use Rattle.tables.specs.Limits.{mostSigns}
-use Rattle.run_limits.specs.Limits.{mostRank, mostStart}
+use Rattle.limits.specs.Limits.{mostSigns, mostRank, mostFactor, mostStart}
 use Rattle.run_limits.specs.Start.{isSigns, drawsFollow, startCount, startLength}
 
 pub start-low : (kind m rank most : ℕ) → m ≤ mostSigns → rank ≤ mostRank → startLength kind m rank most ≤ mostStart
 unfolding startLength
 start-low kind m rank most h k = go (isSigns kind) (drawsFollow most rank)
   where
-    area : m * rank ≤ 128 * 32
+    area : m * rank ≤ mostFactor
     area = mul-le-mul h k
 
     go : (signs drawn : Bool) → startCount signs drawn rank m ≤ mostStart

@@ -1,4 +1,3 @@
-pub mod Limits
 pub mod Rank
 pub mod Momentum
 pub mod Start

@@ -1,25 +1,11 @@
-// 01's limits of a run, a search and a finish, and the bytes of workspace that a call asks; those of a table are `tables::limits`. And
-// what jobs, runs and direct calls mean alike: the rank that a given one means, momentum, the numbers that a start takes.
+// What jobs, runs and direct calls mean alike: the rank that a given one means, momentum, the numbers that a start takes.
 ghost use mathlib.Core.Path.{_≡_};
 ghost use Prim.Native.Nat.{_≤_};
-ghost use Rattle.tables.specs.Limits.{mostSigns};
-ghost use Rattle.run_limits.specs.Limits.{mostRank, mostStart};
+ghost use Rattle.limits.specs.Limits.{mostSigns, mostRank, mostStart};
 ghost use Rattle.run_limits.specs.Rank.{rankMeant};
 ghost use Rattle.run_limits.specs.Momentum.{isMomentum};
 ghost use Rattle.run_limits.specs.Start.{drawsFollow, startLength};
 use tables::rank::default_sdp_rank;
-
-pub const MOST_RANK: usize = 32;
-
-pub const MOST_WIDTH: usize = 128;
-
-pub const MOST_DRAWS: usize = 1000;
-
-// The workspace of a search, and so of a finish and of the record call: a level, as many choices as there are signs or places, a byte a sign.
-pub const SEARCH_WORKSPACE: usize = 16384;
-
-// As many numbers as any start takes.
-pub const MOST_START: usize = 4224;
 
 // The rank as given; 0 means the default rank of m signs.
 pub fn rank_meant(m: usize, rank: usize) -> usize

@@ -14,11 +14,10 @@ use Rattle.laws.specs.Refusal.{short}
 use Rattle.step_rules.specs.declared.StepRule.{StepRule}
 use Rattle.step_rules.specs.declared.StepRule.the-variants.{Grad, GradAdv, Coord, CoordNoStep, CoordMomentum}
 use Rattle.step_rules.specs.Rule.{ruleNumber}
-use Rattle.tables.specs.Limits.{mostWagons, mostEntries, mostMagnitude}
+use Rattle.limits.specs.Limits.{mostWagons, mostEntries, mostMagnitude, mostRank, mostWidth, mostDraws, searchWorkspace}
 use Rattle.tables.specs.Table.{Table, Before}
 use Rattle.tables.specs.Check.{badSize, before, badEntry, badOrder, eqZ, unmirrored, hallMagnitude, hallNumber, shortTable}
 use Rattle.tables.proofs.Checks.{eqZ-true, eqZ-refl}
-use Rattle.run_limits.specs.Limits.{mostRank, mostWidth, mostDraws, searchWorkspace}
 use Rattle.run_limits.specs.Rank.{rankMeant}
 use Rattle.run_limits.specs.Momentum.{isMomentum}
 use Rattle.run_limits.specs.Start.{startLength}

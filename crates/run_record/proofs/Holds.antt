@@ -6,7 +6,7 @@ use lib.ListN.{length}
 use borrow.Author.Tests.{le-ltb}
 use Rattle.laws.proofs.Any.{any-head, any-rest}
 use Rattle.run_record.proofs.Short.{tested}
-use Rattle.tables.specs.Limits.{mostWagons, mostEntries}
+use Rattle.limits.specs.Limits.{mostWagons, mostEntries}
 use Rattle.tables.specs.Table.{Lent}
 use Rattle.tables.specs.Check.{shortTable}
 use Rattle.run_record.specs.CostTable.{CostTable}

@@ -5,7 +5,7 @@ use mathlib.Core.Bool.{false}
 use lib.Dec.{ltb}
 use borrow.Author.Tests.{ltb-false}
 use Rattle.laws.proofs.Any.{or-left}
-use Rattle.run_limits.specs.Limits.{mostRank}
+use Rattle.limits.specs.Limits.{mostRank}
 use Rattle.run_record.specs.Numbers.{openRankRefused}
 
 pub taken-low : (rank start : ℕ) → openRankRefused rank start ≡ false → rank ≤ mostRank

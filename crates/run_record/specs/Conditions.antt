@@ -12,10 +12,9 @@ use lib.Ieee.{Float, fin, lt, le}
 use Rattle.ieee.specs.Floats.{zero64, one64}
 use Rattle.step_rules.specs.declared.StepRule.{StepRule}
 use Rattle.step_rules.specs.declared.StepRule.the-variants.{CoordMomentum}
-use Rattle.tables.specs.Limits.{mostWagons, mostEntries, mostMagnitude}
+use Rattle.limits.specs.Limits.{mostWagons, mostEntries, mostMagnitude, mostRank, mostWidth, mostDraws, searchWorkspace}
 use Rattle.tables.specs.Table.{Table, Before}
 use Rattle.tables.specs.Check.{hallMagnitude}
-use Rattle.run_limits.specs.Limits.{mostRank, mostWidth, mostDraws, searchWorkspace}
 use Rattle.run_limits.specs.Rank.{rankMeant}
 use Rattle.run_limits.specs.Start.{startLength}
 use Rattle.run_record.specs.declared.Stage.the-variants.{Open, Stopped}

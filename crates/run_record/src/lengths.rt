@@ -4,14 +4,13 @@ ghost use Rattle.run_record.specs.CostTable.{costTable};
 ghost use Rattle.run_record.specs.Lengths.{lengthsOf};
 ghost use Rattle.run_record.specs.Numbers.{tableShort, factorShort, sweepShort, drawsShort, choiceShort, finishShort, openRankRefused, startShort, openFactorShort, openShort};
 use super::Run;
-use run_limits::MOST_DRAWS;
-use run_limits::MOST_RANK;
-use run_limits::SEARCH_WORKSPACE;
+use limits::MOST_DRAWS;
+use limits::MOST_RANK;
+use limits::SEARCH_WORKSPACE;
 use run_limits::rank_meant;
 use run_limits::start_length;
 use tables::check::short_table;
 use tables::check::too_short;
-use tables::limits;
 
 // 31 of the slices of (H, c).
 fn table_short(

@@ -12,12 +12,11 @@ use super::lengths::open_rank_refused;
 use super::lengths::open_short;
 use super::lengths::sweep_short;
 use super::open_and;
-use run_limits::MOST_DRAWS;
-use run_limits::MOST_RANK;
-use run_limits::MOST_WIDTH;
+use limits::MOST_DRAWS;
+use limits::MOST_RANK;
+use limits::MOST_WIDTH;
 use run_limits::is_momentum;
 use step_rules::StepRule;
-use tables::limits;
 
 // Whether no run of any size can have this record.
 fn own_refused(run: Run) -> bool

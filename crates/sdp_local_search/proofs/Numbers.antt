@@ -12,7 +12,7 @@ use Rattle.laws.proofs.Refusal.{first-head, first-rest, clear}
 use Rattle.tables.specs.Table.{Table, tableOf, Lent}
 use Rattle.tables.specs.Check.{Accepted}
 use Rattle.tables.proofs.Checks.{long-enough, table-lent, table-accepted}
-use Rattle.run_limits.specs.Limits.{searchWorkspace}
+use Rattle.limits.specs.Limits.{mostSigns, mostSignEntries, mostWidth, searchWorkspace}
 use Rattle.sign_search.specs.Contracts.{Sound}
 use Rattle.sign_search.proofs.Theorems.{accepted-mirrors}
 use Rattle.sign_search.proofs.TurnLaws.{rising-climbs}
@@ -41,7 +41,7 @@ slices-long {most = most} {m = m} e =
     }
 
 pub search-lent : (m : ℕ) {count : ℕ} {rows cols : List ℕ} {values : List ℤ} (start out workspace : ℕ)
-    → searchShort baseLimits m count (length rows) (length cols) (length values) start out workspace ≡ false → count ≤ 4478 → Lent count rows cols values
+    → searchShort baseLimits m count (length rows) (length cols) (length values) start out workspace ≡ false → count ≤ mostSignEntries → Lent count rows cols values
 search-lent m start out workspace e h = slices-long e .table-long h
 
 -- where no number applies
@@ -62,8 +62,8 @@ module _ (most : Limits) (m width : ℕ) (tooShort : Bool) (t : Table) (e : sear
 pub record Ready (m count : ℕ) (rows cols : List ℕ) (values : List ℤ) (width start out workspace : ℕ) : Type 0 where
   pub lent : Lent count rows cols values
   pub sound : Sound m (tableOf count rows cols values)
-  pub signs-few : m ≤ 128
-  pub width-few : width ≤ 128
+  pub signs-few : m ≤ mostSigns
+  pub width-few : width ≤ mostWidth
   pub start-there : m ≤ start
   pub out-there : m ≤ out
   pub workspace-there : searchWorkspace ≤ workspace

@@ -1,11 +1,11 @@
 -- The call `beam_search` on a sign table: its numbers, in 01's order, and the signs it starts from.
-use Prim.Native.Nat.{ℕ, zero, suc, _^_}
+use Prim.Native.Nat.{ℕ, zero, suc}
 use mathlib.Core.Bool.{Bool, false}
 use mathlib.Core.List.{List, [], _∷_}
 use lib.Dec.{ltb}
 use Rattle.laws.specs.Lists.{elem, tabulate}
 use Rattle.laws.specs.Refusal.{_if_, first, anyOf, short}
-use Rattle.run_limits.specs.Limits.{mostWidth, searchWorkspace}
+use Rattle.limits.specs.Limits.{mostSigns, mostSignEntries, mostSignMagnitude, mostWidth, searchWorkspace}
 use Rattle.tables.specs.Table.{Table}
 use Rattle.tables.specs.Check.{shortTable, tableNumber}
 
@@ -18,7 +18,7 @@ pub record Limits : Type 0 where
   pub workspace : ℕ
 
 abbrev pub baseLimits : Limits
-baseLimits = record { signs = 128; entries = 4478; magnitude = 2 ^ 42; width = mostWidth; workspace = searchWorkspace }
+baseLimits = record { signs = mostSigns; entries = mostSignEntries; magnitude = mostSignMagnitude; width = mostWidth; workspace = searchWorkspace }
 
 -- 31, from the lengths of what is lent: the table's slices rest on the count, those of signs on m, the workspace on nothing
 unfoldable pub searchShort : Limits → ℕ → ℕ → ℕ → ℕ → ℕ → ℕ → ℕ → ℕ → Bool

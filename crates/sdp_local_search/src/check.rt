@@ -1,6 +1,9 @@
 // The numbers of the call: 31, 13 to 16, 19. Nothing is written.
-use run_limits::MOST_WIDTH;
-use run_limits::SEARCH_WORKSPACE;
+use limits::MOST_SIGN_ENTRIES;
+use limits::MOST_SIGN_MAGNITUDE;
+use limits::MOST_SIGNS;
+use limits::MOST_WIDTH;
+use limits::SEARCH_WORKSPACE;
 use tables::check::short_table;
 use tables::check::table_number;
 use tables::check::too_short;
@@ -8,12 +11,6 @@ ghost use mathlib.Core.Path.{_≡_};
 ghost use lib.ListN.{length};
 ghost use Rattle.tables.specs.Table.{tableOf};
 ghost use Rattle.sdp_local_search.specs.BeamSearch.{baseLimits, searchShort, searchRefusal};
-
-const MOST_SIGNS: usize = 128;
-
-const MOST_ENTRIES: usize = 4478;
-
-const MOST_MAGNITUDE: u64 = 4398046511104;
 
 // 31: a slice is too short; the lengths are those of the slices behind the table's.
 fn search_short(
@@ -28,7 +25,7 @@ fn search_short(
 ) -> bool
     ensures { λ r. ⌜ r ≡ searchShort baseLimits m count (length (now (rows .entry))) (length (now (cols .entry))) (length (now (values .entry))) start out workspace ⌝ }
 {
-    if short_table(MOST_ENTRIES, count, rows, cols, values) {
+    if short_table(MOST_SIGN_ENTRIES, count, rows, cols, values) {
         return true;
     }
     if too_short(MOST_SIGNS < m, m, start) {
@@ -59,8 +56,8 @@ pub fn search_refusal(
     }
     let table = table_number(
         MOST_SIGNS,
-        MOST_ENTRIES,
-        MOST_MAGNITUDE,
+        MOST_SIGN_ENTRIES,
+        MOST_SIGN_MAGNITUDE,
         m,
         count,
         rows,

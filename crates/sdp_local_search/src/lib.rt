@@ -4,7 +4,7 @@ mod signs;
 
 use crate::check::search_refusal;
 use crate::signs::search_from;
-use run_limits::SEARCH_WORKSPACE;
+use limits::SEARCH_WORKSPACE;
 ghost use Rattle.sdp_local_search.specs.BeamSearch.{baseLimits};
 ghost use Rattle.sdp_local_search.specs.Call.{BeamSearches};
 

@@ -8,7 +8,7 @@ use lib.Ieee.{Float}
 use lib.ListN.{length, take, drop}
 use lib.Seq.{length-take-le, drop-at}
 use Rattle.ieee.specs.Floats.{_+ᶠ_}
-use Rattle.run_limits.specs.Limits.{searchWorkspace}
+use Rattle.limits.specs.Limits.{searchWorkspace}
 use Rattle.run_record.specs.declared.Run.{Run}
 use Rattle.run_record.specs.CostTable.{CostTable, quadratic, linear}
 use Rattle.run_record.specs.Numbers.{finishNumber}

@@ -7,7 +7,7 @@ use native.Mathlib.Omega.{arith}
 use lib.Ieee.{Float}
 use lib.ListN.{length, take}
 use Rattle.laws.specs.Lists.{over}
-use Rattle.tables.specs.Limits.{mostSigns, mostSignEntries, mostSignMagnitude}
+use Rattle.limits.specs.Limits.{mostSigns, mostSignEntries, mostSignMagnitude}
 use Rattle.tables.specs.Table.{InRange}
 use Rattle.tables.specs.Check.{Accepted}
 use Rattle.factor.specs.Shapes.{Shaped, ObjFits}

@@ -1,7 +1,7 @@
 -- What the accepted part of a call may take of its table: slices that hold it, and costs that 01's numbers 13 to 16 don't refuse.
 use Prim.Native.Nat.{_≤_}
 use lib.ListN.{length}
-use Rattle.tables.specs.Limits.{mostWagons, mostEntries, mostMagnitude}
+use Rattle.limits.specs.Limits.{mostWagons, mostEntries, mostMagnitude}
 use Rattle.tables.specs.Table.{Lent}
 use Rattle.tables.specs.Check.{Hall}
 use Rattle.run_record.specs.CostTable.{CostTable, quadratic, linear}

@@ -1,8 +1,8 @@
 // The finish call: rounding, search and figures of a stopped run.
 use finalize::finalize;
+use limits::SEARCH_WORKSPACE;
 use run_contract::FinishResult;
 use run_contract::Finished;
-use run_limits::SEARCH_WORKSPACE;
 use run_record::Run;
 use run_record::lengths::FinishSlices;
 use run_record::numbers::finish_number;

@@ -7,7 +7,7 @@ ghost use mathlib.Core.Path.{_≡_};
 ghost use Prim.Native.Nat.{_≤_, _<_};
 ghost use lib.ListN.{length};
 ghost use Rattle.laws.specs.Lists.{over};
-ghost use Rattle.tables.specs.Limits.{mostSigns, mostSignEntries};
+ghost use Rattle.limits.specs.Limits.{mostSigns, mostSignEntries};
 ghost use Rattle.run_record.specs.CostTable.{costTable};
 ghost use Rattle.run_sweep.specs.Work.{callWork};
 ghost use Rattle.sdp_solver.specs.Usable.{Usable};

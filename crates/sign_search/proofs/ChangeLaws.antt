@@ -1,5 +1,5 @@
 -- The changes of all signs, summed entry by entry into a list. Assumes nothing.
-use Prim.Native.Nat.{ℕ, zero, suc, _+_, _*_, _^_, _≤_, _<_}
+use Prim.Native.Nat.{ℕ, zero, suc, _+_, _*_, _≤_, _<_}
 use native.Mathlib.Decide.{ℕ-discrete}
 use native.Mathlib.Nat.{lt-of-le-of-lt}
 use native.Mathlib.Numerals.{add-one}
@@ -17,6 +17,7 @@ use mir.Val.{SFits}
 use Rattle.laws.specs.Lists.{fill}
 use Rattle.laws.specs.Rows.{mapFirst}
 use Rattle.laws.specs.Sum.{sum, total, only}
+use Rattle.limits.specs.Limits.{mostSignMagnitude}
 use Rattle.tables.specs.Table.{Table, sign, signAt}
 use Rattle.tables.specs.Flip.{flipShare, flipTerm}
 use Rattle.laws.proofs.Integer.{parts, differences, ring, times-one, abs-add, abs-mul, abs-cond, fits-abs}
@@ -57,7 +58,7 @@ pub minus : (x : ℕ) (v : ℤ) → (x ≡ 0 → ⊥) → negℤ v ≡ v *ℤ si
 minus zero v d = absurd (d refl)
 minus (suc x) v d = rw (parts v) (simp differences (omega ring))
 
-pub signed-small : (x : ℕ) (v : ℤ) → natAbs v ≤ 2 ^ 42 → natAbs (v *ℤ sign x) ≤ 2 ^ 42
+pub signed-small : (x : ℕ) (v : ℤ) → natAbs v ≤ mostSignMagnitude → natAbs (v *ℤ sign x) ≤ mostSignMagnitude
 signed-small x v h = simp (abs-mul, abs-sign) (omega arith)
 
 pub off-diagonal : (i j x y : ℕ) (v : ℤ) → (i ≡ j → ⊥) → negsuc 3 *ℤ (v *ℤ sign x *ℤ sign y) ≡ flipShare i i j (sign x) (sign y) v

@@ -19,6 +19,7 @@ use Rattle.laws.specs.Sum.{sum}
 use Rattle.laws.specs.Lists.{elem}
 use Rattle.laws.proofs.Integer.{parts, differences, ring, integers, le-parts, add-parts, neg-⁺, neg-⁻, abs-add, abs-neg, fits-abs, ltZ-false}
 use Rattle.laws.proofs.Sums.{sum-ext, sum-bounded}
+use Rattle.limits.specs.Limits.{mostSignMagnitude}
 use Rattle.tables.specs.Table.{Table, magnitudeOf, sign, signAt, share, valueAt, objectiveTerm, objectiveOf, floorOf, floorTerm}
 use Rattle.tables.specs.Flip.{flipped, flipChange}
 use Rattle.tables.proofs.Shares.{abs-share, abs-least, sign-vector}
@@ -96,8 +97,8 @@ module _ {m : ℕ} {t : Table} (ok : Mirrors m t) where
 
   -- ---- for a magnitude that the code's sums hold
 
-  module _ (small : magnitudeOf t ≤ 2 ^ 42) where
-    pub objective-abs : (x : List ℕ) → natAbs (objectiveIn t x) ≤ 2 ^ 43
+  module _ (small : magnitudeOf t ≤ mostSignMagnitude) where
+    pub objective-abs : (x : List ℕ) → natAbs (objectiveIn t x) ≤ 2 * mostSignMagnitude
     unfolding objectiveIn
     objective-abs x =
         let b : natAbs (objectiveOf t (signAt x)) ≤ 2 * magnitudeOf t =
@@ -105,7 +106,7 @@ module _ {m : ℕ} {t : Table} (ok : Mirrors m t) where
         (λ l. abs-share (t .row l) (t .column l) (elem x (t .row l)) (elem x (t .column l)) (t .value l)) (omega arith) in
         omega (arith, b)
 
-    floor-abs : natAbs (floorOf t) ≤ 2 ^ 42
+    floor-abs : natAbs (floorOf t) ≤ mostSignMagnitude
     floor-abs =
         let b : natAbs (floorOf t) ≤ 1 * magnitudeOf t =
         sum-bounded 1 (t .count) (t .count) (floorTerm t) (λ l. natAbs (t .value l)) (λ l. abs-least (t .row l) (t .column l) (t .value l)) (omega arith) in

@@ -1,5 +1,5 @@
 -- What flipping sign i does to the changes: change j grows by 8·Q_ij·x_i·x_j, and change i turns to its negative. Assumes nothing.
-use Prim.Native.Nat.{ℕ, zero, suc, _+_, _*_, _^_, _≤_, _<_}
+use Prim.Native.Nat.{ℕ, zero, suc, _+_, _*_, _≤_, _<_}
 use native.Mathlib.Decide.{ℕ-discrete}
 use native.Mathlib.Numerals.{add-one}
 use native.Mathlib.Omega.{arith}
@@ -17,6 +17,7 @@ use mir.Val.{SFits}
 use Rattle.laws.specs.Sum.{sum, only}
 use Rattle.laws.proofs.Integer.{parts, differences, ring, square-one, times-one, abs-add, abs-mul, fits-abs}
 use Rattle.laws.proofs.Sums.{sum-more, sum-ext, sum-zero, sum-add, sum-scale, sum-only, sum-bounded}
+use Rattle.limits.specs.Limits.{mostSignMagnitude}
 use Rattle.tables.specs.Table.{Table, Symmetric, SignVector, Rising, magnitudeOf, valueAt, sign, signAt, sameSign}
 use Rattle.tables.specs.Flip.{flipped, flipChange, flipTerm}
 use Rattle.tables.proofs.Flips.{flip-entries}
@@ -175,7 +176,7 @@ module _ (t : Table) (x : List ℕ) (i : ℕ) where
             getD-set-other after column j z (pos 0) d ∙ u .sums j h
             ∙ ap (λ (s : ℤ). getD before j (pos 0) +ℤ s) (sym (sum-more k (turnTerm t x i j) ∙ ap (λ (s : ℤ). sum k (turnTerm t x i j) +ℤ s) (term-other j k e (λ q. d (sym q))) ∙ +ℤ-idr (sum k (turnTerm t x i j))))
 
-    pub turned-fits : k < t .count → magnitudeOf t ≤ 2 ^ 42 → natAbs (getD before column (pos 0)) ≤ 2 ^ 44 → SFits w64 (getD after column (pos 0) +ℤ turnWeight x i column *ℤ t .value k)
+    pub turned-fits : k < t .count → magnitudeOf t ≤ mostSignMagnitude → natAbs (getD before column (pos 0)) ≤ 4 * mostSignMagnitude → SFits w64 (getD after column (pos 0) +ℤ turnWeight x i column *ℤ t .value k)
     turned-fits h small held =
         rw more
         (fits-abs _ (omega (
@@ -185,7 +186,7 @@ module _ (t : Table) (x : List ℕ) (i : ℕ) where
         )))
 
 -- a change that i64 holds
-pub change-abs : {t : Table} (x : List ℕ) → SumsFit (length x) t → (i : ℕ) → i < length x → natAbs (changeIn t x i) ≤ 2 ^ 44
+pub change-abs : {t : Table} (x : List ℕ) → SumsFit (length x) t → (i : ℕ) → i < length x → natAbs (changeIn t x i) ≤ 4 * mostSignMagnitude
 unfolding changeIn
 change-abs {t} x ok i h =
     rw (← (flip-entries (ok .in-range) (signAt x) i h (sign-vector x)))

@@ -1,5 +1,5 @@
 -- What the functions of the search on a table ask and leave.
-use Prim.Native.Nat.{ℕ, suc, _*_, _^_, _≤_, _<_}
+use Prim.Native.Nat.{ℕ, suc, _*_, _≤_, _<_}
 use mathlib.Core.Bool.{cond}
 use mathlib.Core.List.{List}
 use mathlib.Core.Path.{_≡_}
@@ -8,6 +8,7 @@ use lib.IntN.{ℤ, pos, natAbs, _+ℤ_, _*ℤ_}
 use lib.ListN.{length, getD, set}
 use Rattle.laws.specs.Lists.{fill}
 use Rattle.laws.specs.Sum.{sum, total, only}
+use Rattle.limits.specs.Limits.{mostSignMagnitude}
 use Rattle.tables.specs.Table.{Table, InRange, magnitudeOf, signAt}
 use Rattle.tables.specs.Flip.{flipTerm}
 use Rattle.local_search.specs.LocalSearch.{All, Found, nextLevel}
@@ -18,7 +19,7 @@ use Rattle.sign_search.specs.Search.{objectiveIn, changeIn, heightIn, Mi
 -- a table of m signs whose sums an i64 holds
 pub record SumsFit (m : ℕ) (t : Table) : Type 0 where
   pub in-range : InRange m t
-  pub small : magnitudeOf t ≤ 2 ^ 42
+  pub small : magnitudeOf t ≤ mostSignMagnitude
 
 -- rows never fall from an entry to a later one
 pub record Climbs (count : ℕ) (row : ℕ → ℕ) : Type 0 where
@@ -28,7 +29,7 @@ pub record Climbs (count : ℕ) (row : ℕ → ℕ) : Type 0 where
 pub record Sound (m : ℕ) (t : Table) : Type 0 where
   pub mirrors : Mirrors m t
   pub climbs : Climbs (t .count) (t .row)
-  pub small : magnitudeOf t ≤ 2 ^ 42
+  pub small : magnitudeOf t ≤ mostSignMagnitude
 
 -- the first m are 0
 pub record Cleared (m : ℕ) (changes : List ℤ) : Type 0 where

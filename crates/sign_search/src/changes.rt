@@ -2,12 +2,13 @@
 use local_search::rows::sign_at;
 use tables::check::wide;
 ghost use mathlib.Core.Path.{_≡_};
-ghost use Prim.Native.Nat.{_^_, _≤_, _<_};
+ghost use Prim.Native.Nat.{_≤_, _<_};
 ghost use lib.ListN.{length, getD};
 ghost use lib.IntN.{pos, natAbs, _+ℤ_, _*ℤ_};
 ghost use mir.Syntax.{w64};
 ghost use mir.Val.{SFits};
 ghost use Rattle.laws.specs.Lists.{fill};
+ghost use Rattle.limits.specs.Limits.{mostSignMagnitude};
 ghost use Rattle.tables.specs.Table.{tableOf, Lent, sign, signAt};
 ghost use Rattle.tables.specs.Flip.{flipShare, flipTerm};
 ghost use Rattle.sign_search.specs.Contracts.{SumsFit, Cleared, RowTurned, changesOver};
@@ -26,7 +27,7 @@ pub fn clear(changes: &mut [i64], m: usize)
 
 // A value times a sign's byte.
 pub fn signed(value: i64, x: u8) -> i64
-    requires { ⌜ natAbs value ≤ 2 ^ 42 ⌝ }
+    requires { ⌜ natAbs value ≤ mostSignMagnitude ⌝ }
     ensures { λ r. ⌜ r ≡ value *ℤ sign x ⌝ }
 {
     if x == 0 { value } else { -value }
@@ -34,7 +35,7 @@ pub fn signed(value: i64, x: u8) -> i64
 
 // What an entry at (i, j), whose signs are x and y, adds to the change by flipping sign i.
 fn entry_change(i: u16, j: u16, value: i64, x: u8, y: u8) -> i64
-    requires { ⌜ natAbs value ≤ 2 ^ 42 ⌝ }
+    requires { ⌜ natAbs value ≤ mostSignMagnitude ⌝ }
     ensures { λ r. ⌜ r ≡ flipShare i i j (sign x) (sign y) value ⌝ }
 {
     if i == j {

@@ -5,10 +5,11 @@ use local_search::rows::sign_at;
 use tables::check::wide;
 ghost use mathlib.Core.Path.{_≡_};
 ghost use mathlib.Core.Bool.{not};
-ghost use Prim.Native.Nat.{_+_, _^_, _≤_, _<_};
+ghost use Prim.Native.Nat.{_+_, _≤_, _<_};
 ghost use lib.ListN.{length};
 ghost use lib.IntN.{pos, natAbs, _*ℤ_};
 ghost use Rattle.laws.specs.Lists.{elem};
+ghost use Rattle.limits.specs.Limits.{mostSignMagnitude};
 ghost use Rattle.tables.specs.Table.{tableOf, Lent, sign, sameSign};
 ghost use Rattle.local_search.specs.Level.{flipSign};
 ghost use Rattle.sign_search.specs.Contracts.{Sound, Changes, Climbs, RowStart, Turned, Turns, Agree};
@@ -33,7 +34,7 @@ fn row_start(entries: usize, rows: &[u16], i: usize) -> usize
 
 // Eight times a value times both signs.
 fn turned_value(value: i64, x: u8, y: u8) -> i64
-    requires { ⌜ natAbs value ≤ 2 ^ 42 ⌝ }
+    requires { ⌜ natAbs value ≤ mostSignMagnitude ⌝ }
     ensures { λ r. ⌜ r ≡ pos 8 *ℤ (sign x *ℤ sign y) *ℤ value ⌝ }
 {
     8 * signed(signed(value, x), y)

@@ -1,12 +1,15 @@
 // The search from signs whose table has been checked.
 use crate::levels::advance;
 use crate::levels::append_row;
+use limits::MOST_SIGNS;
+use limits::SEARCH_WORKSPACE;
 use local_search::least::keep_least;
 use local_search::rows::copy_row;
 use tables::objective::obj_rounded;
 ghost use mathlib.Core.Path.{_≡_};
 ghost use Prim.Native.Nat.{_≤_};
 ghost use lib.ListN.{length};
+ghost use Rattle.limits.specs.Limits.{mostSigns};
 ghost use Rattle.tables.specs.Table.{tableOf, Lent};
 ghost use Rattle.local_search.specs.Children.{parentOf};
 ghost use Rattle.sign_search.specs.Search.{objectiveIn};
@@ -74,11 +77,6 @@ pub fn search_levels(
     Searched { least, rounds }
 }
 
-// The rows of a level: as many choices as there are signs or places in a level, and as many bytes in each.
-const LEVEL_BYTES: usize = 16384;
-
-const MOST_CHOICES: usize = 128;
-
 // The same with the room that the search takes; the first signs of `scratch` are the current choice.
 fn search_room(
     entries: usize,
@@ -92,13 +90,13 @@ fn search_room(
     level: &mut [u8],
     next_level: &mut [u8],
 ) -> Searched
-    requires { ⌜ LevelRoom 128 (length (now kept)) width (length (now level)) × LevelRoom 128 (length (now kept)) width (length (now «next_level»)) × (1 ≤ width) × (128 ≤ length (now scratch)) × Sound (length (now kept)) (tableOf entries (now rows) (now cols) (now values)) × (objective ≡ objectiveIn (tableOf entries (now rows) (now cols) (now values)) (now kept)) × Lent entries (now rows) (now cols) (now values) ⌝ }
+    requires { ⌜ LevelRoom mostSigns (length (now kept)) width (length (now level)) × LevelRoom mostSigns (length (now kept)) width (length (now «next_level»)) × (1 ≤ width) × (mostSigns ≤ length (now scratch)) × Sound (length (now kept)) (tableOf entries (now rows) (now cols) (now values)) × (objective ≡ objectiveIn (tableOf entries (now rows) (now cols) (now values)) (now kept)) × Lent entries (now rows) (now cols) (now values) ⌝ }
     ensures { λ r. ⌜ (parentOf (r .least) (now (kept .exit)) ≡ searchedIn (tableOf entries (now (rows .entry)) (now (cols .entry)) (now (values .entry))) width (parentOf objective (now (kept .entry))) .answer) × (r .rounds ≡ searchedIn (tableOf entries (now (rows .entry)) (now (cols .entry)) (now (values .entry))) width (parentOf objective (now (kept .entry))) .rounds) ⌝ }
 {
     let m = kept.len();
-    let mut changes: [i64; MOST_CHOICES] = [0; MOST_CHOICES];
-    let mut objectives: [i64; MOST_CHOICES] = [0; MOST_CHOICES];
-    let mut next_objectives: [i64; MOST_CHOICES] = [0; MOST_CHOICES];
+    let mut changes: [i64; MOST_SIGNS] = [0; MOST_SIGNS];
+    let mut objectives: [i64; MOST_SIGNS] = [0; MOST_SIGNS];
+    let mut next_objectives: [i64; MOST_SIGNS] = [0; MOST_SIGNS];
     search_levels(
         entries,
         rows,
@@ -126,7 +124,7 @@ pub fn search_signs(
     kept: &mut [u8],
     level: &mut [u8],
 ) -> Searched
-    requires { ⌜ LevelRoom 128 (length (now kept)) width (length (now level)) × Sound (length (now kept)) (tableOf entries (now rows) (now cols) (now values)) × Lent entries (now rows) (now cols) (now values) ⌝ }
+    requires { ⌜ LevelRoom mostSigns (length (now kept)) width (length (now level)) × Sound (length (now kept)) (tableOf entries (now rows) (now cols) (now values)) × Lent entries (now rows) (now cols) (now values) ⌝ }
     ensures { λ r. ⌜ Found-by (tableOf entries (now (rows .entry)) (now (cols .entry)) (now (values .entry))) width (now (kept .entry)) (r .least) (r .rounds) (now (kept .exit)) ⌝ }
 {
     let start = obj_rounded(entries, rows, cols, values, kept);
@@ -136,8 +134,8 @@ pub fn search_signs(
             rounds: 0,
         };
     }
-    let mut current: [u8; MOST_CHOICES] = [0; MOST_CHOICES];
-    let mut next_level: [u8; LEVEL_BYTES] = [0; LEVEL_BYTES];
+    let mut current: [u8; MOST_SIGNS] = [0; MOST_SIGNS];
+    let mut next_level: [u8; SEARCH_WORKSPACE] = [0; SEARCH_WORKSPACE];
     search_room(
         entries,
         rows,

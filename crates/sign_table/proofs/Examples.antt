@@ -8,7 +8,7 @@ use Rattle.laws.specs.Sum.{sum, sum₂, total}
 use Rattle.laws.specs.Lists.{elemZ, anyBelow}
 use Rattle.laws.specs.Refusal.{orElse, first, anyOf}
 use Rattle.ieee.specs.Floats.{eighthOf}
-use Rattle.tables.specs.Limits.{mostWagons, mostEntries, mostMagnitude}
+use Rattle.limits.specs.Limits.{mostWagons, mostEntries, mostMagnitude}
 use Rattle.tables.specs.Table.{Table, tableOf, valueAt, storedAt, least, floorOf}
 use Rattle.tables.specs.Cost.{costEighths, choiceAt}
 use Rattle.tables.specs.Check.{before, badSize, badEntry, badOrder, unmirrored, hallNumber}

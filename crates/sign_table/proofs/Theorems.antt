@@ -6,7 +6,7 @@ use native.Mathlib.Omega.{arith}
 use lib.ListN.{take}
 use lib.IntN.{ℤ}
 use lib.Signed.{_≤ℤ_}
-use Rattle.tables.specs.Limits.{mostWagons, mostEntries, mostMagnitude, mostSigns, mostSignEntries, mostSignMagnitude}
+use Rattle.limits.specs.Limits.{mostWagons, mostEntries, mostMagnitude, mostSigns, mostSignEntries, mostSignMagnitude}
 use Rattle.tables.specs.Table.{Table, Symmetric, valueAt, signAt, objectiveOf, floorOf}
 use Rattle.tables.specs.Cost.{costEighths, decoded, choiceAt}
 use Rattle.tables.specs.Check.{Hall, Accepted}
@@ -45,6 +45,6 @@ module _ {most capacity limit n : ℕ} {h : Table} {c : ℕ → ℤ} (ok : Hall 
   pub floor-le-choice : (b : List ℕ) → floorOf (signTable n h c) ≤ℤ costEighths n (valueAt h) c (choiceAt b)
   floor-le-choice b = rw (← (choice-cost n (valueAt h) c b)) (floor-le-cost (take n b))
 
--- 01's limits: 127 wagons, 4,096 entries and 2^40 give 128 signs, 4,478 entries and 2^42
+-- 01's limits: those of (H, c) give those of a sign table
 pub hall-sign-table : {n : ℕ} {h : Table} {c : ℕ → ℤ} → Hall mostWagons mostEntries mostMagnitude n h c → Accepted mostSigns mostSignEntries mostSignMagnitude (suc n) (signTable n h c)
 hall-sign-table ok = sign-table-accepted ok

@@ -2,7 +2,7 @@
 use mathlib.Core.Path.{_≡_, refl, sym, _∙_, ap}
 use mathlib.Core.Bool.{Bool, true, false}
 use mathlib.Core.List.{List, [], _∷_, _++_}
-use Prim.Native.Nat.{ℕ, zero, suc, _+_, _*_, _-_, _^_, _≤_, _<_}
+use Prim.Native.Nat.{ℕ, zero, suc, _+_, _*_, _-_, _≤_, _<_}
 use native.Mathlib.Omega.{arith}
 use borrow.Author.Tests.{le-ltb, ltb-false}
 use lib.Dec.{ltb, lit<, lit≤}
@@ -12,7 +12,7 @@ use lib.IntN.{ℤ}
 use Rattle.laws.specs.Refusal.{_if_, first, short}
 use Rattle.laws.proofs.Refusal.{clear, first-head, first-rest}
 use Rattle.laws.proofs.Any.{any-head, any-rest, any-not, any-none}
-use Rattle.tables.specs.Limits.{mostWagons, mostEntries, mostMagnitude, mostSigns, mostSignEntries, mostSignMagnitude}
+use Rattle.limits.specs.Limits.{mostWagons, mostEntries, mostMagnitude, mostSigns, mostSignEntries, mostSignMagnitude}
 use Rattle.tables.specs.Table.{Table, Lent, InRange, tableOf, magnitudeOf}
 use Rattle.tables.specs.Check.{badSize, shortTable, Hall, Accepted}
 use Rattle.tables.proofs.Checks.{long-enough, table-lent, table-accepted, hall-accepted, size-passes}
@@ -92,7 +92,7 @@ module _ (m count : ℕ) (rows cols : List ℕ) (values : List ℤ) where
 
     -- what `obj_rounded` works on
     pub objective-accepted : objectiveNumber m count rows cols values signs ≡ 0
-        → Lent count rows cols values × InRange (length signs) (tableOf count rows cols values) × (magnitudeOf (tableOf count rows cols values) ≤ 2 ^ 42)
+        → Lent count rows cols values × InRange (length signs) (tableOf count rows cols values) × (magnitudeOf (tableOf count rows cols values) ≤ mostSignMagnitude)
     unfolding objectiveNumber
     objective-accepted ok =
         let (s, k) = two-parts (objectiveShort m count rows cols values signs) _ ok in

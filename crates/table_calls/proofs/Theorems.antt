@@ -9,7 +9,7 @@ use lib.ListN.{length}
 use lib.IntN.{ℤ}
 use lib.Signed.{_≤ℤ_}
 use Rattle.laws.specs.Lists.{elemZ, over, fill}
-use Rattle.tables.specs.Limits.{mostWagons, mostEntries, mostMagnitude}
+use Rattle.limits.specs.Limits.{mostWagons, mostEntries, mostMagnitude}
 use Rattle.tables.specs.Table.{Table, tableOf, valueAt, signAt, objectiveOf, floorOf}
 use Rattle.tables.specs.Cost.{costEighths, decodedByte, decoded, choiceAt}
 use Rattle.tables.specs.Check.{Hall}

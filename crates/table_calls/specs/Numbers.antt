@@ -8,7 +8,7 @@ use lib.ListN.{length}
 use lib.IntN.{ℤ}
 use Rattle.laws.specs.Lists.{elemZ}
 use Rattle.laws.specs.Refusal.{_if_, first, anyOf, short}
-use Rattle.tables.specs.Limits.{mostWagons, mostEntries, mostMagnitude, mostSigns, mostSignEntries, mostSignMagnitude}
+use Rattle.limits.specs.Limits.{mostWagons, mostEntries, mostMagnitude, mostSigns, mostSignEntries, mostSignMagnitude}
 use Rattle.tables.specs.Table.{tableOf}
 use Rattle.tables.specs.Check.{badSize, shortTable, hallNumber, tableNumber}
 unfoldable pub use Rattle.tables.specs.Check.{badSigns}

@@ -1,19 +1,19 @@
 // 31 first, then the numbers of the table.
+use limits::MOST_ENTRIES;
+use limits::MOST_MAGNITUDE;
+use limits::MOST_SIGN_ENTRIES;
+use limits::MOST_SIGN_MAGNITUDE;
+use limits::MOST_SIGNS;
+use limits::MOST_WAGONS;
 use tables::check::hall_number;
 use tables::check::table_number;
-use tables::limits::MOST_ENTRIES;
-use tables::limits::MOST_MAGNITUDE;
-use tables::limits::MOST_SIGN_ENTRIES;
-use tables::limits::MOST_SIGN_MAGNITUDE;
-use tables::limits::MOST_SIGNS;
-use tables::limits::MOST_WAGONS;
 ghost use mathlib.Core.Path.{_≡_};
 ghost use mathlib.Core.Bool.{false};
 ghost use mathlib.Core.List.{[], _∷_};
 ghost use Prim.Native.Nat.{_≤_};
 ghost use lib.ListN.{length};
 ghost use Rattle.laws.specs.Refusal.{_if_, first};
-ghost use Rattle.tables.specs.Limits.{mostWagons, mostEntries, mostSignEntries};
+ghost use Rattle.limits.specs.Limits.{mostWagons, mostEntries, mostSignEntries};
 ghost use Rattle.tables.specs.Table.{Lent};
 ghost use Rattle.table_calls.specs.Numbers.{signTableNumber, hallNumberIn};
 

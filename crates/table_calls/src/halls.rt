@@ -2,12 +2,12 @@
 use crate::Eighths;
 use crate::Entries;
 use crate::checked::checked_hall;
+use limits::MOST_ENTRIES;
+use limits::MOST_WAGONS;
 use sign_table::sign_matrix::sign_matrix;
 use tables::check::bad_size;
 use tables::check::short_table;
 use tables::check::too_short;
-use tables::limits::MOST_ENTRIES;
-use tables::limits::MOST_WAGONS;
 use tables::objective;
 ghost use mathlib.Core.Path.{_≡_};
 ghost use Prim.Native.Nat.{_+_, _*_};

@@ -2,11 +2,11 @@
 use crate::Bound;
 use crate::Eighths;
 use crate::checked::checked_table;
+use limits::MOST_SIGN_ENTRIES;
 use tables::bound;
 use tables::check::bad_signs;
 use tables::check::short_table;
 use tables::check::too_short;
-use tables::limits::MOST_SIGN_ENTRIES;
 use tables::objective;
 ghost use mathlib.Core.Path.{_≡_};
 ghost use Rattle.tables.specs.Table.{tableOf, signAt, objectiveOf, floorOf};

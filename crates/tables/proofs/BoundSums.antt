@@ -13,12 +13,13 @@ use mir.Val.{SFits}
 use lib.Ieee.{Float, binary64, inFloat, neg}
 use Rattle.ieee.specs.Floats.{_+ᶠ_, eighthOf}
 use Rattle.laws.proofs.Integer.{ltZ-false, fits-abs}
+use Rattle.limits.specs.Limits.{mostSignMagnitude}
 use Rattle.tables.specs.Table.{Table}
 use Rattle.tables.specs.Bound.{boundTerm, boundSum, magnitudeSum}
 
-pub small-float : (n : ℕ) → n ≤ 2 ^ 42 → T (inFloat binary64 (pos n))
+pub small-float : (n : ℕ) → n ≤ 2 ^ 53 → T (inFloat binary64 (pos n))
 unfolding inFloat
-small-float n h = le→leb n (2 ^ 53) (omega arith)
+small-float n h = le→leb n (2 ^ 53) h
 
 -- an absolute value
 pub absolute-negative : (v : ℤ) → ltZ v (pos 0) ≡ true → pos 0 -ℤ v ≡ pos (natAbs v)
@@ -29,7 +30,7 @@ pub absolute-positive : (v : ℤ) → ltZ v (pos 0) ≡ false → v ≡ pos (nat
 absolute-positive (pos n) e = refl
 absolute-positive (negsuc n) e = absurd (omega (arith, ltZ-false (negsuc n) (pos 0) e))
 
-pub absolute-fits : (v : ℤ) → natAbs v ≤ 2 ^ 42 → SFits w64 (pos (natAbs v))
+pub absolute-fits : (v : ℤ) → natAbs v ≤ mostSignMagnitude → SFits w64 (pos (natAbs v))
 absolute-fits v h = fits-abs (pos (natAbs v)) (omega arith)
 
 module _ (i j : ℕ) (v : ℤ) where

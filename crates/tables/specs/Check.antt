@@ -8,7 +8,7 @@ use lib.IntN.{ℤ, pos, negsuc, natAbs}
 use Rattle.laws.specs.Sum.{total}
 use Rattle.laws.specs.Lists.{anyBelow}
 use Rattle.laws.specs.Refusal.{_if_, first, anyOf, short}
-use Rattle.tables.specs.Limits.{mostSigns}
+use Rattle.limits.specs.Limits.{mostSigns}
 use Rattle.tables.specs.Table.{Table, InRange, Rising, Mirrored, magnitudeOf}
 
 -- 13: n, m or the entry count out of its limits

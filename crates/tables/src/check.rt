@@ -1,6 +1,6 @@
 // The numbers 13, 14 and 16 of a table, the first of 13 to 16, and 31 of its slices. Each is a pass of its own and writes nothing.
-use crate::limits::MOST_SIGNS;
 use crate::mirror::unmirrored;
+use limits::MOST_SIGNS;
 ghost use mathlib.Core.Path.{_≡_};
 ghost use Prim.Native.Nat.{_+_, _*_, _≤_, _<_, _^_, min};
 ghost use lib.ListN.{length};

@@ -10,10 +10,9 @@ use denote.Ref.{now}
 use lib.ListN.{length, take}
 use lib.Seq.{length-take-le}
 use Rattle.laws.specs.Lists.{elemZ}
-use Rattle.tables.specs.Limits.{mostSigns}
+use Rattle.limits.specs.Limits.{mostSigns, mostRank}
 use Rattle.tables.specs.Table.{tableOf}
 use Rattle.sign_table.proofs.Sizes.{hall-convertible}
-use Rattle.run_limits.specs.Limits.{mostRank}
 use Rattle.finalize.proofs.Assembled.{Cut, cut, cut-accepted, cut-lent, cut-fits, finalizes}
 use Rattle.finalize.proofs.finalize.Statement.{statement}
 use Rattle.finalize.proofs.finalize.Tie as tie

@@ -5,7 +5,7 @@ use denote.Ref.{now}
 use native.Mathlib.Omega.{arith}
 use Prim.Native.Nat.{_-_}
 use lib.ListN.{length, take, drop}
-use Rattle.run_limits.specs.Limits.{searchWorkspace}
+use Rattle.limits.specs.Limits.{searchWorkspace}
 use Rattle.tables.specs.Table.{tableOf}
 use Rattle.local_search.specs.LocalSearch.{Found}
 use Rattle.sign_search.specs.Search.{beamSearch}
@@ -45,7 +45,7 @@ search-from-requires c κs =
     let k = ready (c .before .before .before) (c .before .before .if1 .left) in
     let m : length (take (a .m - 0) (drop 0 (now (a .out)))) ≡ a .m = part-size (a .m) (now (a .out)) (k .out-there) in
     let n : length (take (searchWorkspace - 0) (drop 0 (now (a .workspace)))) ≡ searchWorkspace = part-size searchWorkspace (now (a .workspace)) (k .workspace-there) in (
-      rw (m, n) (record { signs-few = k .signs-few; width-few = k .width-few; level-room = omega arith }),
+      rw (m, n) (record { signs-few = k .signs-few; width-few = omega (arith, k .width-few); level-room = omega arith }),
       rw m (k .sound),
       k .lent,
       rw m (k .start-there),

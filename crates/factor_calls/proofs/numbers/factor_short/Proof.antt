@@ -5,6 +5,7 @@ use native.Mathlib.Nat.{mul-le-mul}
 use native.Mathlib.Omega.{arith}
 use borrow.Author.Tests.{ltb-false}
 use Prim.Native.Nat.{_≤_}
+use Rattle.limits.specs.Limits.{mostSigns}
 use Rattle.laws.proofs.Any.{any-here, any-skip, any-not, any-none}
 use Rattle.table_calls.proofs.Accepting.{signs-parts}
 use Rattle.factor_calls.specs.Numbers.{factorRefused}
@@ -24,7 +25,7 @@ rank-meant-requires : tie.Need-rank-meant-requires
 rank-meant-requires c κs = (λ e. signs-parts (c .before .before .before .before .args .m) (sym (c .before .before .before .bad-signs .ensures) ∙ c .before .before .if1 .left) .1, ltb-false _ _ (sym (c .before .bad-rank .ensures) ∙ c .if2 .left))
 
 mul-result : tie.Need-mul-result
-mul-result c = let s : c .before .before .before .before .before .args .m ≤ 128 = signs-parts (c .before .before .before .before .before .args .m) (sym (c .before .before .before .before .bad-signs .ensures) ∙ c .before .before .before .if1 .left) .1 in omega (arith, mul-le-mul s (c .rank-meant .ensures .1))
+mul-result c = let s : c .before .before .before .before .before .args .m ≤ mostSigns = signs-parts (c .before .before .before .before .before .args .m) (sym (c .before .before .before .before .bad-signs .ensures) ∙ c .before .before .before .if1 .left) .1 in omega (arith, mul-le-mul s (c .rank-meant .ensures .1))
 
 returns-3 : tie.Need-returns-3
 unfolding factorRefused

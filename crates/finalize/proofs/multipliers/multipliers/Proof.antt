@@ -7,10 +7,9 @@ use native.Mathlib.Omega.{arith}
 use denote.Ref.{now}
 use lib.ListN.{length}
 use lib.Seq.{length-take-le}
-use Rattle.tables.specs.Limits.{mostSigns}
+use Rattle.limits.specs.Limits.{mostSigns, mostRank}
 use Rattle.tables.specs.Table.{tableOf}
 use Rattle.prepared_table.proofs.Preparing.{length-diagonalOf, work-front}
-use Rattle.run_limits.specs.Limits.{mostRank}
 use Rattle.finalize.proofs.Fronts.{length-dual}
 use Rattle.finalize.proofs.multipliers.multipliers.Statement.{statement}
 use Rattle.finalize.proofs.multipliers.multipliers.Tie as tie

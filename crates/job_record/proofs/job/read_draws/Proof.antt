@@ -1,4 +1,5 @@
 use borrow.Author.Needs.{needs}
+use Rattle.limits.specs.Limits.{mostRank, mostDraws}
 use Rattle.job_record.proofs.job.read_draws.Statement.{statement}
 use Rattle.job_record.proofs.job.read_draws.Tie as tie
 use mathlib.Core.Path.{_≡_, _∙_}
@@ -10,7 +11,7 @@ use Rattle.job_record.proofs.Accepted.{fields, drawn-held}
 
 mul-count : tie.Need-mul-count
 mul-count c = let d = drawn-held (c .before .before .before .before .before .before .before .args .job .now) (c .before .before .before .before .before .before .before .pre .0) (c .before .before .before .before .parts-of .ensures .3) (c .before .before .before .read-draw-count .ensures) in let f = fields (c .before .before .before .before .before .before .before .args .job .now) (c .before .before .before .before .before .before .before .pre .0) in
-    omega (arith, area (c .before .value-of .result) (c .before .before .before .before .parts-of .result .rank) 1000 32 (omega (arith, c .before .value-of .ensures, d .0, f .draws .few)) (c .before .before .before .before .parts-of .ensures .4))
+    omega (arith, area (c .before .value-of .result) (c .before .before .before .before .parts-of .result .rank) mostDraws mostRank (omega (arith, c .before .value-of .ensures, d .0, f .draws .few)) (c .before .before .before .before .parts-of .ensures .4))
 
 read-doubles-requires : tie.Need-read-doubles-requires
 read-doubles-requires c κs = let s = c .before .before .before .before .before .before .before .before .args .job .now in let f = fields s (c .before .before .before .before .before .before .before .before .pre .0) in let d = drawn-held s (c .before .before .before .before .before .before .before .before .pre .0) (c .before .before .before .before .before .parts-of .ensures .3) (c .before .before .before .before .read-draw-count .ensures) in

@@ -10,7 +10,7 @@ use lib.ListN.{length}
 use lib.Dec.{ltb}
 use Rattle.laws.specs.Refusal.{first}
 use Rattle.laws.proofs.Following.{answers, moves-on, answers-if, moves-on-if, passes-last}
-use Rattle.run_limits.specs.Limits.{mostDraws}
+use Rattle.limits.specs.Limits.{mostRank, mostDraws}
 use Rattle.job_reader.specs.Bytes.{bigEndian, fieldAt, valueOf, placeAfter}
 use Rattle.job_reader.specs.declared.Field.{Field}
 use Rattle.job_reader.specs.declared.Field.the-variants.{Value}
@@ -25,7 +25,7 @@ record Counted (s : List ℕ) (at : ℕ) (drawn : Field) (count : ℕ) : Type 0 
   few : boundedNumber s at 2 mostDraws 19 ≡ 0
   there : drawn ≡ Value (bigEndian s at 2) (at + 2)
   is : count ≡ bigEndian s at 2
-  low : count ≤ 1000
+  low : count ≤ mostDraws
 
 counted : (s : List ℕ) (at : ℕ) {drawn : Field} {limit count : ℕ} → drawn ≡ fieldAt s at 2 → limit ≡ fieldNumber drawn (ltb mostDraws) 19 → limit ≡ 0 → count ≡ valueOf drawn → Counted s at drawn count
 counted s at e l z c =
@@ -68,13 +68,13 @@ returns-3 : tie.Need-returns-3
 returns-3 c = let k = counted (c .before .before .before .before .before .before .before .args .job .now) (c .before .before .before .before .before .before .before .args .at) (c .before .before .before .before .read-draw-count .ensures) (c .before .before .before .limit-number .ensures) (c .before .before .if2 .left) (c .before .value-of .ensures) in none (c .before .before .before .before .before .before .before .args .job .now) (c .before .before .before .before .before .before .before .args .at) (c .before .before .before .before .before .before .before .args .rank) k (c .before .before .before .before .before .if1 .left) (c .if3 .taken)
 
 mul-end : tie.Need-mul-end
-mul-end c = let k = counted (c .before .before .before .before .before .before .before .before .args .job .now) (c .before .before .before .before .before .before .before .before .args .at) (c .before .before .before .before .before .read-draw-count .ensures) (c .before .before .before .before .limit-number .ensures) (c .before .before .before .if2 .left) (c .before .before .value-of .ensures) in omega (arith, area (c .before .before .value-of .result) (c .before .before .before .before .before .before .before .before .args .rank) 1000 32 (k .low) (omega arith))
+mul-end c = let k = counted (c .before .before .before .before .before .before .before .before .args .job .now) (c .before .before .before .before .before .before .before .before .args .at) (c .before .before .before .before .before .read-draw-count .ensures) (c .before .before .before .before .limit-number .ensures) (c .before .before .before .if2 .left) (c .before .before .value-of .ensures) in omega (arith, area (c .before .before .value-of .result) (c .before .before .before .before .before .before .before .before .args .rank) mostDraws mostRank (k .low) (omega arith))
 
 mul-end-2 : tie.Need-mul-end-2
-mul-end-2 c = let k = counted (c .before .before .before .before .before .before .before .before .args .job .now) (c .before .before .before .before .before .before .before .before .args .at) (c .before .before .before .before .before .read-draw-count .ensures) (c .before .before .before .before .limit-number .ensures) (c .before .before .before .if2 .left) (c .before .before .value-of .ensures) in omega (arith, area (c .before .before .value-of .result) (c .before .before .before .before .before .before .before .before .args .rank) 1000 32 (k .low) (omega arith))
+mul-end-2 c = let k = counted (c .before .before .before .before .before .before .before .before .args .job .now) (c .before .before .before .before .before .before .before .before .args .at) (c .before .before .before .before .before .read-draw-count .ensures) (c .before .before .before .before .limit-number .ensures) (c .before .before .before .if2 .left) (c .before .before .value-of .ensures) in omega (arith, area (c .before .before .value-of .result) (c .before .before .before .before .before .before .before .before .args .rank) mostDraws mostRank (k .low) (omega arith))
 
 add-end : tie.Need-add-end
-add-end c = let k = counted (c .before .before .before .before .before .before .before .before .args .job .now) (c .before .before .before .before .before .before .before .before .args .at) (c .before .before .before .before .before .read-draw-count .ensures) (c .before .before .before .before .limit-number .ensures) (c .before .before .before .if2 .left) (c .before .before .value-of .ensures) in let n = behind (c .before .before .before .before .before .before .before .before .args .job .now) (c .before .before .before .before .before .before .before .before .args .at) k (c .place-after .ensures) in omega (arith, n, area (c .before .before .value-of .result) (c .before .before .before .before .before .before .before .before .args .rank) 1000 32 (k .low) (omega arith))
+add-end c = let k = counted (c .before .before .before .before .before .before .before .before .args .job .now) (c .before .before .before .before .before .before .before .before .args .at) (c .before .before .before .before .before .read-draw-count .ensures) (c .before .before .before .before .limit-number .ensures) (c .before .before .before .if2 .left) (c .before .before .value-of .ensures) in let n = behind (c .before .before .before .before .before .before .before .before .args .job .now) (c .before .before .before .before .before .before .before .before .args .at) k (c .place-after .ensures) in omega (arith, n, area (c .before .before .value-of .result) (c .before .before .before .before .before .before .before .before .args .rank) mostDraws mostRank (k .low) (omega arith))
 
 returns-4 : tie.Need-returns-4
 returns-4 c = let k = counted (c .before .before .before .before .before .before .before .before .before .args .job .now) (c .before .before .before .before .before .before .before .before .before .args .at) (c .before .before .before .before .before .before .read-draw-count .ensures) (c .before .before .before .before .before .limit-number .ensures) (c .before .before .before .before .if2 .left) (c .before .before .before .value-of .ensures) in past-end (c .before .before .before .before .before .before .before .before .before .args .job .now) (c .before .before .before .before .before .before .before .before .before .args .at) (c .before .before .before .before .before .before .before .before .before .args .rank) k (c .before .before .before .before .before .before .before .if1 .left) (behind (c .before .before .before .before .before .before .before .before .before .args .job .now) (c .before .before .before .before .before .before .before .before .before .args .at) k (c .before .place-after .ensures)) (c .before .before .if3 .left) (c .if4 .taken)

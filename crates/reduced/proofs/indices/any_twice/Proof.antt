@@ -1,6 +1,7 @@
 use borrow.Author.Needs.{needs}
 use Rattle.reduced.proofs.indices.any_twice.Statement.{statement}
 use Rattle.reduced.proofs.indices.any_twice.Tie as tie
+use Rattle.limits.specs.Limits.{mostSize}
 use Rattle.laws.proofs.Any.{below-start, below-ended}
 use Rattle.reduced.specs.Indices.{twice, putEach}
 use Rattle.laws.specs.Turns.{upTo}
@@ -15,7 +16,7 @@ use Rattle.reduced.proofs.Distinct.{index-low, marked, unmarked-next}
 use Rattle.reduced.proofs.Put.{put-next}
 
 abbrev Inv-loop : tie.InvT-loop
-Inv-loop variable-map seen₀ j₀ seen j = (j ≤ length variable-map) × (anyBelow j (λ k. anyBelow k (λ i. eqb (elem variable-map i) (elem variable-map k))) ≡ false) × (seen ≡ putEach (elem variable-map) (λ _. 1) j (replicate 1024 0))
+Inv-loop variable-map seen₀ j₀ seen j = (j ≤ length variable-map) × (anyBelow j (λ k. anyBelow k (λ i. eqb (elem variable-map i) (elem variable-map k))) ≡ false) × (seen ≡ putEach (elem variable-map) (λ _. 1) j (replicate mostSize 0))
 
 abbrev μ-loop : tie.MeasureT-loop
 μ-loop variable-map seen₀ j₀ seen j = length variable-map - j

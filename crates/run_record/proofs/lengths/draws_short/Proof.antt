@@ -1,3 +1,4 @@
+use Rattle.limits.specs.Limits.{mostDraws}
 use Rattle.run_record.proofs.lengths.draws_short.Statement.{statement}
 use Rattle.run_record.proofs.lengths.draws_short.Tie as tie
 use Prim.Native.Nat.{ℕ, _≤_, _<_}
@@ -10,17 +11,17 @@ use Rattle.run_record.specs.Numbers.{drawsRefused, drawsShort}
 use Rattle.laws.proofs.Any.{any-here, any-skip, any-none}
 use Rattle.run_record.proofs.Short.{untested, tests}
 
-some-draws : (draws : ℕ) → (draws ≡ 0 → ⊥) → draws ≤ 1000 → drawsRefused draws ≡ false
+some-draws : (draws : ℕ) → (draws ≡ 0 → ⊥) → draws ≤ mostDraws → drawsRefused draws ≡ false
 unfolding drawsRefused
-some-draws draws n l = simp (ne-eqb draws 0 n, le-ltb 1000 draws l)
+some-draws draws n l = simp (ne-eqb draws 0 n, le-ltb mostDraws draws l)
 
 no-draws : (draws : ℕ) → draws ≡ 0 → drawsRefused draws ≡ true
 unfolding drawsRefused
 no-draws draws e = simp (eq-eqb draws 0 e)
 
-many-draws : (draws : ℕ) → (draws ≡ 0 → ⊥) → 1000 < draws → drawsRefused draws ≡ true
+many-draws : (draws : ℕ) → (draws ≡ 0 → ⊥) → mostDraws < draws → drawsRefused draws ≡ true
 unfolding drawsRefused
-many-draws draws n l = simp (ne-eqb draws 0 n, lt-ltb 1000 draws l)
+many-draws draws n l = simp (ne-eqb draws 0 n, lt-ltb mostDraws draws l)
 
 returns : tie.Need-returns
 unfolding drawsShort

@@ -8,6 +8,7 @@ use native.Mathlib.Omega.{arith}
 use native.Mathlib.Nat.{mul-le-mul}
 use borrow.Author.Tests.{eq-eqb, ne-eqb, lt-ltb, le-ltb}
 use Rattle.run_record.specs.Numbers.{factorRefused, factorShort}
+use Rattle.limits.specs.Limits.{mostSigns}
 use Rattle.laws.specs.Refusal.{short}
 use Rattle.laws.proofs.Any.{any-here, any-skip, any-none}
 use Prim.Native.Nat.{_≤_}
@@ -34,7 +35,7 @@ unfolding factorRefused
 returns-4 c = untested _ _ _ _ (any-skip _ _ (le-ltb _ _ (c .before .before .before .if1 .left)) ∙ any-skip _ _ (ap not (eq-eqb _ _ (c .before .before .if2 .left))) ∙ any-skip _ _ (ne-eqb _ _ (c .before .if3 .left)) ∙ any-here _ _ (lt-ltb _ _ (c .if4 .taken)))
 
 mul-result : tie.Need-mul-result
-mul-result c = let s : c .before .before .before .before .args .size ≤ 128 = omega arith in omega (arith, mul-le-mul s (c .if4 .left))
+mul-result c = let s : c .before .before .before .before .args .size ≤ mostSigns = omega arith in omega (arith, mul-le-mul s (c .if4 .left))
 
 returns-5 : tie.Need-returns-5
 unfolding factorShort factorRefused short

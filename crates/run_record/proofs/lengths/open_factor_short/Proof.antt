@@ -6,6 +6,7 @@ use Prim.Native.Nat.{_≤_, _+_}
 use native.Mathlib.Omega.{arith}
 use native.Mathlib.Nat.{mul-le-mul}
 use borrow.Author.Tests.{lt-ltb, le-ltb}
+use Rattle.limits.specs.Limits.{mostSigns}
 use Rattle.laws.proofs.Any.{any-here, any-skip, any-none}
 use Rattle.run_record.proofs.Short.{untested, tests}
 use Rattle.run_record.specs.Numbers.{openFactorShort}
@@ -24,7 +25,7 @@ rank-meant-requires c κs = (λ _. omega arith, taken-low _ _ (sym (c .before .o
 
 mul-result : tie.Need-mul-result
 mul-result c =
-    let m : c .before .before .before .before .args .n + 1 ≤ 128 = omega arith in
+    let m : c .before .before .before .before .args .n + 1 ≤ mostSigns = omega arith in
     omega (arith, mul-le-mul m (c .rank-meant .ensures .1))
 
 returns-3 : tie.Need-returns-3

@@ -5,7 +5,7 @@ use denote.Ref.{now}
 use lib.Seq.{length-take-le}
 use Rattle.laws.proofs.Integer.{held}
 use Rattle.finalize.proofs.Assembled.{cut-fits}
-use Rattle.run_limits.specs.Limits.{searchWorkspace}
+use Rattle.limits.specs.Limits.{searchWorkspace}
 use Rattle.run_record.specs.CostTable.{CostTable, costTable}
 use Rattle.run_contract.specs.Calls.{finishLengths}
 use Rattle.run_contract.proofs.Accepting.{Finishable, finish-accepted}

@@ -6,8 +6,7 @@ use native.Mathlib.Nat.{mul-le-mul}
 use native.Mathlib.Omega.{arith}
 use lib.ListN.{length}
 use lib.Seq.{length-take-le}
-use Rattle.tables.specs.Limits.{mostSigns}
-use Rattle.run_limits.specs.Limits.{mostRank}
+use Rattle.limits.specs.Limits.{mostSigns, mostRank}
 use Rattle.sdp_solver.proofs.sweep.sweep_work.Statement.{statement}
 use Rattle.sdp_solver.proofs.sweep.sweep_work.Tie as tie
 

@@ -6,7 +6,7 @@ use native.Mathlib.Omega.{arith}
 use denote.Ref.{now}
 use lib.Seq.{length-take-le}
 use Rattle.laws.specs.Lists.{elemZ}
-use Rattle.tables.specs.Limits.{mostSignEntries}
+use Rattle.limits.specs.Limits.{mostSignEntries}
 use Rattle.tables.specs.Table.{tableOf}
 use Rattle.sign_table.proofs.Sizes.{hall-convertible}
 use Rattle.sign_table.proofs.Theorems.{hall-sign-table}

@@ -1,8 +1,9 @@
 use borrow.Author.Needs.{needs}
 use borrow.Author.Needs.{needs}
+use Rattle.limits.specs.Limits.{mostSignMagnitude}
 use Rattle.sign_search.proofs.moves.flip_current.Statement.{statement}
 use Rattle.sign_search.proofs.moves.flip_current.Tie as tie
-use Prim.Native.Nat.{_≤_, _^_}
+use Prim.Native.Nat.{_*_, _≤_}
 use native.Mathlib.Omega.{arith}
 use native.Mathlib.Numerals.{add-one}
 use mathlib.Core.Path.{ap, _∙_}
@@ -32,7 +33,7 @@ turn-entries-requires c κs = (record { usable = usable-of (c .before .before .b
 sub-changes : tie.Need-sub-changes
 sub-changes c =
     let a = c .before .before .before .before .before .before .before .before .before .before .args in
-    let small : natAbs (getD (now (a .changes)) (a .i) (pos 0)) ≤ 2 ^ 44 = rw (c .before .before .before .before .before .before .before .before .before .before .pre .2 .are (a .i) (c .before .before .before .before .before .before .before .before .before .before .pre .1)) (change-abs (now (a .current)) (usable-of (c .before .before .before .before .before .before .before .before .before .before .pre .0)) (a .i) (c .before .before .before .before .before .before .before .before .before .before .pre .1)) in
+    let small : natAbs (getD (now (a .changes)) (a .i) (pos 0)) ≤ 4 * mostSignMagnitude = rw (c .before .before .before .before .before .before .before .before .before .before .pre .2 .are (a .i) (c .before .before .before .before .before .before .before .before .before .before .pre .1)) (change-abs (now (a .current)) (usable-of (c .before .before .before .before .before .before .before .before .before .before .pre .0)) (a .i) (c .before .before .before .before .before .before .before .before .before .before .pre .1)) in
     rw (held (getD (now (a .changes)) (a .i) (pos 0)) (c .before .before .before .before .before .before .own .given)) (negation-fits (getD (now (a .changes)) (a .i) (pos 0)) (omega (arith, small)))
 
 mul-t11 : tie.Need-mul-t11

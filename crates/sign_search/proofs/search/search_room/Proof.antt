@@ -1,5 +1,4 @@
 use borrow.Author.Needs.{needs}
-use borrow.Author.Needs.{needs}
 use Rattle.sign_search.proofs.search.search_room.Statement.{statement}
 use Rattle.sign_search.proofs.search.search_room.Tie as tie
 use Prim.Native.Nat.{_*_, _≤_}
@@ -8,6 +7,7 @@ use native.Mathlib.Omega.{arith}
 use denote.Ref.{now}
 use lib.ListN.{length}
 use mir.Facts.{toZ-ofZ}
+use Rattle.limits.specs.Limits.{mostSigns}
 use Rattle.sign_search.proofs.ExpandLaws.{part-size}
 
 search-levels-requires : tie.Need-search-levels-requires
@@ -15,8 +15,8 @@ search-levels-requires c κs =
     let r = c .before .before .before .before .before .before .before .before .before .before .before .before .before .pre .0 in
     let a = c .before .before .before .before .before .before .before .before .before .before .before .before .before .args in
     let m = length (now (a .kept)) in
-    let square : m * m ≤ 128 * 128 = mul-le-mul (r .signs-few) (r .signs-few) in
-    let wide : a .width * m ≤ 128 * 128 = mul-le-mul (r .width-few) (r .signs-few) in (
+    let square : m * m ≤ mostSigns * mostSigns = mul-le-mul (r .signs-few) (r .signs-few) in
+    let wide : a .width * m ≤ mostSigns * mostSigns = mul-le-mul (r .width-few) (r .signs-few) in (
       record {
         some = c .before .before .before .before .before .before .before .before .before .before .before .before .before .pre .2;
         changes-room = omega (arith, r .signs-few);

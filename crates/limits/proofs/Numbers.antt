@@ -1,0 +1,10 @@
+-- What follows from other limits is what 01 says.
+use Prim.Native.Nat.{_^_}
+use mathlib.Core.Path.{_≡_, refl}
+use mathlib.Core.List.{[], _∷_}
+use Rattle.limits.specs.Limits.{mostSigns, mostSignEntries, mostSignMagnitude, mostFactor, mostStart, searchWorkspace, mostDrawn, leastAnswer}
+
+pub numbers-are :
+    (mostSigns ∷ mostSignEntries ∷ mostSignMagnitude ∷ mostFactor ∷ mostStart ∷ searchWorkspace ∷ mostDrawn ∷ leastAnswer ∷ [])
+    ≡ (128 ∷ 4478 ∷ 2 ^ 42 ∷ 4096 ∷ 4224 ∷ 16384 ∷ 8192 ∷ 187 ∷ [])
+numbers-are = refl

@@ -1,0 +1,72 @@
+-- 01's limits, each named once; src/lib.rt has the same names. What follows from another limit is computed from it.
+use Prim.Native.Nat.{ℕ, _+_, _*_, _^_, _/_}
+
+-- ---- (H, c)
+
+abbrev pub mostWagons : ℕ
+mostWagons = 127
+
+abbrev pub mostEntries : ℕ
+mostEntries = 4096
+
+abbrev pub mostMagnitude : ℕ
+mostMagnitude = 2 ^ 40
+
+-- ---- a sign table: a sign more than wagons; an entry of H each, and for each wagon its linear cost twice and its diagonal, and the anchor's corner
+
+abbrev pub mostSigns : ℕ
+mostSigns = mostWagons + 1
+
+abbrev pub mostSignEntries : ℕ
+mostSignEntries = mostEntries + 3 * mostWagons + 1
+
+abbrev pub mostSignMagnitude : ℕ
+mostSignMagnitude = 4 * mostMagnitude
+
+-- ---- a run, its search and its finish
+
+abbrev pub mostRank : ℕ
+mostRank = 32
+
+abbrev pub mostWidth : ℕ
+mostWidth = 128
+
+abbrev pub mostDraws : ℕ
+mostDraws = 1000
+
+-- a rule's last number, and a start's
+abbrev pub lastRule : ℕ
+lastRule = 4
+
+abbrev pub lastStart : ℕ
+lastStart = 2
+
+-- as many numbers as any factor has
+abbrev pub mostFactor : ℕ
+mostFactor = mostSigns * mostRank
+
+-- as many numbers as any start takes: a sign and a row for each sign
+abbrev pub mostStart : ℕ
+mostStart = mostSigns + mostFactor
+
+-- the workspace of a search, and so of a finish and of the record call: a level, as many choices as there are signs or places, a byte a sign
+abbrev pub searchWorkspace : ℕ
+searchWorkspace = mostSigns * mostSigns
+
+-- ---- a job record, and an answer's slice
+
+abbrev pub mostBytes : ℕ
+mostBytes = 65536
+
+-- as many doubles as any job has in its draws
+abbrev pub mostDrawn : ℕ
+mostDrawn = mostBytes / 8
+
+-- an answer slice of fewer bytes is too short: those before b, and a byte a wagon
+abbrev pub leastAnswer : ℕ
+leastAnswer = 60 + mostWagons
+
+-- ---- the reduced pair: its original size; its table has at most as many entries as a sign table
+
+abbrev pub mostSize : ℕ
+mostSize = 1024
