@@ -9,7 +9,7 @@ the same, or:
 
 - it doesn't use it up to the last `return`, so that a refusal that is returned there finds it as it was;
 - behind that there is no branch and the answer is an accepted one, so that no other refusal is given;
-- there it is written through parts `&mut slice[..end]`, by the call or by the function that it hands the whole slice on to (IN_PLACE aside).
+- there it is written through parts `&mut slice[..end]`, by the call or by the function that it hands the whole slice on to.
 
 It tries itself too: each call with a statement put at its start that touches the slice must be found at fault.
 """
@@ -22,8 +22,6 @@ import sys
 TOP = sys.argv[1] if len(sys.argv) > 1 else os.path.join(os.path.dirname(os.path.abspath(__file__)), "..")
 # These must be among the calls that are found.
 KNOWN = {"open", "sweep_run", "sweep", "finish", "dual_variables", "lift_solution"}
-# Functions that are lent a whole slice and write its elements themselves; that they write no others is for the tests on bits to show.
-IN_PLACE = {("reduced", "lift_solution", "clear"), ("reduced", "lift_solution", "put_each")}
 TAMPERED = ["{0}[0] = {0}[0];", "clear(&mut *{0});", "clear(&mut {0}[..1]);", "let other = {0};", "clear({0});"]
 LENT = "&mut [f64]"
 
@@ -202,8 +200,6 @@ def answer_faults(f):
 
 def tail_faults(functions, f, name, start=0):
     """What an accepted function does with a slice beside lending parts from its start."""
-    if (f.crate, f.module, f.name) in IN_PLACE:
-        return []
     found = []
     for at in uses_of(f.body, name):
         kind = kind_of(f.body, at, name) if at >= start else "length"

@@ -3,3 +3,4 @@ pub mod Answering
 pub mod Running
 pub mod Asked
 pub mod Enough
+pub mod OnWords

@@ -1,11 +1,13 @@
 -- `lift_solution`, return by return; what each place of the lifted slice holds; and when nothing is refused.
 -- Assumes nothing.
-use mathlib.Core.Path.{_≡_, refl, sym, _∙_}
+use mathlib.Core.Path.{_≡_, refl, sym, ap, _∙_}
 use mathlib.Core.Bool.{Bool, true, false}
-use mathlib.Core.List.{List, []}
+use mathlib.Core.List.{List, [], _++_}
 use Prim.Native.Nat.{ℕ, _<_, _≤_}
+use native.Mathlib.Nat.{le-of-eq}
 use native.Mathlib.Omega.{arith}
-use lib.ListN.{length}
+use lib.ListN.{length, take, drop}
+use lib.Seq.{length-take-le}
 use lib.Dec.{ltb}
 use lib.Ieee.{Float, nan}
 use borrow.Author.Tests.{ltb-false, le-ltb}
@@ -18,7 +20,7 @@ use Rattle.ieee.specs.Floats.{at, zero64}
 use Rattle.limits.specs.Limits.{mostSize}
 use Rattle.reduced.specs.Indices.{indexRefused, putEach, Within, Mapped}
 use Rattle.reduced.specs.Lift.{liftedOf, liftShort, liftNumber, Lifts, LiftLent, LiftedAt, by-map, by-fixed, by-none}
-use Rattle.reduced.proofs.Put.{Last, found, none, length-put, put-last, put-beyond, beyond-mapFirst}
+use Rattle.reduced.proofs.Put.{Last, found, none, length-put, put-last, put-beyond, put-front, beyond-mapFirst, front-mapFirst}
 use Rattle.reduced.proofs.Distinct.{index-mapped, mapped-index}
 
 -- ---- what the lengths are where none is short
@@ -40,6 +42,38 @@ module _ {most size : ℕ} {map fixed : List ℕ} {values solution lifted : ℕ}
   lent-lift h l =
       any-not _ _ (le-ltb _ _ (l .values-there))
       (any-not _ _ (le-ltb _ _ (l .solution-there)) (any-not _ _ (rw (le-ltb most size h) (le-ltb _ _ (l .lifted-there h))) any-none))
+
+-- ---- the writing
+
+module _ {most size : ℕ} {map fixed : List ℕ} {values solution lifted : ℕ} (l : LiftLent most size map fixed values solution lifted) (m : Mapped most size map fixed) where
+  pub lift-size : size ≤ lifted
+  lift-size = l .lifted-there (m .small)
+
+  -- what is asked of a slice as long as the one lent
+  pub lift-fixed : (xs : List Float) → length xs ≡ lifted → Within (length xs) fixed × (length fixed ≤ values)
+  lift-fixed xs same = (record { below = λ k h. omega (arith, m .fixed-within .below k h, lift-size) }, l .values-there)
+
+  pub lift-map : (xs : List Float) → length xs ≡ lifted → Within (length xs) map × (length map ≤ solution)
+  lift-map xs same = (record { below = λ k h. omega (arith, m .map-within .below k h, lift-size) }, l .solution-there)
+
+pub lifted-is : (size : ℕ) (map fixed : List ℕ) (values solution lifted : List Float) {cleared fixed′ lifted′ : List Float} → cleared ≡ fill (λ _. zero64) size lifted
+    → fixed′ ≡ putEach (elem fixed) (at values) (length fixed) cleared → lifted′ ≡ putEach (elem map) (at solution) (length map) fixed′
+    → lifted′ ≡ liftedOf size map fixed values solution lifted
+unfolding liftedOf
+lifted-is size map fixed values solution lifted a b d = rw (d, b, a)
+
+-- the first places written by themselves, and the others behind them as they were
+lifted-front : {most size : ℕ} {map fixed : List ℕ} (values solution lifted : List Float) → Mapped most size map fixed → size ≤ length lifted
+    → liftedOf size map fixed values solution (take size lifted) ++ drop size lifted ≡ liftedOf size map fixed values solution lifted
+unfolding liftedOf
+lifted-front {most} {size} {map} {fixed} values solution lifted m h =
+    let zeros : List Float = fill (λ _. zero64) size (take size lifted) in
+    let rest : List Float = drop size lifted in
+    let room : length zeros ≡ size = length-fill (λ _. zero64) (take size lifted) size ∙ length-take-le size lifted h in
+    sym (put-front (elem map) (at solution) (length map) (putEach (elem fixed) (at values) (length fixed) zeros) rest (λ i b. rw (length-put (elem fixed) (at values) (length fixed) zeros, room) (m .map-within .below i b)))
+    ∙ ap (putEach (elem map) (at solution) (length map))
+    (sym (put-front (elem fixed) (at values) (length fixed) zeros rest (λ i b. rw room (m .fixed-within .below i b)))
+    ∙ ap (putEach (elem fixed) (at values) (length fixed)) (front-mapFirst (λ _ _. zero64) size lifted))
 
 -- ---- the returns
 
@@ -71,21 +105,29 @@ module _ {size : ℕ} {map fixed : List ℕ} {values solution lifted : List Floa
     pub lifts-mapped : Mapped mostSize size map fixed
     lifts-mapped = index-mapped (clear (indexRefused mostSize size map fixed) 19 (sym (j .number) ∙ z))
 
-    pub lift-size : size ≤ length lifted
-    lift-size = lift-lent (j .long) .lifted-there (lifts-mapped .small)
+    pub long-enough : size ≤ length lifted
+    long-enough = lift-lent (j .long) .lifted-there (lifts-mapped .small)
 
-    -- what the writing of the fixed values and of the solution asks, of a slice as long as the one lent
-    pub lift-fixed : (xs : List Float) → length xs ≡ length lifted → Within (length xs) fixed × (length fixed ≤ length values)
-    lift-fixed xs same = (record { below = λ k h. omega (arith, lifts-mapped .fixed-within .below k h, lift-size) }, lift-lent (j .long) .values-there)
+    -- the first places, and what their writing asks
+    pub front-length : size ≡ length (take size lifted)
+    front-length = sym (length-take-le size lifted long-enough)
 
-    pub lift-map : (xs : List Float) → length xs ≡ length lifted → Within (length xs) map × (length map ≤ length solution)
-    lift-map xs same = (record { below = λ k h. omega (arith, lifts-mapped .map-within .below k h, lift-size) }, lift-lent (j .long) .solution-there)
+    pub lift-front : LiftLent mostSize size map fixed (length values) (length solution) (length (take size lifted))
+    lift-front =
+        record {
+          values-there = lift-lent (j .long) .values-there;
+          solution-there = lift-lent (j .long) .solution-there;
+          lifted-there = λ _. le-of-eq front-length;
+        }
 
-    pub lifts-done : {cleared fixed′ lifted′ : List Float} → cleared ≡ fill (λ _. zero64) size lifted
-        → fixed′ ≡ putEach (elem fixed) (at values) (length fixed) cleared → lifted′ ≡ putEach (elem map) (at solution) (length map) fixed′
-        → Lifts size map fixed values solution lifted 0 lifted′
-    unfolding liftedOf
-    lifts-done a b d = record { numbered = sym z ∙ is-number; refused = λ n. absurd (n refl); accepted = λ _. rw (d, b, a) }
+    pub lifts-done : {front : List Float} → front ≡ liftedOf size map fixed values solution (take size lifted)
+        → Lifts size map fixed values solution lifted 0 (front ++ drop size lifted)
+    lifts-done e =
+        record {
+          numbered = sym z ∙ is-number;
+          refused = λ n. absurd (n refl);
+          accepted = λ _. ap (λ (l : List Float). l ++ drop size lifted) e ∙ lifted-front values solution lifted lifts-mapped long-enough;
+        }
 
 -- ---- the theorem: nothing is refused exactly where the slices are long enough and the indices are as they should be
 

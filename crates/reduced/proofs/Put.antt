@@ -1,13 +1,13 @@
 -- Values put at their indices one after the other: what stands at a place afterwards.
 -- Assumes nothing.
 use mathlib.Core.Path.{_≡_, refl, sym, ap, _∙_}
-use mathlib.Core.List.{List, [], _∷_}
+use mathlib.Core.List.{List, [], _∷_, _++_}
 use Prim.Native.Nat.{ℕ, zero, suc, _+_, _<_, _≤_}
 use native.Mathlib.Omega.{arith}
 use native.Mathlib.Numerals.{add-one}
 use native.Mathlib.Decide.{ℕ-discrete}
-use lib.ListN.{length, getD, set, length-set}
-use lib.Seq.{getD-set-same, getD-set-other}
+use lib.ListN.{length, getD, set, take, drop, length-set}
+use lib.Seq.{getD-set-same, getD-set-other, set-append-left}
 use Rattle.laws.specs.Turns.{upTo}
 use Rattle.laws.specs.Rows.{mapFirst}
 use Rattle.reduced.specs.Indices.{putEach}
@@ -64,6 +64,14 @@ module _ {A : Type 0} (index : ℕ → ℕ) (value : ℕ → A) where
   put-beyond (suc n) l k d free =
       getD-set-other (putEach index value n l) (index n) k (value n) d (λ e. omega (arith, free n (omega arith))) ∙ put-beyond n l k d (λ i h. free i (omega arith))
 
+  -- where each index is in the front, what follows it stays
+  pub put-front : (n : ℕ) (front rest : List A) → ((i : ℕ) → i < n → index i < length front) → putEach index value n (front ++ rest) ≡ putEach index value n front ++ rest
+  unfolding upTo
+  put-front zero front rest h = refl
+  put-front (suc n) front rest h =
+      ap (λ (l : List A). set l (index n) (value n)) (put-front n front rest (λ i b. h i (omega arith)))
+      ∙ set-append-left (putEach index value n front) rest (index n) (value n) (rw (length-put n front) (h n (omega arith)))
+
 -- nor does a list that is written from the front change behind
 pub beyond-mapFirst : {A : Type 0} (f : ℕ → A → A) (n : ℕ) (xs : List A) (k : ℕ) (d : A) → n ≤ k → getD (mapFirst f n xs) k d ≡ getD xs k d
 unfolding mapFirst
@@ -71,3 +79,9 @@ beyond-mapFirst f zero xs k d h = refl
 beyond-mapFirst f (suc n) [] k d h = refl
 beyond-mapFirst f (suc n) (x ∷ xs) zero d h = absurd (omega arith)
 beyond-mapFirst f (suc n) (x ∷ xs) (suc k) d h = beyond-mapFirst (λ j. f (suc j)) n xs k d (omega arith)
+
+pub front-mapFirst : {A : Type 0} (f : ℕ → A → A) (n : ℕ) (xs : List A) → mapFirst f n (take n xs) ++ drop n xs ≡ mapFirst f n xs
+unfolding mapFirst
+front-mapFirst f zero xs = refl
+front-mapFirst f (suc n) [] = refl
+front-mapFirst {A} f (suc n) (x ∷ xs) = ap (λ (l : List A). f zero x ∷ l) (front-mapFirst (λ j. f (suc j)) n xs)

@@ -8,8 +8,8 @@ ghost use lib.ListN.{length};
 ghost use Rattle.laws.specs.Lists.{elem, fill};
 ghost use Rattle.ieee.specs.Floats.{at, zero64};
 ghost use Rattle.limits.specs.Limits.{mostSize};
-ghost use Rattle.reduced.specs.Indices.{putEach, Within};
-ghost use Rattle.reduced.specs.Lift.{liftShort, Lifts};
+ghost use Rattle.reduced.specs.Indices.{putEach, Within, Mapped};
+ghost use Rattle.reduced.specs.Lift.{liftedOf, liftShort, LiftLent, Lifts};
 
 // 0.0 at the first places.
 fn clear(size: usize, lifted: &mut [f64])
@@ -36,6 +36,24 @@ fn put_each(indices: &[u16], values: &[f64], lifted: &mut [f64])
     }
 }
 
+// 0.0 everywhere, over it the fixed values, over them the reduced solution, each at its index.
+fn put_lifted(
+    size: usize,
+    variable_map: &[u16],
+    fixed_index: &[u16],
+    fixed_value: &[f64],
+    reduced_solution: &[f64],
+    lifted: &mut [f64],
+)
+    requires { ⌜ LiftLent mostSize size (now «variable_map») (now «fixed_index») (length (now «fixed_value»)) (length (now «reduced_solution»)) (length (now lifted)) ⌝ }
+    requires { ⌜ Mapped mostSize size (now «variable_map») (now «fixed_index») ⌝ }
+    ensures { λ _. ⌜ now (lifted .exit) ≡ liftedOf size (now («variable_map» .entry)) (now («fixed_index» .entry)) (now («fixed_value» .entry)) (now («reduced_solution» .entry)) (now (lifted .entry)) ⌝ }
+{
+    clear(size, lifted);
+    put_each(fixed_index, fixed_value, lifted);
+    put_each(variable_map, reduced_solution, lifted);
+}
+
 // Whether a lent slice is too short, by its length.
 fn lift_short(
     size: usize,
@@ -59,7 +77,7 @@ fn lift_short(
     lifted < size
 }
 
-// 0.0 everywhere, over it the fixed values, over them the reduced solution, each at its index; 0, or the refusal, which writes nothing.
+// The reduced solution over the original indices, in the first places, the others as they were; 0, or the refusal, which writes nothing.
 pub fn lift_solution(
     size: usize,
     variable_map: &[u16],
@@ -84,8 +102,13 @@ pub fn lift_solution(
     if refusal != 0 {
         return refusal;
     }
-    clear(size, lifted);
-    put_each(fixed_index, fixed_value, lifted);
-    put_each(variable_map, reduced_solution, lifted);
+    put_lifted(
+        size,
+        variable_map,
+        fixed_index,
+        fixed_value,
+        reduced_solution,
+        &mut lifted[..size],
+    );
     0
 }

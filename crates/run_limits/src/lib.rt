@@ -5,6 +5,7 @@ ghost use Rattle.limits.specs.Limits.{mostSigns, mostRank, mostStart};
 ghost use Rattle.run_limits.specs.Rank.{rankMeant};
 ghost use Rattle.run_limits.specs.Momentum.{isMomentum};
 ghost use Rattle.run_limits.specs.Start.{drawsFollow, startLength};
+use ieee::bits::bits_of;
 use tables::rank::default_sdp_rank;
 
 // The rank as given; 0 means the default rank of m signs.
@@ -18,11 +19,13 @@ pub fn rank_meant(m: usize, rank: usize) -> usize
     rank
 }
 
-// Whether a momentum is finite, from 0 to below 1.
+// Whether a momentum is finite, from 0 to below 1: by its bits, below those of 1.0, or -0.0's. A comparison of doubles would follow the host's
+// floating-point mode, in which a subnormal below 0 may count as 0.
 pub fn is_momentum(beta: f64) -> bool
     ensures { λ r. ⌜ r ≡ isMomentum beta ⌝ }
 {
-    0.0 <= beta && beta < 1.0
+    let bits = bits_of(beta);
+    bits < 0x3ff0_0000_0000_0000 || bits == 0x8000_0000_0000_0000
 }
 
 // Whether draws follow a start's signs.
