@@ -11,6 +11,7 @@ use ieee::bits::double_of;
 use run_contract::Finished;
 use run_contract::Opened;
 use run_contract::Swept;
+use run_record::OpenSettings;
 use run_record::Run;
 use sdp_solver::finish::finish;
 use sdp_solver::open::open;
@@ -42,24 +43,17 @@ pub extern "C" fn wagonplan_raw_open(
     if words.len() < RUN_WORDS {
         return 31;
     }
-    let opened = open(
-        n,
-        count,
-        rows,
-        cols,
-        values,
-        c,
-        settings[0] as usize,
-        byte_in(settings[1]),
-        double_of(settings[2]),
-        count_in(settings[3]),
-        count_in(settings[4]),
-        double_of(settings[5]),
-        double_of(settings[6]),
-        byte_in(settings[7]),
-        numbers,
-        factor,
-    );
+    let asked = OpenSettings {
+        rank: settings[0] as usize,
+        rule: byte_in(settings[1]),
+        number: double_of(settings[2]),
+        most: count_in(settings[3]),
+        minimum: count_in(settings[4]),
+        objective_tolerance: double_of(settings[5]),
+        stationarity_tolerance: double_of(settings[6]),
+        start: byte_in(settings[7]),
+    };
+    let opened = open(n, count, rows, cols, values, c, asked, numbers, factor);
     match opened {
         Opened::Started(run) => {
             put_run(run, words);

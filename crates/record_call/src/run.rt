@@ -10,6 +10,7 @@ use limits::MOST_SIGNS;
 use limits::MOST_START;
 use limits::MOST_WAGONS;
 use run_contract::FinishResult;
+use run_record::OpenSettings;
 use run_record::Run;
 use sdp_solver::finish::finish_accepted;
 use sdp_solver::open::open_accepted;
@@ -47,14 +48,16 @@ fn run_job(
         cols,
         values,
         c,
-        j.rank,
-        j.rule,
-        j.rule_number,
-        j.most,
-        j.minimum,
-        j.objective_tolerance,
-        j.stationarity_tolerance,
-        j.start,
+        OpenSettings {
+            rank: j.rank,
+            rule: j.rule,
+            number: j.rule_number,
+            most: j.most,
+            minimum: j.minimum,
+            objective_tolerance: j.objective_tolerance,
+            stationarity_tolerance: j.stationarity_tolerance,
+            start: j.start,
+        },
         start,
         factor,
     );

@@ -14,6 +14,7 @@ use Rattle.maxcut_oracle.specs.Table.{workObjective}
 use Rattle.run_record.specs.declared.Stage.{Stage}
 use Rattle.run_record.specs.declared.Stage.the-variants.{Open, Stopped}
 use Rattle.run_record.specs.declared.Run.{Run}
+use Rattle.run_record.specs.declared.OpenSettings.{OpenSettings}
 use Rattle.run_record.specs.CostTable.{CostTable, quadratic, linear}
 use Rattle.limits.specs.Limits.{searchWorkspace}
 use Rattle.run_limits.specs.Rank.{rankMeant}
@@ -71,6 +72,11 @@ settingsOf t rank rule number most minimum objectiveTolerance stationarityTolera
       start = start;
       numbers = numbers;
     }
+
+-- the same of settings by value
+abbrev pub askedOf : CostTable → OpenSettings → List Float → Settings
+askedOf t asked numbers =
+    settingsOf t (asked .rank) (asked .rule) (asked .number) (asked .most) (asked .minimum) (asked .«objective_tolerance») (asked .«stationarity_tolerance») (asked .start) numbers
 
 -- m; rank 0 as the number it means
 abbrev pub openSize : Settings → ℕ

@@ -28,6 +28,18 @@ pub struct Run {
     pub status: u8,
 }
 
+// What an open is asked for: rank 0 is the default rank, rule and start are 01's numbers, `number` is the rule's.
+pub struct OpenSettings {
+    pub rank: usize,
+    pub rule: u8,
+    pub number: f64,
+    pub most: u32,
+    pub minimum: u32,
+    pub objective_tolerance: f64,
+    pub stationarity_tolerance: f64,
+    pub start: u8,
+}
+
 // Whether a run takes no more sweeps.
 pub fn is_stopped(stage: Stage) -> bool
     ensures { λ r. ⌜ r ≡ isStopped stage ⌝ }

@@ -4,6 +4,7 @@ ghost use mathlib.Core.Bool.{false};
 ghost use Rattle.run_record.specs.CostTable.{costTable};
 ghost use Rattle.run_record.specs.Lengths.{lengthsOf};
 ghost use Rattle.run_record.specs.Numbers.{tableShort, ownRefused, recordRefused, costTableNumber, badMomentum, sweepNumber, drawsRefused, widthRefused, finishNumber, ruleRefused, openNumber};
+use super::OpenSettings;
 use super::Run;
 use super::is_stopped;
 use super::lengths::FinishSlices;
@@ -201,15 +202,11 @@ pub fn open_number(
     cols: &[u16],
     values: &[i64],
     c: &[i64],
-    rank: usize,
-    rule: u8,
-    number: f64,
-    most: u32,
-    start: u8,
+    asked: OpenSettings,
     numbers: usize,
     factor: usize,
 ) -> u8
-    ensures { λ r. ⌜ r ≡ openNumber (costTable n count (now (rows .entry)) (now (cols .entry)) (now (values .entry)) (now (c .entry))) rank rule number most start numbers factor ⌝ }
+    ensures { λ r. ⌜ r ≡ openNumber (costTable n count (now (rows .entry)) (now (cols .entry)) (now (values .entry)) (now (c .entry))) (asked .rank) (asked .rule) (asked .number) (asked .most) (asked .start) numbers factor ⌝ }
 {
     if open_short(
         n,
@@ -218,9 +215,9 @@ pub fn open_number(
         cols,
         values,
         c,
-        rank,
-        most,
-        start,
+        asked.rank,
+        asked.most,
+        asked.start,
         numbers,
         factor,
     ) {
@@ -230,13 +227,13 @@ pub fn open_number(
     if table != 0 {
         return table;
     }
-    if open_rank_refused(rank, start) {
+    if open_rank_refused(asked.rank, asked.start) {
         return 17;
     }
-    if rule_refused(rule, number) {
+    if rule_refused(asked.rule, asked.number) {
         return 18;
     }
-    if 2 < start {
+    if 2 < asked.start {
         return 19;
     }
     0

@@ -6,6 +6,7 @@ use maxcut_oracle::objective::obj;
 use run_contract::Opened;
 use run_limits::draws_follow;
 use run_limits::rank_meant;
+use run_record::OpenSettings;
 use run_record::Run;
 use run_record::Stage;
 use run_record::numbers::open_number;
@@ -16,7 +17,7 @@ ghost use lib.ListN.{length};
 ghost use Rattle.maxcut_oracle.specs.Table.{workObjective};
 ghost use Rattle.run_record.specs.CostTable.{costTable};
 ghost use Rattle.run_sweep.specs.Work.{signTableOf};
-ghost use Rattle.run_contract.specs.Calls.{firstStage, settingsOf, openNumberOf, Opens};
+ghost use Rattle.run_contract.specs.Calls.{firstStage, askedOf, openNumberOf, Opens};
 ghost use Rattle.run_contract.specs.declared.Opened.the-variants.{Started};
 ghost use Rattle.sdp_solver.specs.Usable.{Usable};
 
@@ -78,50 +79,43 @@ pub fn open_accepted(
     cols: &[u16],
     values: &[i64],
     c: &[i64],
-    rank: usize,
-    rule: u8,
-    number: f64,
-    most: u32,
-    minimum: u32,
-    objective_tolerance: f64,
-    stationarity_tolerance: f64,
-    start: u8,
+    asked: OpenSettings,
     numbers: &[f64],
     factor: &mut [f64],
 ) -> Run
-    requires { ⌜ openNumberOf (settingsOf (costTable n count (now rows) (now cols) (now values) (now c)) rank rule number most minimum «objective_tolerance» «stationarity_tolerance» start (now numbers)) (length (now factor)) ≡ 0 ⌝ }
-    ensures { λ r. ⌜ Opens (settingsOf (costTable n count (now (rows .entry)) (now (cols .entry)) (now (values .entry)) (now (c .entry))) rank rule number most minimum «objective_tolerance» «stationarity_tolerance» start (now (numbers .entry))) (now (factor .entry)) (Started r) (now (factor .exit)) ⌝ }
+    requires { ⌜ openNumberOf (askedOf (costTable n count (now rows) (now cols) (now values) (now c)) asked (now numbers)) (length (now factor)) ≡ 0 ⌝ }
+    ensures { λ r. ⌜ Opens (askedOf (costTable n count (now (rows .entry)) (now (cols .entry)) (now (values .entry)) (now (c .entry))) asked (now (numbers .entry))) (now (factor .entry)) (Started r) (now (factor .exit)) ⌝ }
 {
     let size = n + 1;
-    let meant = rank_meant(size, rank);
+    let meant = rank_meant(size, asked.rank);
     let used = size * meant;
     prepare_initial_factor(
-        start == 2,
-        draws_follow(most, meant),
+        asked.start == 2,
+        draws_follow(asked.most, meant),
         numbers,
         meant,
         size,
         factor,
     );
     let last_objective = first_objective(n, count, rows, cols, values, c, meant, &factor[..used]);
-    let step = rule_of(rule, number);
-    let stage = first_stage(most);
+    let step = rule_of(asked.rule, asked.number);
+    let stage = first_stage(asked.most);
     Run {
         size,
         rank: meant,
         rule: step,
         sweeps: 0,
         last_objective,
-        objective_tolerance,
-        stationarity_tolerance,
-        most,
-        minimum,
+        objective_tolerance: asked.objective_tolerance,
+        stationarity_tolerance: asked.stationarity_tolerance,
+        most: asked.most,
+        minimum: asked.minimum,
         stage,
         status: 0,
     }
 }
 
-// Opens a run: `number` is the rule's, `numbers` are the start's.
+// Opens a run; `numbers` are the start's.
 pub fn open(
     n: usize,
     count: usize,
@@ -129,18 +123,11 @@ pub fn open(
     cols: &[u16],
     values: &[i64],
     c: &[i64],
-    rank: usize,
-    rule: u8,
-    number: f64,
-    most: u32,
-    minimum: u32,
-    objective_tolerance: f64,
-    stationarity_tolerance: f64,
-    start: u8,
+    asked: OpenSettings,
     numbers: &[f64],
     factor: &mut [f64],
 ) -> Opened
-    ensures { λ r. ⌜ Opens (settingsOf (costTable n count (now (rows .entry)) (now (cols .entry)) (now (values .entry)) (now (c .entry))) rank rule number most minimum «objective_tolerance» «stationarity_tolerance» start (now (numbers .entry))) (now (factor .entry)) r (now (factor .exit)) ⌝ }
+    ensures { λ r. ⌜ Opens (askedOf (costTable n count (now (rows .entry)) (now (cols .entry)) (now (values .entry)) (now (c .entry))) asked (now (numbers .entry))) (now (factor .entry)) r (now (factor .exit)) ⌝ }
 {
     let refusal = open_number(
         n,
@@ -149,33 +136,12 @@ pub fn open(
         cols,
         values,
         c,
-        rank,
-        rule,
-        number,
-        most,
-        start,
+        asked,
         numbers.len(),
         factor.len(),
     );
     if refusal != 0 {
         return Opened::Refused(refusal);
     }
-    Opened::Started(open_accepted(
-        n,
-        count,
-        rows,
-        cols,
-        values,
-        c,
-        rank,
-        rule,
-        number,
-        most,
-        minimum,
-        objective_tolerance,
-        stationarity_tolerance,
-        start,
-        numbers,
-        factor,
-    ))
+    Opened::Started(open_accepted(n, count, rows, cols, values, c, asked, numbers, factor))
 }

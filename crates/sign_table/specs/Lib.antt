@@ -1,2 +1,3 @@
 pub mod SignTable
 pub mod Walk
+pub mod Contracts

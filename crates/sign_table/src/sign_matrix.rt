@@ -10,11 +10,11 @@ ghost use mathlib.Core.List.{[], _∷_};
 ghost use Prim.Native.Nat.{suc, _+_, _*_, _≤_, _<_, _^_};
 ghost use lib.ListN.{length};
 ghost use lib.IntN.{natAbs, negℤ};
-ghost use Rattle.laws.specs.Sum.{sum, total};
 ghost use Rattle.laws.specs.Lists.{elemZ};
-ghost use Rattle.tables.specs.Table.{tableOf, Lent};
-ghost use Rattle.sign_table.specs.SignTable.{isZero, edge, rowPlaces, places, keptOf, signOf, signPlaces};
-ghost use Rattle.sign_table.specs.Walk.{At, rowTotal, Wrote, Room, Convertible};
+ghost use Rattle.tables.specs.Table.{tableOf};
+ghost use Rattle.sign_table.specs.SignTable.{isZero, edge, rowPlaces, keptOf, signPlaces};
+ghost use Rattle.sign_table.specs.Walk.{Wrote, Room};
+ghost use Rattle.sign_table.specs.Contracts.{Fits, RowFits, wagonRows, anchorRow, Put, PutAll, RowPut, AnchorPut};
 
 // One entry, at `at`.
 fn put(
@@ -70,13 +70,10 @@ fn put_row(
     to_values: &mut [i64],
     len: usize,
 ) -> usize
-    requires { ⌜ Lent count (now rows) (now cols) (now values) × (n ≤ length (now c)) × Convertible n (tableOf count (now rows) (now cols) (now values)) (elemZ (now c)) × (i < n)
-        × At (tableOf count (now rows) (now cols) (now values)) start i 0
-        × Room len (length (rowPlaces (keptOf n (tableOf count (now rows) (now cols) (now values)) (elemZ (now c))) i 0 n)) (now «to_rows») (now «to_cols») (now «to_values») ⌝ }
-    ensures { λ r. ⌜ Wrote (signOf n (tableOf count (now (rows .entry)) (now (cols .entry)) (now (values .entry))) (elemZ (now (c .entry))))
+    requires { ⌜ RowFits n count (now rows) (now cols) (now values) (now c) i start n len (now «to_rows») (now «to_cols») (now «to_values») ⌝ }
+    ensures { λ r. ⌜ Put n (tableOf count (now (rows .entry)) (now (cols .entry)) (now (values .entry))) (elemZ (now (c .entry)))
         (rowPlaces (keptOf n (tableOf count (now (rows .entry)) (now (cols .entry)) (now (values .entry))) (elemZ (now (c .entry)))) i 0 n) len
-        (now («to_rows» .entry)) (now («to_cols» .entry)) (now («to_values» .entry)) (now («to_rows» .exit)) (now («to_cols» .exit)) (now («to_values» .exit))
-        × (r ≡ len + length (rowPlaces (keptOf n (tableOf count (now (rows .entry)) (now (cols .entry)) (now (values .entry))) (elemZ (now (c .entry)))) i 0 n)) ⌝ }
+        (now («to_rows» .entry)) (now («to_cols» .entry)) (now («to_values» .entry)) (now («to_rows» .exit)) (now («to_cols» .exit)) (now («to_values» .exit)) r ⌝ }
 {
     let mut k = start;
     let mut at = len;
@@ -111,9 +108,9 @@ fn put_whole_row(
     to_values: &mut [i64],
     len: usize,
 ) -> RowEnd
-    requires { ⌜ Lent count (now rows) (now cols) (now values) × (n ≤ length (now c)) × Convertible n (tableOf count (now rows) (now cols) (now values)) (elemZ (now c)) × (i < n) × At (tableOf count (now rows) (now cols) (now values)) start i 0 × Room len (length (rowPlaces (keptOf n (tableOf count (now rows) (now cols) (now values)) (elemZ (now c))) i 0 (suc n))) (now «to_rows») (now «to_cols») (now «to_values») ⌝ }
-    ensures { λ r. ⌜ Wrote (signOf n (tableOf count (now (rows .entry)) (now (cols .entry)) (now (values .entry))) (elemZ (now (c .entry)))) (rowPlaces (keptOf n (tableOf count (now (rows .entry)) (now (cols .entry)) (now (values .entry))) (elemZ (now (c .entry)))) i 0 (suc n)) len (now («to_rows» .entry)) (now («to_cols» .entry)) (now («to_values» .entry)) (now («to_rows» .exit)) (now («to_cols» .exit)) (now («to_values» .exit))
-        × (r .len ≡ len + length (rowPlaces (keptOf n (tableOf count (now (rows .entry)) (now (cols .entry)) (now (values .entry))) (elemZ (now (c .entry)))) i 0 (suc n))) × At (tableOf count (now (rows .entry)) (now (cols .entry)) (now (values .entry))) (r .next) (suc i) 0 ⌝ }
+    requires { ⌜ RowFits n count (now rows) (now cols) (now values) (now c) i start (suc n) len (now «to_rows») (now «to_cols») (now «to_values») ⌝ }
+    ensures { λ r. ⌜ RowPut n (tableOf count (now (rows .entry)) (now (cols .entry)) (now (values .entry))) (elemZ (now (c .entry))) i len
+        (now («to_rows» .entry)) (now («to_cols» .entry)) (now («to_values» .entry)) (now («to_rows» .exit)) (now («to_cols» .exit)) (now («to_values» .exit)) (r .len) (r .next) ⌝ }
 {
     let s = row_sum(count, rows, values, c, i, start);
     let sum = s.sum;
@@ -148,8 +145,10 @@ fn put_rows(
     to_cols: &mut [u16],
     to_values: &mut [i64],
 ) -> usize
-    requires { ⌜ Lent count (now rows) (now cols) (now values) × (n ≤ length (now c)) × Convertible n (tableOf count (now rows) (now cols) (now values)) (elemZ (now c)) × Room 0 (length (places (keptOf n (tableOf count (now rows) (now cols) (now values)) (elemZ (now c))) (suc n) n)) (now «to_rows») (now «to_cols») (now «to_values») ⌝ }
-    ensures { λ r. ⌜ Wrote (signOf n (tableOf count (now (rows .entry)) (now (cols .entry)) (now (values .entry))) (elemZ (now (c .entry)))) (places (keptOf n (tableOf count (now (rows .entry)) (now (cols .entry)) (now (values .entry))) (elemZ (now (c .entry)))) (suc n) n) 0 (now («to_rows» .entry)) (now («to_cols» .entry)) (now («to_values» .entry)) (now («to_rows» .exit)) (now («to_cols» .exit)) (now («to_values» .exit)) × (r ≡ length (places (keptOf n (tableOf count (now (rows .entry)) (now (cols .entry)) (now (values .entry))) (elemZ (now (c .entry)))) (suc n) n)) ⌝ }
+    requires { ⌜ Fits n count (now rows) (now cols) (now values) (now c) 0 (length (wagonRows n (tableOf count (now rows) (now cols) (now values)) (elemZ (now c)))) (now «to_rows») (now «to_cols») (now «to_values») ⌝ }
+    ensures { λ r. ⌜ PutAll n (tableOf count (now (rows .entry)) (now (cols .entry)) (now (values .entry))) (elemZ (now (c .entry)))
+        (wagonRows n (tableOf count (now (rows .entry)) (now (cols .entry)) (now (values .entry))) (elemZ (now (c .entry))))
+        (now («to_rows» .entry)) (now («to_cols» .entry)) (now («to_values» .entry)) (now («to_rows» .exit)) (now («to_cols» .exit)) (now («to_values» .exit)) r ⌝ }
 {
     let mut k = 0;
     let mut at = 0;
@@ -194,9 +193,9 @@ fn put_last_row(
     to_values: &mut [i64],
     len: usize,
 ) -> LastRow
-    requires { ⌜ Lent count (now rows) (now cols) (now values) × (n ≤ length (now c)) × Convertible n (tableOf count (now rows) (now cols) (now values)) (elemZ (now c)) × Room len (length (rowPlaces (keptOf n (tableOf count (now rows) (now cols) (now values)) (elemZ (now c))) n 0 n)) (now «to_rows») (now «to_cols») (now «to_values») ⌝ }
-    ensures { λ r. ⌜ Wrote (signOf n (tableOf count (now (rows .entry)) (now (cols .entry)) (now (values .entry))) (elemZ (now (c .entry)))) (rowPlaces (keptOf n (tableOf count (now (rows .entry)) (now (cols .entry)) (now (values .entry))) (elemZ (now (c .entry)))) n 0 n) len (now («to_rows» .entry)) (now («to_cols» .entry)) (now («to_values» .entry)) (now («to_rows» .exit)) (now («to_cols» .exit)) (now («to_values» .exit))
-        × (r .len ≡ len + length (rowPlaces (keptOf n (tableOf count (now (rows .entry)) (now (cols .entry)) (now (values .entry))) (elemZ (now (c .entry)))) n 0 n)) × (r .total ≡ sum n (rowTotal (tableOf count (now (rows .entry)) (now (cols .entry)) (now (values .entry))) (elemZ (now (c .entry))))) ⌝ }
+    requires { ⌜ Fits n count (now rows) (now cols) (now values) (now c) len (length (anchorRow n (tableOf count (now rows) (now cols) (now values)) (elemZ (now c)))) (now «to_rows») (now «to_cols») (now «to_values») ⌝ }
+    ensures { λ r. ⌜ AnchorPut n (tableOf count (now (rows .entry)) (now (cols .entry)) (now (values .entry))) (elemZ (now (c .entry))) len
+        (now («to_rows» .entry)) (now («to_cols» .entry)) (now («to_values» .entry)) (now («to_rows» .exit)) (now («to_cols» .exit)) (now («to_values» .exit)) (r .len) (r .total) ⌝ }
 {
     let mut k = 0;
     let mut at = len;
@@ -225,8 +224,10 @@ pub fn sign_matrix(
     to_cols: &mut [u16],
     to_values: &mut [i64],
 ) -> usize
-    requires { ⌜ Lent count (now rows) (now cols) (now values) × (n ≤ length (now c)) × Convertible n (tableOf count (now rows) (now cols) (now values)) (elemZ (now c)) × Room 0 (count + 3 * n + 1) (now «to_rows») (now «to_cols») (now «to_values») ⌝ }
-    ensures { λ r. ⌜ Wrote (signOf n (tableOf count (now (rows .entry)) (now (cols .entry)) (now (values .entry))) (elemZ (now (c .entry)))) (signPlaces n (tableOf count (now (rows .entry)) (now (cols .entry)) (now (values .entry))) (elemZ (now (c .entry)))) 0 (now («to_rows» .entry)) (now («to_cols» .entry)) (now («to_values» .entry)) (now («to_rows» .exit)) (now («to_cols» .exit)) (now («to_values» .exit)) × (r ≡ length (signPlaces n (tableOf count (now (rows .entry)) (now (cols .entry)) (now (values .entry))) (elemZ (now (c .entry))))) ⌝ }
+    requires { ⌜ Fits n count (now rows) (now cols) (now values) (now c) 0 (count + 3 * n + 1) (now «to_rows») (now «to_cols») (now «to_values») ⌝ }
+    ensures { λ r. ⌜ PutAll n (tableOf count (now (rows .entry)) (now (cols .entry)) (now (values .entry))) (elemZ (now (c .entry)))
+        (signPlaces n (tableOf count (now (rows .entry)) (now (cols .entry)) (now (values .entry))) (elemZ (now (c .entry))))
+        (now («to_rows» .entry)) (now («to_cols» .entry)) (now («to_values» .entry)) (now («to_rows» .exit)) (now («to_cols» .exit)) (now («to_values» .exit)) r ⌝ }
 {
     let len = put_rows(n, count, rows, cols, values, c, to_rows, to_cols, to_values);
     let last = put_last_row(

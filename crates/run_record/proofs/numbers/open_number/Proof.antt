@@ -31,11 +31,11 @@ returns-4 c = sym (first-skip 31 _ _ (sym (c .before .before .before .before .be
 
 returns-5 : tie.Need-returns-5
 unfolding openNumber
-returns-5 c = sym (first-skip 31 _ _ (sym (c .before .before .before .before .before .before .before .before .open-short .ensures) ∙ c .before .before .before .before .before .before .before .if1 .left) ∙ first-next _ _ (sym (c .before .before .before .before .before .before .table-number .ensures) ∙ c .before .before .before .before .before .if2 .left) ∙ first-skip 17 _ _ (sym (c .before .before .before .before .open-rank-refused .ensures) ∙ c .before .before .before .if3 .left) ∙ first-skip 18 _ _ (sym (c .before .before .rule-refused .ensures) ∙ c .before .if4 .left) ∙ first-here 18 _ _ (lt-ltb _ _ (c .if5 .taken)))
+returns-5 c = sym (first-skip 31 _ _ (sym (c .before .before .before .before .before .before .before .before .before .open-short .ensures) ∙ c .before .before .before .before .before .before .before .before .if1 .left) ∙ first-next _ _ (sym (c .before .before .before .before .before .before .before .table-number .ensures) ∙ c .before .before .before .before .before .before .if2 .left) ∙ first-skip 17 _ _ (sym (c .before .before .before .before .before .open-rank-refused .ensures) ∙ c .before .before .before .before .if3 .left) ∙ first-skip 18 _ _ (sym (c .before .before .before .rule-refused .ensures) ∙ c .before .before .if4 .left) ∙ first-here 18 _ _ (lt-ltb _ _ (c .if5 .taken)))
 
 returns-6 : tie.Need-returns-6
 unfolding openNumber
-returns-6 c = sym (first-skip 31 _ _ (sym (c .before .before .before .before .before .before .before .before .open-short .ensures) ∙ c .before .before .before .before .before .before .before .if1 .left) ∙ first-next _ _ (sym (c .before .before .before .before .before .before .table-number .ensures) ∙ c .before .before .before .before .before .if2 .left) ∙ first-skip 17 _ _ (sym (c .before .before .before .before .open-rank-refused .ensures) ∙ c .before .before .before .if3 .left) ∙ first-skip 18 _ _ (sym (c .before .before .rule-refused .ensures) ∙ c .before .if4 .left) ∙ first-skip 19 _ _ (le-ltb _ _ (c .if5 .left)) ∙ first-end)
+returns-6 c = sym (first-skip 31 _ _ (sym (c .before .before .before .before .before .before .before .before .before .open-short .ensures) ∙ c .before .before .before .before .before .before .before .before .if1 .left) ∙ first-next _ _ (sym (c .before .before .before .before .before .before .before .table-number .ensures) ∙ c .before .before .before .before .before .before .if2 .left) ∙ first-skip 17 _ _ (sym (c .before .before .before .before .before .open-rank-refused .ensures) ∙ c .before .before .before .before .if3 .left) ∙ first-skip 18 _ _ (sym (c .before .before .before .rule-refused .ensures) ∙ c .before .before .if4 .left) ∙ first-skip 19 _ _ (le-ltb _ _ (c .if5 .left)) ∙ first-end)
 
 pub open-number-spec : {M : Type 1} → statement M
 open-number-spec =
