@@ -26,7 +26,7 @@ fn multiply_plain(cols: &[u16], values: &[f64], factor: &[f64], out: &mut [f64])
 }
 
 // One row of the matrix times the factor.
-fn multiply_row(cols: &[u16], values: &[f64], factor: &[f64], out: &mut [f64])
+pub fn multiply_row(cols: &[u16], values: &[f64], factor: &[f64], out: &mut [f64])
     requires { ⌜ length (now cols) ≡ length (now values) ⌝ }
     requires { ⌜ ColumnsWithin (now cols) (length (now out)) (now factor) ⌝ }
     ensures { λ _. ⌜ now (out .exit) ≡ productRow (now (cols .entry)) (now (values .entry)) (now (factor .entry)) (length (now (out .entry))) ⌝ }

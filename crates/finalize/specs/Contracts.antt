@@ -57,13 +57,13 @@ pub record Chooses (t : Table) (n rank width drawCount : ℕ) (draws factor : Li
   pub rounds-are : rounds ≡ beamSearch t width (roundedSol factor rank (suc n) draws t drawCount) .rounds
   pub choice-is : b′ ≡ over (choiceOf n (beamSearch t width (roundedSol factor rank (suc n) draws t drawCount) .answer)) b
 
--- room for a table of m rows without its diagonal, for its product with the factor, and for m multipliers
-pub record Rooms (entries m rank : ℕ) (rows cols values starts product multipliers : ℕ) : Type 0 where
+-- room for a table of m rows without its diagonal, for a row of its product with the factor, and for m multipliers
+pub record Rooms (entries m rank : ℕ) (rows cols values starts sums multipliers : ℕ) : Type 0 where
   pub rows-room : entries ≤ rows
   pub cols-room : entries ≤ cols
   pub values-room : entries ≤ values
   pub starts-room : m < starts
-  pub product-size : product ≡ m * rank
+  pub sums-size : sums ≡ rank
   pub multipliers-size : multipliers ≡ m
 
 -- all figures

@@ -13,7 +13,7 @@ ghost use Rattle.maxcut_oracle.specs.Table.{dualVariables};
 ghost use Rattle.limits.specs.Limits.{mostSigns, mostSignEntries, mostRank};
 ghost use Rattle.finalize.specs.Contracts.{Rooms};
 
-// The multipliers of m rows in `dual`, by a diagonal of m numbers, with room for the table without its diagonal and for its product with the factor.
+// The multipliers of m rows in `dual`, by a diagonal of m numbers, with room for the table without its diagonal and for a row of its product with the factor.
 fn multiply_out(
     m: usize,
     entries: usize,
@@ -27,11 +27,11 @@ fn multiply_out(
     work_cols: &mut [u16],
     work_values: &mut [f64],
     starts: &mut [usize],
-    product: &mut [f64],
+    sums: &mut [f64],
     dual: &mut [f64],
 )
     requires { ⌜ Lent entries (now rows) (now cols) (now values) × InRange m (tableOf entries (now rows) (now cols) (now values)) × (length (now factor) ≡ m * rank) ⌝ }
-    requires { ⌜ (now diagonal ≡ diagonalOf (tableOf entries (now rows) (now cols) (now values)) m) × Rooms entries m rank (length (now «work_rows»)) (length (now «work_cols»)) (length (now «work_values»)) (length (now starts)) (length (now product)) (length (now dual)) ⌝ }
+    requires { ⌜ (now diagonal ≡ diagonalOf (tableOf entries (now rows) (now cols) (now values)) m) × Rooms entries m rank (length (now «work_rows»)) (length (now «work_cols»)) (length (now «work_values»)) (length (now starts)) (length (now sums)) (length (now dual)) ⌝ }
     ensures { λ _. ⌜ now (dual .exit) ≡ dualVariables (tableOf entries (now (rows .entry)) (now (cols .entry)) (now (values .entry))) m rank (now (factor .entry)) ⌝ }
 {
     let stay = separate_diagonal(
@@ -54,7 +54,7 @@ fn multiply_out(
         factor,
         rank,
         m,
-        product,
+        sums,
         dual,
     );
 }
@@ -80,8 +80,7 @@ pub fn multipliers(
     let mut work_cols = room::indices();
     let mut work_values = room::units();
     let mut starts = room::row_starts();
-    let mut product = room::rows_of_numbers();
-    let size = m * rank;
+    let mut sums = room::direction();
     let sum = diagonal(entries, rows, cols, values, m, &mut aside);
     multiply_out(
         m,
@@ -96,7 +95,7 @@ pub fn multipliers(
         &mut work_cols,
         &mut work_values,
         &mut starts,
-        &mut product[..size],
+        &mut sums[..rank],
         &mut dual[..m],
     );
     sum

@@ -1,13 +1,11 @@
 -- `finalize::multipliers::multipliers` meets its contract. The arrays are cut to m rows; the multipliers stand at the front of their slice. Assumes nothing.
 use borrow.Author.Needs.{needs}
-use Prim.Native.Nat.{_*_, _≤_}
+use Prim.Native.Nat.{_≤_}
 use mathlib.Core.Path.{sym}
-use native.Mathlib.Nat.{mul-le-mul}
 use native.Mathlib.Omega.{arith}
 use denote.Ref.{now}
 use lib.ListN.{length}
 use lib.Seq.{length-take-le}
-use Rattle.limits.specs.Limits.{mostSigns, mostRank}
 use Rattle.tables.specs.Table.{tableOf}
 use Rattle.prepared_table.proofs.Preparing.{length-diagonalOf, work-front}
 use Rattle.finalize.proofs.Fronts.{length-dual}
@@ -20,10 +18,8 @@ diagonal-requires c κs = ((c .before .before .before .before .before .before .b
 diagonal-fits : (c : tie.After-diagonal) → c .before .before .before .before .before .before .before .before .before .before .before .before .args .m ≤ length (c .diagonal .last .1 .1 .1 .1 .1 .0)
 diagonal-fits c = omega (arith, c .diagonal .kept .1 .1 .1 .1 .1 .0, c .before .before .before .before .before .before .before .numbers .ensures .1, c .before .before .before .before .before .before .before .before .before .before .before .before .pre .1 .0)
 
-product-fits : (c : tie.After-diagonal) → c .before .before .before .before .before .before .before .before .before .before .before .before .args .m * c .before .before .before .before .before .before .before .before .before .before .before .before .args .rank ≤ length (c .before .before .rows-of-numbers .result)
-product-fits c =
-    let size : c .before .before .before .before .before .before .before .before .before .before .before .before .args .m * c .before .before .before .before .before .before .before .before .before .before .before .before .args .rank ≤ mostSigns * mostRank = mul-le-mul (c .before .before .before .before .before .before .before .before .before .before .before .before .pre .1 .0) (c .before .before .before .before .before .before .before .before .before .before .before .before .pre .1 .2) in
-    omega (arith, c .before .before .rows-of-numbers .ensures .1, size)
+sums-fit : (c : tie.After-diagonal) → c .before .before .before .before .before .before .before .before .before .before .before .before .args .rank ≤ length (c .before .before .direction .result)
+sums-fit c = omega (arith, c .before .before .direction .ensures .1, c .before .before .before .before .before .before .before .before .before .before .before .before .pre .1 .2)
 
 multiply-out-requires : tie.Need-multiply-out-requires
 multiply-out-requires c κs =
@@ -36,7 +32,7 @@ multiply-out-requires c κs =
           cols-room = omega (arith, c .before .before .before .before .before .before .before .before .before .before .before .before .before .indices2 .ensures .1, few .1);
           values-room = omega (arith, c .before .before .before .before .before .before .before .before .before .before .before .before .units .ensures .1, few .1);
           starts-room = omega (arith, c .before .before .before .before .before .before .before .before .before .before .before .row-starts .ensures .1, few .0);
-          product-size = length-take-le _ _ (product-fits (c .before .before .before .before .before .before .before .before));
+          sums-size = length-take-le _ _ (sums-fit (c .before .before .before .before .before .before .before .before));
           multipliers-size = length-take-le _ _ (few .3);
         },
       ),
@@ -54,9 +50,9 @@ multipliers-spec =
     tie.close
     (tie.spec
     (λ c κs. search needs) (λ c κs. search needs) (λ c κs. search needs) (λ c κs. search needs) (λ c κs. search needs) (λ c κs. search needs)
-    (λ c. search needs) (λ c. search needs) diagonal-requires
+    (λ c. search needs) diagonal-requires
     (λ c. diagonal-fits (c .before)) (λ c. sym (length-take-le _ _ (diagonal-fits (c .before .before))))
     (λ c. search needs) (λ c. search needs) (λ c. search needs) (λ c. search needs)
-    (λ c. product-fits (c .before .before .before .before .before .before)) (λ c. sym (length-take-le _ _ (product-fits (c .before .before .before .before .before .before .before))))
+    (λ c. sums-fit (c .before .before .before .before .before .before)) (λ c. sym (length-take-le _ _ (sums-fit (c .before .before .before .before .before .before .before))))
     (λ c. omega (arith, c .before .before .before .before .before .before .before .before .before .before .before .before .before .before .before .before .before .before .before .pre .1 .3)) (λ c. sym (length-take-le _ _ (c .before .before .before .before .before .before .before .before .before .before .before .before .before .before .before .before .before .before .before .before .pre .1 .3)))
     multiply-out-requires (λ c. search needs) returns)

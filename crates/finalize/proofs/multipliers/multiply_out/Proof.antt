@@ -38,7 +38,7 @@ dual-variables-requires c κs =
     let rooms = c .before .before .before .before .before .before .before .before .before .before .before .before .before .before .before .before .before .before .before .before .before .before .before .before .before .before .before .before .pre .1 in (
       shaped t (a .m) (a .rank) (now (a .factor)) (now (a .work-cols)) (now (a .work-values)) (now (a .starts)) (e .0) (e .1 .1 .0) (e .1 .1 .1 .0) (e .1 .1 .1 .1)
           (c .before .before .before .before .before .before .before .before .before .before .before .before .before .before .before .before .before .before .before .before .before .before .before .before .before .before .before .before .pre .0 .1) (c .before .before .before .before .before .before .before .before .before .before .before .before .before .before .before .before .before .before .before .before .before .before .before .before .before .before .before .before .pre .0 .2),
-      (ap length (rooms .0) ∙ length-diagonalOf t (a .m), rooms .1 .product-size, rooms .1 .multipliers-size),
+      (ap length (rooms .0) ∙ length-diagonalOf t (a .m), rooms .1 .sums-size, rooms .1 .multipliers-size),
     )
 
 returns : tie.Need-returns
@@ -46,7 +46,7 @@ returns c =
     let a = c .before .before .before .before .before .before .before .before .before .before .before .before .before .before .before .before .before .before .before .before .before .before .before .before .before .before .before .before .before .before .before .before .before .args in
     let e = c .before .before .before .before .before .before .before .before .before .before .before .before .before .before .before .before .before .before .separate-diagonal .ensures in
     multiplied (tableOf (a .entries) (now (a .rows)) (now (a .cols)) (now (a .values))) (a .m) (a .rank) (now (a .factor)) (now (a .work-cols)) (now (a .work-values)) (now (a .starts))
-    (e .0) (e .1 .1 .0) (e .1 .1 .1 .0) (e .1 .1 .1 .1) (c .before .before .before .before .before .before .before .before .before .before .before .before .before .before .before .before .before .before .before .before .before .before .before .before .before .before .before .before .before .before .before .before .before .pre .1 .0) (c .before .before .before .before .dual-variables .ensures .0)
+    (e .0) (e .1 .1 .0) (e .1 .1 .1 .0) (e .1 .1 .1 .1) (c .before .before .before .before .before .before .before .before .before .before .before .before .before .before .before .before .before .before .before .before .before .before .before .before .before .before .before .before .before .before .before .before .before .pre .1 .0) (c .before .before .before .before .dual-variables .ensures)
 
 pub multiply-out-spec : {M : Type 1} → statement M
 multiply-out-spec =
