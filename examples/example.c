@@ -1,5 +1,5 @@
-// The calls as a controller's host uses them: 01's worked example by the record call, with a refusal and slices that are too short, then the same
-// problem by open, sweep and finish, and a search from signs of its own.
+// The calls as a controller's host uses them: 01's worked example by the record call, with a refusal and slices that are too short, two wagons of which
+// one is pinned, then the first problem by open, sweep and finish, and a search from signs of its own.
 #include <pthread.h>
 #include <stdio.h>
 #include <stdlib.h>
@@ -37,6 +37,28 @@ static const uint8_t example_answer[] = {
     0xFF, 0xFF, 0xFF, 0xFF, 0xFF, 0xFF, 0xFF, 0xF0, 0, 0, 0, 0, 0, 0, 0, 1, // cost, rounds
     1                                                                      // the wagon's store
 };
+
+// Two wagons of which the first may not move: H_01 = H_10 = 3, c = -1, -1, wagon 0 pinned to store 0.
+static const uint8_t pinned_job[] = {
+    0, 0, 0, 113, 2,                                                       // length of the rest, version 2
+    2, 0, 2, 0, 1, 0, 0, 0, 0, 0, 0, 0, 3, 1, 0, 0, 0, 0, 0, 0, 0, 0, 3,   // n, entry count, H_01, H_10
+    0xFF, 0xFF, 0xFF, 0xFF, 0xFF, 0xFF, 0xFF, 0xFF,                        // c_0
+    0xFF, 0xFF, 0xFF, 0xFF, 0xFF, 0xFF, 0xFF, 0xFF,                        // c_1
+    1, 0, 0,                                                               // one pin: wagon 0 in store 0
+    0, 3, 0, 0, 0, 0, 0, 0, 0, 0,                                          // from here on as for one wagon: rank, rule and its number
+    0, 0, 0, 0, 0, 0, 0, 0,                                                // most sweeps, minimum
+    0, 0, 0, 0, 0, 0, 0, 0, 0, 0, 0, 0, 0, 0, 0, 0,                        // tolerances
+    1, 2, 0x3F, 0xF0, 0, 0, 0, 0, 0, 0, 0x3F, 0xF0, 0, 0, 0, 0, 0, 0,      // W, start by signs 1.0 1.0: wagon 1 and the anchor
+    0, 1, 0x3F, 0xF0, 0, 0, 0, 0, 0, 0, 0, 0, 0, 0, 0, 0, 0, 0             // one draw, 1.0 0.0
+};
+static const uint8_t pinned_answer[] = {
+    0, 0, 0, 0x3A, 1, 0, 2, 2, 0, 0, 0, 0,                                 // length, version, status, rank, n, sweeps
+    0, 0, 0, 0, 0, 0, 0, 0, 0xBF, 0xF0, 0, 0, 0, 0, 0, 0x28,               // relaxed objective, float bound
+    0xFF, 0xFF, 0xFF, 0xFF, 0xFF, 0xFF, 0xFF, 0xF8, 0, 0, 0, 0, 0, 0, 0, 0, // floor, rounded cost
+    0xFF, 0xFF, 0xFF, 0xFF, 0xFF, 0xFF, 0xFF, 0xF8, 0, 0, 0, 0, 0, 0, 0, 1, // cost, rounds
+    0, 1                                                                   // the wagons' stores
+};
+enum { STORE_OF_THE_PIN = 46 }; // where its byte stands in the job
 
 enum { UNWRITTEN = 0xA5, TAIL = 13, SLICE = WAGONPLAN_ANSWER + TAIL };
 static uint8_t *workspace, *answer;
@@ -82,13 +104,20 @@ static void accepted(void) {
     if (!failures) print_answer(answer);
 }
 
-static void refused(void) {
-    static const uint8_t refusal[WAGONPLAN_REFUSAL] = {0, 0, 0, 2, 1, 12};
-    uint8_t job[sizeof example];
-    memcpy(job, example, sizeof job);
-    job[4] = 2;
-    printf("version 2\n");
-    expect("refused by 12", call(job, sizeof job, WAGONPLAN_WORKSPACE, SLICE) == 12);
+static void pinned(void) {
+    printf("two wagons, the first pinned to store 0\n");
+    expect("accepted", call(pinned_job, sizeof pinned_job, WAGONPLAN_WORKSPACE, SLICE) == 0);
+    expect("the answer is the one worked by hand", memcmp(answer, pinned_answer, sizeof pinned_answer) == 0);
+    if (!failures) print_answer(answer);
+}
+
+// The job with one byte changed: what is said, and nothing else is written.
+static void refused(const char *what, const uint8_t *from, size_t length, size_t at, uint8_t byte, uint8_t number) {
+    uint8_t job[sizeof pinned_job], refusal[WAGONPLAN_REFUSAL] = {0, 0, 0, 2, 1, 0};
+    memcpy(job, from, length);
+    job[at] = byte, refusal[5] = number;
+    printf("%s: refused by %d\n", what, number);
+    expect("so it is", call(job, length, WAGONPLAN_WORKSPACE, SLICE) == number);
     expect("the six bytes are written", memcmp(answer, refusal, sizeof refusal) == 0);
     expect("the rest of the answer slice is kept", unwritten(answer, sizeof refusal, SLICE));
     expect("the workspace is kept", unwritten(workspace, 0, WAGONPLAN_WORKSPACE));
@@ -164,7 +193,9 @@ static void search_alone(void) {
 static void *everything(void *unused) {
     expect("header and archive belong together", wagonplan_fits());
     accepted();
-    refused();
+    pinned();
+    refused("version 0", example, sizeof example, 4, 0, 12);
+    refused("a pin to store 2", pinned_job, sizeof pinned_job, STORE_OF_THE_PIN, 2, 21);
     too_short("an answer slice of 186 bytes", sizeof example, WAGONPLAN_WORKSPACE, WAGONPLAN_ANSWER - 1);
     too_short("a workspace of 16,383 bytes", sizeof example, WAGONPLAN_WORKSPACE - 1, SLICE);
     too_short("the same with a job cut short: 31 comes first", 3, WAGONPLAN_WORKSPACE - 1, SLICE);

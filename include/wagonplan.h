@@ -238,15 +238,17 @@ static inline int wagonplan_fits(void) {
            && wagonplan_size(WAGONPLAN_SIZE_RESULT_WORDS) == WAGONPLAN_RESULT_WORDS;
 }
 
-// A job record. Numbers are big-endian, doubles are their bits; m = n + 1, r is the rank (see below).
+// A job record. Numbers are big-endian, doubles are their bits; m is one more than the free wagons, which are n less the pins; r is the rank (see below).
 //
 //   bytes       field
 //   4           length of the rest
-//   1           version, 1
+//   1           version: 1, or 2 with pins
 //   1           n, wagons
 //   2           count of entries
 //   count * 10  entries, rising: row (1), column (1), value H_ij (8, signed); each has its mirror, equal
 //   n * 8       c_i (8, signed)
+//   1           in version 2 alone: count of pins
+//   pins * 2    in version 2 alone: pins, in any order: wagon (1), its store, 0 or 1 (1); no wagon twice
 //   1           rank; 0 means the least r with r * r >= 2m, plus 1, at most m, at least 1
 //   1           rule, 0 to 4: Grad, GradAdv, Coord, CoordNoStep, CoordMomentum
 //   8           the rule's number (a double; rule 3 reads it and uses none)
@@ -258,17 +260,21 @@ static inline int wagonplan_fits(void) {
 //   2           count of draws
 //   ..          draws: count * r doubles
 //
+// A pinned wagon stays in its store. The run is that of the free wagons' table: H without the rows and columns of pinned ones, c_i with H_ij added for each j
+// pinned to 1; start and draws are for its m, the start's rows in the free wagons' order. Status, rank, sweeps, relaxed objective, float bound and rounds of the
+// answer are its own; floor and costs have the pinned wagons' own cost added; n and the choice are of all wagons.
+//
 // Where the fields of an answer record stand; the record has WAGONPLAN_AT_CHOICE + n bytes.
 enum {
     WAGONPLAN_AT_LENGTH = 0,        // 4: length of the rest, 56 + n
-    WAGONPLAN_AT_VERSION = 4,       // 1: 1
+    WAGONPLAN_AT_VERSION = 4,       // 1: 1, for jobs of either version
     WAGONPLAN_AT_STATUS = 5,        // 1: 0 all sweeps made, 1 stopped at a tolerance, 2 stopped as the objective rose
     WAGONPLAN_AT_RANK = 6,          // 1
     WAGONPLAN_AT_WAGONS = 7,        // 1: n
     WAGONPLAN_AT_SWEEPS = 8,        // 4: sweeps made
     WAGONPLAN_AT_RELAXED = 12,      // 8: relaxed objective, a double
     WAGONPLAN_AT_BOUND = 20,        // 8: float bound, a double
-    WAGONPLAN_AT_FLOOR = 28,        // 8, signed eighths: no choice costs less
+    WAGONPLAN_AT_FLOOR = 28,        // 8, signed eighths: no choice that keeps the pins costs less
     WAGONPLAN_AT_ROUNDED_COST = 36, // 8, signed eighths: cost of the choice that the search started from
     WAGONPLAN_AT_COST = 44,         // 8, signed eighths: cost of the choice below
     WAGONPLAN_AT_ROUNDS = 52,       // 8: rounds of the search
@@ -446,7 +452,7 @@ static inline const char *wagonplan_sentence(uint8_t number) {
     switch (number) {
     case 0: return "The call is accepted.";
     case 11: return "The frame is wrong: above 65,536 bytes, another length than the record says, a field past the end, or bytes left over.";
-    case 12: return "The version is not 1.";
+    case 12: return "The version is neither 1 nor 2.";
     case 13: return "There are more than 127 wagons or more than 4,096 entries; for a sign table, no sign, more than 128, or more than 4,478 entries.";
     case 14: return "An entry is out of range, or not above the one before it.";
     case 15: return "An entry's mirror is absent or unequal.";
@@ -455,6 +461,7 @@ static inline const char *wagonplan_sentence(uint8_t number) {
     case 18: return "The rule is above 4, or the momentum is not a finite number from 0 to below 1.";
     case 19: return "W is above 128, the start is none of 0 to 2, or the draws are not 1 to 1,000.";
     case 20: return "The original size is above 1,024, or a map or fixed index is out of range or mapped twice.";
+    case 21: return "A pinned wagon is out of range or pinned twice, or its store is above 1.";
     case 31: return "A lent slice is too short.";
     case 32: return "The stage is wrong: a sweep when stopped, or a finish before.";
     case 33: return "The run record contradicts itself or the table.";

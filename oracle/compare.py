@@ -1,8 +1,9 @@
 #!/usr/bin/env python3
-"""Holds the oracle against the second reading in model.py: compare.py ORACLE [SCALE] [SEED]
+"""Holds the oracle against the second reading in model.py: compare.py ORACLE [SCALE] [SEED] [KIND]
 
-ORACLE is the program. SCALE multiplies the number of cases (1: some seconds). Prints one line for
-each kind of case and ends with status 1 at the first difference.
+ORACLE is the program. SCALE multiplies the number of cases (1: some seconds). KIND names the only
+kinds to compare, by how they begin. Prints one line for each kind of case and ends with status 1 at
+the first difference.
 """
 import subprocess
 import sys
@@ -16,13 +17,19 @@ KINDS = [
     ("jobs-small", "answers", 300),
     ("damaged", "answers", 600),
     ("edges", "answers", 1000),
+    ("pinned-small", "answers", 300),
+    ("pinned-damaged", "answers", 300),
+    ("pinned", "answers", 50),
+    ("pinned-all", "answers", 50),
+    ("pinned-none", "answers", 20),
+    ("pinned-large", "answers", 2),
     ("leaf", "leaf", 320),
     ("leaf-beam", "leaf", 200),
     ("leaf-edges", "leaf", 1000),
     ("reduced", "leaf", 200),
     ("run", "run", 60),
 ]
-TRACES = 40
+TRACES = {"jobs-small": 40, "pinned-small": 20}
 
 
 def oracle(program, mode, data):
@@ -63,23 +70,27 @@ def compare_lines(program, kind, mode, count, seed):
     print(f"{kind}: {len(asked)} lines the same")
 
 
-def compare_traces(program, count, seed):
-    for line in gen.lines("jobs-small", count, f"trace {seed}"):
+def compare_traces(program, kind, count, seed):
+    for line in gen.lines(kind, count, f"trace {seed}"):
         record = bytes.fromhex(line)
         got = oracle(program, "trace", record).decode().splitlines()
         same("trace", model.trace(record), got, model.trace(record))
-    print(f"trace: {count} jobs the same")
+    print(f"trace: {count} {kind} the same")
 
 
 def main():
-    if not 2 <= len(sys.argv) <= 4:
+    if not 2 <= len(sys.argv) <= 5:
         sys.exit(__doc__)
     program = sys.argv[1]
     scale = int(sys.argv[2]) if len(sys.argv) > 2 else 1
     seed = sys.argv[3] if len(sys.argv) > 3 else "1"
+    only = sys.argv[4] if len(sys.argv) > 4 else ""
     for kind, mode, count in KINDS:
-        compare_lines(program, kind, mode, count * scale, seed)
-    compare_traces(program, TRACES * scale, seed)
+        if kind.startswith(only):
+            compare_lines(program, kind, mode, count * scale, seed)
+    for kind, count in TRACES.items():
+        if kind.startswith(only):
+            compare_traces(program, kind, count * scale, seed)
 
 
 if __name__ == "__main__":

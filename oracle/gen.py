@@ -5,6 +5,9 @@
     damaged                        jobs around every refusal number
     edges                          a fixed list at the limits; "# NN why" before each job names the
                                    number that it is refused with, 00 for none (COUNT cuts it)
+    pinned, pinned-small, pinned-large, pinned-damaged
+                                   the same of version 2, with pins; pinned-damaged around 21 above all
+    pinned-all, pinned-none        accepted, with every wagon pinned, with none
     leaf, leaf-NAME                lines for `oracle leaf`, of all functions in turn or of one
     wide-NAME                      the same of one function, up to 128 signs of low rank, few entries
     full-NAME                      the same, each rank from 1 to 32 in turn (a step's rule changes every 32 lines), up to 128 signs
@@ -266,8 +269,20 @@ def start_count(kind, most, m, rank):
     return m + (m * rank if most > 0 and rank > 1 else 0)
 
 
-def job(rng, kind="mixed"):
-    """Fields of an accepted job."""
+def some_pins(rng, n, how):
+    """Pairs of a wagon and its store, no wagon twice, in any order."""
+    if how == "some":
+        how = rng.choice(["one", "few", "half", "most", "any", "all", "none"])
+    count = {"none": 0, "one": 1, "few": 3, "half": n // 2, "most": n - 1, "all": n}.get(how, rng.randint(0, n))
+    wagons = rng.sample(range(n), max(0, min(n, count)))
+    if rng.random() < 0.5:
+        wagons.sort()
+    stores = rng.choice([[0], [1], [0, 1], [0, 1], [0, 1]])
+    return [(i, rng.choice(stores)) for i in wagons]
+
+
+def job(rng, kind="mixed", pinned=None):
+    """Fields of an accepted job: of version 2 where it is said how many are pinned."""
     n = size(rng, kind)
     small = kind == "small"
     rank = rng.choice([0, some_rank(rng, small)])
@@ -277,19 +292,23 @@ def job(rng, kind="mixed"):
     rule = rng.randrange(5)
     h, c = hall(rng, n)
     most, minimum = limits(rng, 60 if n <= 20 else 25)
-    m, r = n + 1, rank or default_rank(n + 1)
+    pins = some_pins(rng, n, pinned) if pinned else []
+    m = n - len(pins) + 1
+    r = rank or default_rank(m)
     while m * r * 8 > 20000:
         rank = r = rng.randint(1, 17)
     width = rng.choice([0, 1, 1, 2, 3, 7, 128, rng.randint(0, 128)])
     if n > 20:
         width = rng.choice([0, 1, 2, 5, 16, 128])
     room = FRAME - (46 + 10 * len(h) + 8 * n + 8 * start_count(start, most, m, r))
+    room -= 1 + 2 * len(pins) if pinned else 0
     draws = rng.choice([1, 1, 2, 3, 5, 12]) if rng.random() < 0.98 else 1000
     draws = max(1, min(draws, room // (8 * r)))
     numbers_of_start = factor(rng, m, r) if start < 2 else (
         numbers(rng, m) + numbers(rng, start_count(2, most, m, r) - m))
+    pinned = {"version": 2, "pin_count": len(pins), "pins": pins} if pinned else {"version": 1}
     return {
-        "version": 1, "n": n, "count": len(h), "entries": h, "c": c, "rank": rank, "rule": rule,
+        **pinned, "n": n, "count": len(h), "entries": h, "c": c, "rank": rank, "rule": rule,
         "number": rule_number(rng, rule), "most": most, "minimum": minimum,
         "objective_tolerance": tolerance(rng), "stationarity_tolerance": tolerance(rng),
         "width": width, "start": start, "start_numbers": numbers_of_start,
@@ -308,6 +327,8 @@ def parts(j):
         bytes([j["version"]]), bytes([j["n"]]), struct.pack(">H", j["count"]),
         *[bytes([i, k]) + u64s([v]) for i, k, v in j["entries"]],
         *[u64s([v]) for v in j["c"]],
+        *([bytes([j["pin_count"]])] if "pins" in j else []),
+        *[bytes([x]) for pin in j.get("pins", []) for x in pin],
         bytes([j["rank"]]), bytes([j["rule"]]), u64s([j["number"]]),
         struct.pack(">I", j["most"]), struct.pack(">I", j["minimum"]),
         u64s([j["objective_tolerance"]]), u64s([j["stationarity_tolerance"]]),
@@ -372,7 +393,7 @@ def bad_momentum(j, rng):
 
 
 DAMAGES = [
-    lambda j, rng: j.update(version=rng.choice([0, 2, 3, 255])),
+    lambda j, rng: j.update(version=rng.choice([0, 3, 3, 255])),
     lambda j, rng: j.update(n=rng.choice([128, 129, 200, 255])),
     lambda j, rng: j.update(count=rng.choice([4097, 5000, 65535])),
     lambda j, rng: j.update(count=min(65535, max(0, j["count"] + rng.choice([-1, 1])))),
@@ -395,10 +416,42 @@ DAMAGES = [
 ]
 
 
-def damaged(rng):
+def put_pin(j, rng, change):
+    """Changes one pin, if there is one."""
+    if j["pins"]:
+        k = rng.randrange(len(j["pins"]))
+        j["pins"][k] = change(*j["pins"][k])
+
+
+def pinned_twice(j, rng):
+    if len(j["pins"]) > 1:
+        a, b = rng.sample(range(len(j["pins"])), 2)
+        j["pins"][a] = (j["pins"][b][0], rng.randrange(2))
+
+
+def one_pin_more(j, rng):
+    """A pin more than was meant, of any wagon: all that follows is too long or too short for the free ones."""
+    j["pins"].append((rng.randrange(j["n"] + 1), rng.randrange(2)))
+    j["pin_count"] = min(255, j["pin_count"] + rng.randrange(2))
+
+
+PIN_DAMAGES = [
+    lambda j, rng: put_pin(j, rng, lambda i, s: (min(255, rng.choice([j["n"], j["n"] + 1, 127, 128, 255])), s)),
+    lambda j, rng: put_pin(j, rng, lambda i, s: (i, rng.choice([2, 3, 128, 255]))),
+    lambda j, rng: put_pin(j, rng, lambda i, s: (rng.randrange(256), rng.randrange(256))),
+    lambda j, rng: j.update(pin_count=min(255, max(0, j["pin_count"] + rng.choice([-1, 1])))),
+    lambda j, rng: j.update(pin_count=rng.choice([0, j["n"], 255])),
+    lambda j, rng: j.update(version=rng.choice([0, 1, 1, 3, 255])),
+    pinned_twice,
+    pinned_twice,
+    one_pin_more,
+]
+
+
+def damaged(rng, pinned=False):
     """A damaged job, or one that is still accepted; never one that sweeps without end."""
     while True:
-        data = damaged_once(rng)
+        data = damaged_once(rng, pinned)
         try:
             if model.read_job(data)[3]["most"] <= 100:
                 return data
@@ -406,11 +459,16 @@ def damaged(rng):
             return data
 
 
-def damaged_once(rng):
-    j = job(rng, rng.choice(["small", "small", "mixed"]))
+def damaged_once(rng, pinned):
+    j = job(rng, rng.choice(["small", "small", "mixed"]), "some" if pinned else None)
     for _ in range(rng.choice([0, 1, 1, 1, 2, 3])):
-        rng.choice(DAMAGES)(j, rng)
+        damages = PIN_DAMAGES if pinned and rng.random() < 0.7 else DAMAGES
+        rng.choice(damages)(j, rng)
     fields = parts(j)
+    if pinned and rng.random() < 0.15:
+        # Ends at some byte of the pins, or right behind them.
+        whole = 3 + len(j["entries"]) + len(j["c"]) + rng.randrange(2 * len(j["pins"]) + 2)
+        return frame(b"".join(fields[:whole]))
     k = rng.randrange(10)
     if k == 0:
         # Ends with or inside a field, the length field right.
@@ -539,14 +597,14 @@ def edges():
     yield "11 c cut short", frame(bytes([1, 1, 0, 0]) + bytes(7))
     yield "16 c whole, nothing after", frame(bytes([1, 1, 0, 0, 1]) + bytes(7))
     # 12
-    for version in (0, 2, 255):
+    for version in (0, 3, 255):
         yield j(f"12 version {version}", version=version)
-    yield j("12 version 2 and n 128", version=2, n=128)
+    yield j("12 version 3 and n 128", version=3, n=128)
     # 11
     yield "11 no byte", b""
     yield "11 three bytes", bytes(3)
     yield "11 a length of 0", bytes(4)
-    yield "11 wrong length and wrong version", struct.pack(">I", 91) + b"\x02" + body[1:]
+    yield "11 wrong length and wrong version", struct.pack(">I", 91) + b"\x03" + body[1:]
     yield "11 length one less", struct.pack(">I", 91) + body
     yield "11 length one more", struct.pack(">I", 93) + body
     yield "11 a spare byte", frame(body + b"\x00")
@@ -559,7 +617,7 @@ def edges():
     yield "11 a draw too few", record(base(draws=[one(1)]))
     yield "00 65,536 bytes", record(base(**full))
     yield "11 65,537 bytes, length right", frame(b"".join(parts(base(**full))) + b"\x00")
-    yield "11 65,537 bytes and version 2", frame(b"".join(parts(base(version=2, **full))) + b"\x00")
+    yield "11 65,537 bytes and version 3", frame(b"".join(parts(base(version=3, **full))) + b"\x00")
     # Values at their limits
     yield j("00 a warm sign 0.0", start_numbers=[0, one(1)])
     yield j("00 a warm sign -0.0", start_numbers=[bits(-0.0), one(1)])
@@ -1155,6 +1213,12 @@ def script(rng):
     yield finish_line(rng, h, m, r)
 
 
+# How large the jobs of version 2 are, and how many of their wagons are pinned.
+PINNED = {
+    "pinned": ("mixed", "some"), "pinned-small": ("small", "some"), "pinned-large": ("large", "some"),
+    "pinned-all": ("mixed", "all"), "pinned-none": ("mixed", "none"),
+}
+
 # ---- main -----------------------------------------------------------------------------------
 
 
@@ -1163,6 +1227,10 @@ def lines(kind, count, seed):
     if kind in ("jobs", "jobs-small", "jobs-large"):
         sized = {"jobs": "mixed", "jobs-small": "small", "jobs-large": "large"}[kind]
         return (record(job(rng, sized)).hex().upper() for _ in range(count))
+    if kind in PINNED:
+        return (record(job(rng, *PINNED[kind])).hex().upper() for _ in range(count))
+    if kind == "pinned-damaged":
+        return (damaged(rng, True).hex().upper() or "-" for _ in range(count))
     if kind == "damaged":
         return (damaged(rng).hex().upper() or "-" for _ in range(count))
     if kind == "edges":

@@ -1,7 +1,7 @@
 #!/usr/bin/env python3
-"""A second reading of document 01, in plain Python, to hold the oracle against.
+"""A second reading of documents 01 and 02, in plain Python, to hold the oracle against.
 
-Written from 01's words and, where 01 points to them, from the six files; it shares no code with
+Written from their words and, where 01 points to them, from the six files; it shares no code with
 the Rust harness. It reads and prints what the oracle's modes of the same name do:
 
     model.py answers | leaf | run        lines on standard input
@@ -129,6 +129,24 @@ def default_rank(m):
     while r * r < 2 * m:
         r += 1
     return max(1, min(m, r + 1))
+
+
+# ---- pinned wagons (02, Note 1) --------------------------------------------------------------
+
+
+def reduced(n, entries, c, pins):
+    """The free wagons, H and c of them alone, and the constant in eighths."""
+    free = [i for i in range(n) if i not in pins]
+    new = {i: k for k, i in enumerate(free)}
+    h = [(new[i], new[j], v) for i, j, v in entries if i in new and j in new]
+    costs = [c[i] + sum(v for r, j, v in entries if r == i and pins.get(j) == 1) for i in free]
+    return free, h, costs, cost(entries, c, merged(n, free, [0] * len(free), pins))
+
+
+def merged(n, free, b, pins):
+    """The choice of all wagons: the free ones as chosen, the pinned ones in their stores."""
+    chosen = dict(zip(free, b, strict=True)) | pins
+    return [chosen[i] for i in range(n)]
 
 
 # ---- floats over tables ---------------------------------------------------------------------
@@ -435,7 +453,8 @@ def read_job(data):
     refuse(len(data) > 65536, 11)
     r = Reader(data)
     refuse(r.u(4) != len(data) - 4, 11)
-    refuse(r.u(1) != 1, 12)
+    version = r.u(1)
+    refuse(version not in (1, 2), 12)
     n = r.u(1)
     refuse(n > 127, 13)
     count = r.u(2)
@@ -448,6 +467,8 @@ def read_job(data):
     refuse(n15(entries), 15)
     c = [r.i64() for _ in range(n)]
     refuse(n16(entries, c), 16)
+    pins = read_pins(r, n) if version == 2 else {}
+    m = n - len(pins) + 1
     s = {"rank": r.u(1)}
     refuse(s["rank"] > 32, 17)
     s["rule"] = r.u(1)
@@ -461,13 +482,25 @@ def read_job(data):
     s["start"] = r.u(1)
     refuse(s["start"] > 2, 19)
     refuse(s["start"] == 1 and s["rank"] == 0, 17)
-    rank = s["rank"] or default_rank(n + 1)
-    s["numbers"] = [r.f64() for _ in range(start_count(s["start"], s["most"], n + 1, rank))]
+    rank = s["rank"] or default_rank(m)
+    s["numbers"] = [r.f64() for _ in range(start_count(s["start"], s["most"], m, rank))]
     draw_count = r.u(2)
     refuse(not 1 <= draw_count <= 1000, 19)
     draws = [[r.f64() for _ in range(rank)] for _ in range(draw_count)]
     refuse(r.at != len(data), 11)
-    return n, entries, c, s, width, draws
+    return n, entries, c, s, width, draws, pins
+
+
+def read_pins(r, n):
+    """The store of each pinned wagon. A byte is judged once it is read: the wagon before its store."""
+    pins = {}
+    for _ in range(r.u(1)):
+        wagon = r.u(1)
+        refuse(wagon >= n or wagon in pins, 21)
+        store = r.u(1)
+        refuse(store > 1, 21)
+        pins[wagon] = store
+    return pins
 
 
 # ---- words ----------------------------------------------------------------------------------
@@ -549,21 +582,26 @@ class Words:
 
 def answer(data):
     try:
-        n, entries, c, s, width, draws = read_job(data)
+        n, entries, c, s, width, draws, pins = read_job(data)
     except Refused as refusal:
         return bytes([0, 0, 0, 2, 1, refusal.args[0]])
-    run = opened(n, entries, c, s)
-    work = set_aside(sign_table(n, entries, c))
+    free, h, costs, constant = reduced(n, entries, c, pins)
+    run = opened(len(free), h, costs, s)
+    work = set_aside(sign_table(len(free), h, costs))
     while run.stage == OPEN:
         swept(run, work)
-    return record(run, n, finished(run, n, entries, c, width, draws))
+    f = finished(run, len(free), h, costs, width, draws)
+    b = merged(n, free, f["b"], pins)
+    assert cost(entries, c, b) == f["cost"] + constant
+    return record(run, f, b, constant)
 
 
-def record(run, n, f):
-    body = bytes([1, run.status, run.rank, n]) + struct.pack(">I", run.sweeps)
+def record(run, f, b, constant):
+    """The answer record: the run and its result f on the free wagons, the choice of all."""
+    body = bytes([1, run.status, run.rank, len(b)]) + struct.pack(">I", run.sweeps)
     body += struct.pack(">QQ", bits(f["relaxed"]), bits(f["bound"]))
-    body += struct.pack(">qqq", f["floor"], f["rounded_cost"], f["cost"])
-    body += struct.pack(">Q", len(f["levels"])) + bytes(f["b"])
+    body += b"".join(struct.pack(">q", f[x] + constant) for x in ("floor", "rounded_cost", "cost"))
+    body += struct.pack(">Q", len(f["levels"])) + bytes(b)
     return struct.pack(">I", len(body)) + body
 
 
@@ -578,11 +616,16 @@ def trace(data):
         lines.append(" ".join([name] + shown))
 
     try:
-        n, entries, c, s, width, draws = read_job(data)
+        all_n, all_entries, all_c, s, width, draws, pins = read_job(data)
     except Refused as refusal:
         line("refused", refusal.args[0])
         line("answer", answer(data).hex().upper())
         return lines
+    free, entries, c, constant = reduced(all_n, all_entries, all_c, pins)
+    n = len(free)
+    if pins:
+        line("free", free)
+        line("constant", constant)
     table = sign_table(n, entries, c)
     work = set_aside(table)
     line("size", n + 1)
@@ -621,7 +664,7 @@ def trace(data):
     line("signs", sign_words(f["signs"]))
     line("cost", f["cost"])
     line("choice", f["b"])
-    line("answer", record(run, n, f).hex().upper())
+    line("answer", record(run, f, merged(all_n, free, f["b"], pins), constant).hex().upper())
     return lines
 
 

@@ -47,6 +47,19 @@ hall "H_01 = H_10 = 3, c = -1, -1" \
     "0000003A 01 00 03 02 00000000 $zero BFF80000000000A0 FFFFFFFFFFFFFFF4 $zero
      FFFFFFFFFFFFFFF8 0000000000000001 01 00"
 
+# From the rank on, with W 1 and a start by signs, for one free wagon and for none.
+free="$settings $one $one 0001 $one $zero"
+still="$settings $one 0001 $one"
+pair="02 02 0002 0001 0000000000000003 0100 0000000000000003 FFFFFFFFFFFFFFFF FFFFFFFFFFFFFFFF"
+hall "the same, wagon 0 pinned to 0" "00000071 $pair 01 0000 $free" \
+    "0000003A 01 00 02 02 00000000 $zero BFF0000000000028 FFFFFFFFFFFFFFF8 $zero
+     FFFFFFFFFFFFFFF8 0000000000000001 00 01"
+hall "the same, both pinned to 1" "00000063 $pair 02 0001 0101 $still" \
+    "0000003A 01 00 01 02 00000000 $zero $zero 0000000000000008 0000000000000008
+     0000000000000008 0000000000000000 01 01"
+hall "the same, wagon 2 pinned" "00000071 $pair 01 0200 $free" "00000002 01 15"
+hall "the same, wagon 0 pinned to 2" "00000071 $pair 01 0002 $free" "00000002 01 15"
+
 # leaf LINE RESULT
 leaf() {
     got=$(echo "$1" | "$oracle" leaf)

@@ -1,6 +1,7 @@
 #!/usr/bin/env bash
-# The oracle and the port side by side on seeded calls: tests/at_scale.sh [JOBS] [SCRIPTS] [PROBLEMS] [SEED]. Jobs, scripts of open, sweep and finish, reduced
-# problems; every value, refusal and kept byte is compared. The exit status is 0 where nothing differs; what each part printed is in target/log/at_scale.
+# The oracle and the port side by side on seeded calls: tests/at_scale.sh [JOBS] [SCRIPTS] [PROBLEMS] [SEED]. Jobs of version 1 and as many of version 2,
+# scripts of open, sweep and finish, reduced problems; every value, refusal and kept byte is compared. The exit status is 0 where nothing differs; what
+# each part printed is in target/log/at_scale.
 set -eu
 cd "$(dirname "$0")/.."
 jobs=${1:-100000} scripts=${2:-10000} problems=${3:-10000} seed=${4:-1} differing=0
@@ -15,6 +16,7 @@ part() { # KIND COUNT
     echo "$1, seed $seed: $(tail -n 1 "$log")"
 }
 part jobs "$jobs"
+part pins "$jobs"
 part runs "$scripts"
 part reduced "$problems"
 exit "$differing"

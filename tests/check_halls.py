@@ -19,7 +19,7 @@ from halls.text import Refused, Wrong  # noqa: E402
 TOP = answer.TOP
 PROGRAM = os.environ.get("WAGONPLAN") or os.path.join(TOP, "target", "bin", "wagonplan")
 HALLS = "examples/halls"
-STALLS, DOORWAY = (os.path.join(TOP, HALLS, name) for name in ("stalls.txt", "doorway.txt"))
+STALLS, DOORWAY, REPAIRS = (os.path.join(TOP, HALLS, name) for name in ("stalls.txt", "doorway.txt", "repairs.txt"))
 TWO = "wagon a 1\nwagon b -2\n"
 FRAME = "wagon a 0\npair a a 1\nrank 24\n"
 SVG = "{http://www.w3.org/2000/svg}"
@@ -37,6 +37,9 @@ def many(wagons, more=""):
 def all_pairs(wagons, most):
     pairs = [(i, k) for i in range(wagons) for k in range(i + 1, wagons)][:most]
     return "".join(f"pair w{i} w{k} 1\n" for i, k in pairs)
+
+
+ALL_LEFT = "".join(f"pin w{i} left\n" for i in range(127))
 
 
 def empty_table(wagons):
@@ -104,6 +107,16 @@ class HallFiles(Case):
         (TWO + "row A c\n", "line 3: no wagon above is named c."),
         (TWO + "row A\n", "line 3: it is written `row NAME WAGON..`, and here row is followed by 1 word."),
         (TWO + "retractable c\n", "line 3: no wagon above is named c."),
+        (TWO + "pin a\n", "line 3: it is written `pin NAME left|right`, and here pin is followed by 1 word."),
+        (TWO + "pin a left right\n", "line 3: it is written `pin NAME left|right`, and here pin is followed by 3 words."),
+        (TWO + "pin c left\n", "line 3: no wagon above is named c."),
+        ("pin a left\n" + TWO, "line 1: no wagon above is named a."),
+        (TWO + "pin a middle\n", "line 3: a wagon is pinned to the store left or right, not middle."),
+        (TWO + "pin a 0\n", "line 3: a wagon is pinned to the store left or right, not 0."),
+        (TWO + "pin a left\npin b left\npin a left\n", "line 5: wagon a is pinned to the left store already."),
+        (TWO + "pin a right\npin a left\n", "line 4: wagon a is pinned to the right store already."),
+        (TWO + "pin a right\nstart signs + + +\n", "line 4: this start has 2 numbers (2 rows with the anchor's and none for a pinned wagon), not 3."),
+        (TWO + "pin a right\npin b left\nstart signs + +\n", "line 5: this start has 1 number (1 rows with the anchor's and none for a pinned wagon), not 2."),
         ("wagons a 1\n", "line 1: a line starts with one of wagon, pair, table, row, "),
         ("rule Fast\n", "line 1: a rule is one of Grad, "),
         ("rule CoordMomentum 1\n", "line 1: the momentum 1 of CoordMomentum is not from 0 to below 1."),
@@ -143,6 +156,9 @@ class HallFiles(Case):
         (TWO + "width 0\n", TWO + "width -1\n", "line 3: the width is -1; it is from 0 to 128."),
         (FRAME + "draws 339\n", FRAME + "draws 340\n", "line 4: the job takes 65,728 bytes, 18 for the table, 420 for settings and start, "
          "65,282 for the draws, and has at most 65,536: 339 draws of 24 numbers would fit."),
+        (FRAME + "pin a left\ndraws 339\n", FRAME + "pin a left\ndraws 340\n", "line 5: the job takes 65,539 bytes, 21 for the table, 228 for settings and start, "
+         "65,282 for the draws, and has at most 65,536: 339 draws of 24 numbers would fit."),
+        (many(127, ALL_LEFT), many(127, ALL_LEFT) + "pin w126 right\n", "line 255: wagon w126 is pinned to the left store already."),
         ("rule CoordMomentum 0.99\n", "rule CoordMomentum -0.01\n", "line 1: the momentum -0.01 of CoordMomentum is not from 0 to below 1."),
         (f"wagon {'n' * 24} 0\nrow {'r' * 16} {'n' * 24}\n", f"wagon {'n' * 25} 0\n", " has 25 characters; it has at most 24."),
         (TWO + f"row {'r' * 16} a\n", TWO + f"row {'r' * 17} a\n", "line 3: the row's name rrrrrrrrrrrrrrrrr has 17 characters; it has at most 16."),
@@ -234,7 +250,8 @@ class Answers(Case):
         yield changed(good, 8, struct.pack(">I", 19)), "its status says that all sweeps were made, and it made 19 of 20"
         yield changed(changed(good, 5, b"\1"), 8, bytes(4)), "its status is 1, a stop, and it made no sweep"
         yield changed(good, 12, bytes.fromhex("FFF8000000000000")), "its relaxed objective is the NaN FFF8000000000000, not 7FF8000000000000"
-        yield bytes([0, 0, 0, 2, 1, 31]), "it is a refusal by 31, and a job is refused by a number from 11 to 19"
+        yield bytes([0, 0, 0, 2, 1, 31]), "it is a refusal by 31, and a job is refused by a number from 11 to 19 or by 21"
+        yield bytes([0, 0, 0, 2, 1, 20]), "it is a refusal by 20, and a job is refused by a number from 11 to 19 or by 21"
         yield bytes([0, 0, 0, 2, 2, 11]), "it is a refusal of version 2, not 1"
 
     def test_wrong_answers(self):
@@ -262,7 +279,7 @@ class Answers(Case):
         made.width = 1
         apart = self.hall("wagon a 1\nwagon b 1\npair a b -3\nsweeps 0\nstart signs + + +\ndraw 1 0 0\n")
         for other, sentence in ((made, "with wagon a moved"), (apart, "with all wagons moved to the other store the choice costs 1 less")):
-            table = answer.sign_table(other)
+            table = answer.sign_table(other.pairs, other.costs)
             with self.assertRaises(Wrong) as caught:
                 answer.read_answer(changed(data, 20, struct.pack(">dq", answer.bound_of(table), answer.floor_of(table))), other)
             self.assertIn(sentence, str(caught.exception))
@@ -275,15 +292,16 @@ class Answers(Case):
     def test_stored_jobs(self):
         """Every stored answer is right by its job, and every refusal has its sentence."""
         counts = [0, 0]
-        with open(os.path.join(TOP, "tests", "lists", "jobs.txt"), encoding="ascii") as file:
-            lines = (line.split() for line in file if line.startswith("answer ") and " ~ " not in line)
-            for job, stored in ((words[1], words[-1]) for words in lines if words[-2] != "1F"):
-                data = bytes.fromhex(stored)
-                if len(data) == 6:
-                    self.assertRaises(Refused, answer.refuse, data)
-                else:
-                    answer.read_answer(data, record.hall_of(bytes.fromhex(job)))
-                counts[len(data) == 6] += 1
+        for name in ("jobs.txt", "pins.txt"):
+            with open(os.path.join(TOP, "tests", "lists", name), encoding="ascii") as file:
+                lines = (line.split() for line in file if line.startswith("answer ") and " ~ " not in line)
+                for job, stored in ((words[1], words[-1]) for words in lines if words[-2] != "1F"):
+                    data = bytes.fromhex(stored)
+                    if len(data) == 6:
+                        self.assertRaises(Refused, answer.refuse, data)
+                    else:
+                        answer.read_answer(data, record.hall_of(bytes.fromhex(job)))
+                    counts[len(data) == 6] += 1
         self.assertGreater(min(counts), 100)
 
     def test_json(self):
@@ -300,6 +318,85 @@ class Answers(Case):
         self.assertEqual([answer.eighths(x) for x in (0, 1, -1, -12, 8, 8 * 2**40 + 7)], ["0", "0.125", "-0.125", "-1.5", "1", "1,099,511,627,776.875"])
 
 
+class Pins(Case):
+    """Wagons that may not move: a job of version 2, and an answer in which they stay."""
+
+    def setUp(self):
+        super().setUp()
+        self.repairs = hall.read_hall(REPAIRS)
+        self.good, self.fields = self.answered(self.repairs)
+
+    def test_job(self):
+        job = record.job_of(self.hall("wagon a -1\nwagon b -1\npair a b 3\npin a left\nsweeps 0\ntolerances 0 0\nwidth 1\nstart signs + +\ndraw 1 0\n"))
+        stored = contents(os.path.join(TOP, "tests", "lists", "pins.txt")).decode().split("\n")
+        self.assertEqual(stored[0], "# 00 H_01 = H_10 = 3, c = -1, -1, wagon 0 pinned to 0")
+        self.assertEqual(job.hex().upper(), stored[1].split()[1])
+        self.assertEqual([record.job_of(self.hall(TWO + more))[4] for more in ("", "pin a left\n")], [1, 2])
+        back = record.hall_of(record.job_of(self.repairs))
+        self.assertEqual((back.pins, back.pairs, back.costs), ({3: 0, 6: 1}, self.repairs.pairs, self.repairs.costs))
+        self.assertEqual((back.most, back.width, back.meant_rank()), (3, 16, self.repairs.meant_rank()))
+
+    def test_words_and_json(self):
+        said = list(say.words(self.repairs, self.fields))
+        self.assertIn("Pinned, may not move: A4 in the left store, B2 in the right store.", said)
+        self.assertIn(f"No choice that keeps the pins costs less than {answer.eighths(self.fields['floor'])}, the floor.", said[4])
+        self.assertIn("No single free wagon moved to the other store makes it cheaper, nor all free ones at once.", said[4])
+        found = json.loads(say.as_json(self.repairs, self.fields))
+        self.assertEqual(found["pinned"], {"A4": "left", "B2": "right"})
+        self.assertEqual((found["choice"]["A4"], found["choice"]["B2"]), ("left", "right"))
+        self.assertEqual(found["pinned_cost"], 3)
+        self.assertIn(", float bound -30.5; both are without the pinned wagons' own cost, 3.", said[-1])
+        none = json.loads(say.as_json(*self.of("wagon a 1\n")))
+        self.assertEqual((none["pinned"], none["pinned_cost"]), ({}, 0))
+
+    def of(self, text):
+        made = self.hall(text)
+        return made, self.answered(made)[1]
+
+    def test_all_pinned(self):
+        made, fields = self.of("wagon a 4\nwagon b -9\npair a b 3\npair b b 5\npin a right\npin b right\n")
+        self.assertEqual([fields[key] for key in ("cost", "floor", "rounded", "rounds", "rank", "choice")], [4, 4, 4, 0, 1, [1, 1]])
+        self.assertIn("This costs 0.5. No choice that keeps the pins costs less.", list(say.words(made, fields)))
+
+    def test_no_search(self):
+        made, fields = self.of("wagon a -1\nwagon b -1\nwagon c 9\npair a b 3\npin c right\nwidth 0\n")
+        self.assertEqual(say.promises(made, fields)[1], "The search was off (width 0): one free wagon moved may make it cheaper.")
+
+    def test_pins_in_a_named_table(self):
+        self.file("table.csv", Tables.CSV)
+        by_table, by_lines = (self.hall(text + "pin b right\n", name) for text, name in (("table table.csv\n", "one.txt"), (Tables.TEXT, "other.txt")))
+        self.assertEqual(record.job_of(by_table), record.job_of(by_lines))
+
+    def test_wrong_answers(self):
+        """A pinned wagon that is moved; a floor without the pinned wagons' cost; a free wagon that could move."""
+        good, choice = self.good, self.fields["choice"]
+        moved = [1 - b if i == 3 else b for i, b in enumerate(choice)]
+        told = lambda data: self.assertRaises(Wrong, answer.read_answer, data, self.repairs)
+        with self.assertRaises(Wrong) as caught:
+            answer.read_answer(changed(good, 60, bytes(moved)), self.repairs)
+        self.assertIn("it has wagon A4 in the right store, and it is pinned to the left one", str(caught.exception))
+        constant = answer.free_part(self.repairs)[2]
+        self.assertNotEqual(constant, 0)
+        for at, key in ((28, "floor"), (36, "rounded"), (44, "cost")):
+            if key != "rounded":
+                told(changed(good, at, struct.pack(">q", self.fields[key] - constant)))
+        told(changed(good, 6, bytes([self.fields["rank"] + 1])))
+        for i in self.repairs.free():
+            other = [1 - b if k == i else b for k, b in enumerate(choice)]
+            cost = struct.pack(">q", answer.cost_of(self.repairs, other))
+            if answer.cost_of(self.repairs, other) > self.fields["cost"]:
+                told(changed(changed(changed(good, 60, bytes(other)), 44, cost), 36, cost))
+
+    def test_job_on_standard_input(self):
+        job = record.job_of(self.repairs)
+        done = run("plan", "-", given=job)
+        self.ends(done, 0)
+        self.assertIn("Pinned, may not move: 3 in the left store, 6 in the right store.", done.stdout.decode())
+        at = 8 + 10 * len(self.repairs.pairs) + 8 * len(self.repairs.names)
+        for place, byte in ((1, 10), (1, 255), (2, 2), (3, 3), (4, 200)):
+            self.ends(run("plan", "-", given=changed(job, at + place, bytes([byte]))), 1, f"The job was refused by 21: {answer.sentence_of(21)}")
+
+
 class Pictures(Case):
     def drawn(self, made):
         """The picture's root, once it is well formed and has its words."""
@@ -307,12 +404,16 @@ class Pictures(Case):
         root = xml.etree.ElementTree.fromstring("\n".join(picture.plan(made, fields)))
         title, told = root.find(f"{SVG}title").text, root.find(f"{SVG}desc").text
         self.assertIn(f"{len(made.names)} wagon", title)
-        for words in ("Left store: ", "Right store: ", f"Cost {answer.eighths(fields['cost'])}.", "No choice at all costs less"):
+        at_all = "No choice that keeps the pins costs less" if made.pins else "No choice at all costs less"
+        for words in ("Left store: ", "Right store: ", f"Cost {answer.eighths(fields['cost'])}.", at_all):
             self.assertIn(words, told)
         wagons = [group for group in root.iter(f"{SVG}g") if group.get("class", "").startswith("wagon")]
         self.assertEqual(sorted(group.find(f"{SVG}text").text for group in wagons), sorted(made.names))
         red = [group.find(f"{SVG}text").text for group in wagons if group.find(f"{SVG}rect").get("fill") == picture.RED]
         self.assertEqual(sorted(red), sorted(made.names[i] for i in made.retractable))
+        locked = [group.find(f"{SVG}text").text for group in wagons if group.find(f"{SVG}g[@class='lock']") is not None]
+        self.assertEqual(sorted(locked), sorted(made.names[i] for i in made.pins))
+        self.assertEqual(sorted(locked), sorted(group.find(f"{SVG}text").text for group in wagons if group.find(f"{SVG}title").text.endswith(", pinned")))
         return root, fields
 
     def texts(self, root):
@@ -325,8 +426,18 @@ class Pictures(Case):
         for words in ("LEFT STORE: 7 wagons", "RIGHT STORE: 5 wagons", "Row A", "Row C", "Cost -50     Floor -65", "retractable", *promised):
             self.assertIn(words, said)
 
+    def test_pins(self):
+        """The lock beside the name, and what it means, for who sees it and for who doesn't."""
+        root, _ = self.drawn(hall.read_hall(REPAIRS))
+        self.assertIn("pinned", self.texts(root))
+        self.assertIn("Pinned, with a lock, may not move: A4 in the left store, B2 in the right store.", root.find(f"{SVG}desc").text)
+        self.assertIn("B2: right store, row B, retractable, pinned", [found.text for found in root.iter(f"{SVG}title")])
+        root, _ = self.drawn(hall.read_hall(STALLS))
+        self.assertNotIn("pinned", self.texts(root))
+        self.drawn(self.hall(many(127, ALL_LEFT)))
+
     def test_names_that_xml_must_escape(self):
-        self.drawn(self.hall("wagon <a&b>\" -1\nwagon ' 2\nrow <&> '\nretractable '\n"))
+        self.drawn(self.hall("wagon <a&b>\" -1\nwagon ' 2\nrow <&> '\nretractable '\npin ' right\n"))
 
     def test_no_wagon_and_no_search(self):
         self.drawn(self.hall(""))
@@ -340,7 +451,7 @@ class Pictures(Case):
         table = costs + all_pairs(127, 2048) + "sweeps 5\ndraws 2\nretractable w1 w126\n"
         rows = ["".join(f"row {k} {' '.join(f'w{i}' for i in range(k, min(127, k + step)))}\n" for k in range(0, 127, step)) for step in (13, 1)]
         for name, more in (("rows", rows[0]), ("single", rows[1]), ("none", "")):
-            made = self.hall(table + more)
+            made = self.hall(table + more + "pin w5 left\npin w100 right\npin w126 right\n")
             root, fields = self.drawn(made)
             sizes = {float(group.find(f"{SVG}text").get("font-size")) for group in root.iter(f"{SVG}g") if group.get("class") == "wagon"}
             self.assertGreaterEqual(min(sizes), picture.READABLE)
@@ -382,7 +493,7 @@ class Commands(Case):
         self.ends(done, 0)
         self.assertIn("Left store: 1.\nRight store: 0.\nThis costs -1.", done.stdout.decode())
         job = record.job_of(hall.read_hall(DOORWAY))
-        for bad, number in ((job[:-1], 11), (b"", 11), (changed(job, 4, b"\2"), 12), (changed(job, 5, b"\x80"), 13), (job + bytes(1 << 20), 11)):
+        for bad, number in ((job[:-1], 11), (b"", 11), (changed(job, 4, b"\3"), 12), (changed(job, 4, b"\2"), 19), (changed(job, 5, b"\x80"), 13), (job + bytes(1 << 20), 11)):
             self.ends(run("plan", "-", given=bad), 1, f"The job was refused by {number}: {answer.sentence_of(number)}")
 
     def test_refused_halls(self):
@@ -473,7 +584,7 @@ class Fuzz(Case):
 
     def test_halls_and_tables(self):
         made = random.Random(7)
-        sources = [(contents(STALLS), "hall.txt"), (contents(DOORWAY), "hall.txt"), (Tables.CSV.encode(), "table.csv")]
+        sources = [(contents(path), "hall.txt") for path in (STALLS, DOORWAY, REPAIRS)] + [(Tables.CSV.encode(), "table.csv")]
         for _ in range(800):
             data, name = made.choice(sources)
             try:
@@ -483,21 +594,21 @@ class Fuzz(Case):
 
     def test_answers(self):
         made = random.Random(8)
-        stalls = hall.read_hall(STALLS)
-        good, _ = self.answered(stalls)
-        for _ in range(1500):
+        halls = [(found, self.answered(found)[0]) for found in map(hall.read_hall, (STALLS, REPAIRS))]
+        for _ in range(2000):
+            found, good = made.choice(halls)
             try:
-                fields = answer.read_answer(self.damaged(made, good), stalls)
-                "".join([*say.words(stalls, fields), *picture.plan(stalls, fields), say.as_json(stalls, fields)])
+                fields = answer.read_answer(self.damaged(made, good), found)
+                "".join([*say.words(found, fields), *picture.plan(found, fields), say.as_json(found, fields)])
             except Wrong:
                 pass
 
     def test_jobs(self):
         made = random.Random(9)
-        job = record.job_of(hall.read_hall(DOORWAY))
-        for _ in range(300):
+        jobs = [record.job_of(hall.read_hall(path)) for path in (DOORWAY, REPAIRS)]
+        for _ in range(600):
             try:
-                record.hall_of(self.damaged(made, job))
+                record.hall_of(self.damaged(made, made.choice(jobs)))
             except Wrong:
                 pass
 

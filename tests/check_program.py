@@ -1,7 +1,7 @@
 #!/usr/bin/env python3
 """Runs the program on stored jobs, standard input to standard output, and compares: tests/check_program.py [PROGRAM]
 
-Every tenth job of tests/lists/jobs.txt, every job above 10,000 bytes, and inputs longer than a frame. PROGRAM is target/bin/wagonplan where it isn't given.
+Every tenth job of tests/lists/jobs.txt and pins.txt, every job above 10,000 bytes, and inputs longer than a frame. PROGRAM is target/bin/wagonplan where it isn't given.
 """
 import os
 import subprocess
@@ -13,7 +13,8 @@ PROGRAM = sys.argv[1] if len(sys.argv) > 1 else os.path.join(TOP, "target", "bin
 
 def cases():
     """Pairs of a job and its answer."""
-    lines = [line.split() for line in open(os.path.join(TOP, "tests", "lists", "jobs.txt")) if line[0] != "#"]
+    lists = [os.path.join(TOP, "tests", "lists", name) for name in ("jobs.txt", "pins.txt")]
+    lines = [line.split() for path in lists for line in open(path) if line[0] != "#"]
     for k, (job, answer) in enumerate((given, answer) for _, given, *_, answer in lines if given != "~"):
         if k % 10 == 0 or len(job) > 20000:
             yield bytes.fromhex(job.strip("-")), bytes.fromhex(answer)

@@ -1,6 +1,7 @@
 // For libFuzzer: the record call on any bytes (tests/fuzz.sh). The first byte of an input says how slices are lent, the rest is the job. Each slice
 // stands against a page that may not be touched, at its end or at its start. Checked are the number, the bytes that must stay, and of an accepted
-// job the figures that can be worked out from the record: cost, floor, rounds, and that no other choice of one wagon costs less.
+// job the figures that can be worked out from the record: cost by the whole table, floor, rounds, that pinned wagons stay in their stores, and that
+// no other choice of one wagon that isn't pinned costs less, nor that of all of them.
 #include <stdio.h>
 #include <stdlib.h>
 #include <sys/mman.h>
@@ -48,13 +49,16 @@ static uint64_t number_at(const uint8_t *bytes, size_t at, size_t count) {
 
 static int64_t whole_at(const uint8_t *bytes, size_t at) { return (int64_t)number_at(bytes, at, 8); }
 
-// Where the costs stand in a job, and its rank; the limit of sweeps stands 10 bytes behind the rank, W 34, the start 35.
+// Where the costs stand in a job, its pins (in version 2: their count, then wagon and store of each), and its rank; the limit of sweeps stands 10 bytes
+// behind the rank, W 34, the start 35.
 static size_t costs_at(const uint8_t *job) { return 8 + 10 * number_at(job, 6, 2); }
-static size_t rank_at(const uint8_t *job) { return costs_at(job) + 8 * (size_t)job[5]; }
+static size_t pins_at(const uint8_t *job) { return costs_at(job) + 8 * (size_t)job[5]; }
+static size_t pins_of(const uint8_t *job) { return job[4] == 2 ? job[pins_at(job)] : 0; }
+static size_t rank_at(const uint8_t *job) { return pins_at(job) + (job[4] == 2 ? 1 + 2 * pins_of(job) : 0); }
 
 // A limit of millions of sweeps would be kept to, so it is made small.
 static void few_sweeps(uint8_t *job, size_t length) {
-    if (length < 8 || length < rank_at(job) + 14) return;
+    if (length < 8 || length <= pins_at(job) || length < rank_at(job) + 14) return;
     uint8_t *most = job + rank_at(job) + 10;
     if (number_at(most, 0, 4) > 50) most[0] = most[1] = most[2] = 0, most[3] %= 50;
 }
@@ -69,11 +73,28 @@ static int64_t cost(const uint8_t *job, const uint8_t *b) {
     return sum;
 }
 
+// Each pinned wagon is in its store; all of them are marked.
+static void check_pins(const uint8_t *job, const uint8_t *b, uint8_t *pinned) {
+    const uint8_t *pin = job + pins_at(job) + 1;
+    for (size_t k = 0; k < pins_of(job); k++, pin += 2) {
+        must(pin[0] < job[5] && pin[1] <= 1 && !pinned[pin[0]], "a pin that is accepted");
+        must(b[pin[0]] == pin[1], "a pinned wagon stays in its store");
+        pinned[pin[0]] = 1;
+    }
+}
+
+// Where all wagons are pinned their cost is floor and cost, and no round is made.
+static void check_still(const uint8_t *answer) {
+    must(memcmp(answer + WAGONPLAN_AT_FLOOR, answer + WAGONPLAN_AT_COST, 8) == 0, "all pinned: the floor is the cost");
+    must(memcmp(answer + WAGONPLAN_AT_ROUNDED_COST, answer + WAGONPLAN_AT_COST, 8) == 0, "all pinned: the rounded cost is the cost");
+    must(number_at(answer, WAGONPLAN_AT_ROUNDS, 8) == 0, "all pinned: no round");
+}
+
 static void check_accepted(const uint8_t *job, const uint8_t *answer) {
     size_t n = job[5], width = job[rank_at(job) + 34];
     int64_t floor = whole_at(answer, WAGONPLAN_AT_FLOOR), rounded = whole_at(answer, WAGONPLAN_AT_ROUNDED_COST), own = whole_at(answer, WAGONPLAN_AT_COST);
     uint64_t rounds = number_at(answer, WAGONPLAN_AT_ROUNDS, 8);
-    uint8_t b[WAGONPLAN_WAGONS_MOST + 1];
+    uint8_t b[WAGONPLAN_WAGONS_MOST + 1], pinned[256] = {0};
     must(number_at(answer, 0, 4) == 56 + n && answer[4] == 1 && answer[WAGONPLAN_AT_WAGONS] == n, "length, version, n");
     must(answer[WAGONPLAN_AT_STATUS] <= 2 && 1 <= answer[WAGONPLAN_AT_RANK] && answer[WAGONPLAN_AT_RANK] <= 32, "status, rank");
     memcpy(b, answer + WAGONPLAN_AT_CHOICE, n);
@@ -81,11 +102,16 @@ static void check_accepted(const uint8_t *job, const uint8_t *answer) {
     must(cost(job, b) == own, "the cost is the choice's own");
     must(floor <= own && own <= rounded, "floor, cost, rounded cost");
     must(4 * rounds <= (uint64_t)(rounded - own), "rounds within the fall");
+    check_pins(job, b, pinned);
+    if (pins_of(job) == n) check_still(answer);
     for (size_t i = 0; i < n && width > 0; i++) {
-        b[i] ^= 1;
+        b[i] ^= !pinned[i];
         must(own <= cost(job, b), "no other choice of one wagon costs less");
-        b[i] ^= 1;
+        b[i] ^= !pinned[i];
     }
+    for (size_t i = 0; i < n; i++) b[i] ^= !pinned[i];
+    must(width == 0 || own <= cost(job, b), "the other choice of all wagons doesn't cost less");
+    reached[2400 + (job[4] == 2 ? 1 + pins_of(job) : 0)] = 1;
     reached[256 + answer[WAGONPLAN_AT_STATUS]] = reached[300 + answer[WAGONPLAN_AT_RANK]] = reached[400 + n] = 1;
     reached[600 + (rounds < 200 ? rounds : 200)] = reached[1000 + job[rank_at(job) + 1] * 256 + job[rank_at(job) + 35]] = 1;
 }
@@ -100,7 +126,8 @@ static void check_call(const uint8_t *job, size_t length, uint8_t flags, uint8_t
     memset(answer, UNWRITTEN, answer_len);
     uint8_t number = answered(job, length, workspace, workspace_len, answer, answer_len);
     must((number == 31) == ((flags & 7) >= SHORT_ANSWER), "31 where a slice is too short, and only there");
-    must(number == 0 || number == 31 || (11 <= number && number <= 19), "the number");
+    must(number == 0 || number == 31 || number == 21 || (11 <= number && number <= 19), "the number");
+    must(number != 21 || job[4] == 2, "21 in version 2 alone");
     reached[number] = 1, calls[number]++;
     size_t written = number == 31 ? 0 : number ? WAGONPLAN_REFUSAL : WAGONPLAN_AT_CHOICE + (size_t)answer[WAGONPLAN_AT_WAGONS];
     must(written <= answer_len && unwritten(answer, written, answer_len), "the rest of the answer slice is kept");

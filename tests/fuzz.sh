@@ -19,7 +19,7 @@ target/fuzz/replay tests/lists/*.txt | tail -n 1
 checked fuzz fuzzer,address,undefined
 python3 - "$longest" <<'PY'
 import sys
-words = [line.split() for line in open("tests/lists/jobs.txt") if line[0] != "#"]
+words = [line.split() for name in ("jobs", "pins") for line in open(f"tests/lists/{name}.txt") if line[0] != "#"]
 for k, word in enumerate(given for _, given, *_ in words if given != "~"):
     job = b"\x08" + bytes.fromhex(word.strip("-"))
     for folder in ["stored"] + ["corpus"] * (len(job) <= int(sys.argv[1])):

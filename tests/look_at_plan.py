@@ -1,7 +1,8 @@
 #!/usr/bin/env python3
 """Opens plans in a browser without a window and measures them there: tests/look_at_plan.py PLAN.svg..
 
-Each name must stand inside its box, each box on the page and on no other, no other text on a wagon, retractable wagons red, no type below 1 mm.
+Each name must stand inside its box, each box on the page and on no other, no other text on a wagon, retractable wagons red, a lock inside the box
+of each pinned wagon and beside its name, no type below 1 mm.
 Ends with status 0, with 1 and what is wrong, or with 77 where no browser is installed.
 """
 import html
@@ -33,6 +34,11 @@ const measure = svg => {
         for (const [one, a] of boxes) if (meet(a, e.getBBox())) faults.push('on ' + one + ': ' + e.textContent);
     }
     for (const e of all('.retractable rect')) if (getComputedStyle(e).fill !== 'rgb(183, 28, 28)') faults.push(name(e.parentNode) + ' is not red');
+    for (const e of all('.pinned')) {
+        const lock = e.querySelector('.lock')?.getBBox();
+        if (!lock || !inside(lock, e.querySelector('rect').getBBox())) faults.push(name(e) + ' has no lock in its box');
+        else if (meet(lock, e.querySelector('text').getBBox())) faults.push(name(e) + ' stands on its lock');
+    }
     for (const e of all('text')) if (size(e) < 1) faults.push('too small: ' + e.textContent);
     return {wagons: boxes.length, type: Math.min(...all('.wagon text').map(size)), faults};
 };

@@ -3,7 +3,7 @@
 
   tests/make/all.py                      writes tests/lists/*.txt
   tests/make/all.py --check              compares them with what is stored, and writes nothing
-  tests/make/all.py KIND COUNT SEED      prints seeded lines instead: KIND is `ranks` (COUNT tables at every rank and rule), `jobs`, `runs` or `reduced`
+  tests/make/all.py KIND COUNT SEED      prints seeded lines instead: KIND is `ranks` (COUNT tables at every rank and rule), `jobs`, `pins` (jobs of version 2), `runs` or `reduced`
 
 The same COUNT and SEED give the same lines.
 """
@@ -17,6 +17,7 @@ import doubles  # noqa: E402
 import edges  # noqa: E402
 import factors  # noqa: E402
 import jobs  # noqa: E402
+import pins  # noqa: E402
 import random_jobs  # noqa: E402
 import reduced  # noqa: E402
 import runs  # noqa: E402
@@ -39,8 +40,8 @@ def add_tables(lines):
     tables.add_faults(lines)
 
 
-LISTS = {"tables": add_tables, "factors": factors.add, "steps": steps.add, "edges": edges.add, "runs": runs.add, "jobs": jobs.add}
-SEEDED = {"ranks": steps.seeded, "jobs": random_jobs.seeded, "runs": runs.seeded, "reduced": reduced.seeded}
+LISTS = {"tables": add_tables, "factors": factors.add, "steps": steps.add, "edges": edges.add, "runs": runs.add, "jobs": jobs.add, "pins": pins.add}
+SEEDED = {"ranks": steps.seeded, "jobs": random_jobs.seeded, "pins": random_jobs.seeded_pins, "runs": runs.seeded, "reduced": reduced.seeded}
 
 
 def stored(check):

@@ -7,6 +7,7 @@ import random
 
 import gen
 import long_runs
+import model
 from lists import ANSWER, WORKSPACE, oracle
 
 SEED = 20261116
@@ -169,7 +170,7 @@ def entries_with(k, entry):
 
 # The field that decides, the number, what is wrong. Fields in reading order, so the first of two faults is the earlier one's.
 FAULTS = [
-    *[("version", 12, f"version {v}", {"version": v}) for v in (0, 2, 255)],
+    *[("version", 12, f"version {v}", {"version": v}) for v in (0, 3, 255)],
     *[("n", 13, f"n {v}", {"n": v}) for v in (128, 255)],
     *[("count", 13, f"{v} entries", {"count": v}) for v in (4097, 65535)],
     ("entry 0", 14, "row out of range", entries_with(0, (3, 0, 2))),
@@ -193,62 +194,74 @@ FAULTS = [
 ]
 
 
-def faulty(*changes):
-    """The fields' bytes with the changes made; where two change one field, the first stands."""
-    j = whole_job()
-    for change in reversed(changes):
-        if "entries" in change:
-            own = whole_job()["entries"]
-            change = {"entries": [e if e != o else old for e, o, old in zip(change["entries"], own, j["entries"])]}
-        j.update(change)
-    return gen.parts(j)
-
-
 def ended(parts, k, inside):
     """The record that ends before field k, or inside it; its length is right."""
     return gen.frame(b"".join(parts[:k]) + (parts[k][: len(parts[k]) // 2] if inside else b""))
 
 
-def endings():
-    parts = faulty()
-    for k, field in enumerate(FIELDS):
-        yield 11, f"ended before {field}", ended(parts, k, False)
-        if len(parts[k]) > 1:
-            yield 11, f"ended inside {field}", ended(parts, k, True)
-            yield 11, f"{field} without its last byte", gen.frame(b"".join(parts[:k]) + parts[k][:-1])
-    body = b"".join(parts)
-    for spare in (1, 8):
-        yield 11, f"{spare} bytes left over", gen.frame(body + bytes(spare))
-    for off in (-1, 1, 4, 2**31):
-        yield 11, f"length off by {off}", (len(body) + off).to_bytes(4, "big") + body
+def joined(own, first, later):
+    """Elements that the first change changed, else the later one's."""
+    return [f if f != o else l for o, f, l in zip(own, first, later)]
 
 
-def one_fault():
-    for field, number, text, change in FAULTS:
-        parts, k = faulty(change), FIELDS.index(field)
+class Reading:
+    """A whole job, its fields in reading order, and what may be wrong with them."""
+
+    def __init__(self, whole, fields, faults):
+        self.whole, self.fields, self.faults = whole, fields, faults
+
+    def faulty(self, *changes):
+        """The fields' bytes with the changes made; where two change one field, the first stands."""
+        j = self.whole()
+        for change in reversed(changes):
+            if "entries" in change:
+                change = {"entries": joined(self.whole()["entries"], change["entries"], j["entries"])}
+            elif "pins" in change:
+                change = {"pins": [tuple(joined(*pin)) for pin in zip(self.whole()["pins"], change["pins"], j["pins"])]}
+            j.update(change)
+        return gen.parts(j)
+
+    def endings(self):
+        parts = self.faulty()
+        for k, field in enumerate(self.fields):
+            yield 11, f"ended before {field}", ended(parts, k, False)
+            if len(parts[k]) > 1:
+                yield 11, f"ended inside {field}", ended(parts, k, True)
+                yield 11, f"{field} without its last byte", gen.frame(b"".join(parts[:k]) + parts[k][:-1])
         body = b"".join(parts)
-        yield number, text, gen.frame(body)
-        yield 11, f"{text}, ended before {field}", ended(parts, k, False)
-        if len(parts[k]) > 1:
-            yield 11, f"{text}, ended inside {field}", ended(parts, k, True)
-        yield number, f"{text}, ended after {field}", ended(parts, k + 1, False)
-        yield number, f"{text}, bytes left over", gen.frame(body + b"\0")
-        yield 11, f"{text}, length off by one", (len(body) + 1).to_bytes(4, "big") + body
+        for spare in (1, 8):
+            yield 11, f"{spare} bytes left over", gen.frame(body + bytes(spare))
+        for off in (-1, 1, 4, 2**31):
+            yield 11, f"length off by {off}", (len(body) + off).to_bytes(4, "big") + body
 
+    def one_fault(self):
+        for field, number, text, change in self.faults:
+            parts, k = self.faulty(change), self.fields.index(field)
+            body = b"".join(parts)
+            yield number, text, gen.frame(body)
+            yield 11, f"{text}, ended before {field}", ended(parts, k, False)
+            if len(parts[k]) > 1:
+                yield 11, f"{text}, ended inside {field}", ended(parts, k, True)
+            yield number, f"{text}, ended after {field}", ended(parts, k + 1, False)
+            yield number, f"{text}, bytes left over", gen.frame(body + b"\0")
+            yield 11, f"{text}, length off by one", (len(body) + 1).to_bytes(4, "big") + body
 
-def two_faults():
-    first_of = {}
-    for fault in FAULTS:
-        first_of.setdefault((fault[0], fault[1]), fault)
-    chosen = list(first_of.values())
-    for i, (_, number, text, change) in enumerate(chosen):
-        for field, _, later, other in chosen[i + 1 :]:
-            yield number, f"{text}, {later}", gen.frame(b"".join(faulty(change, other)))
+    def two_faults(self):
+        first_of = {}
+        for fault in self.faults:
+            first_of.setdefault((fault[0], fault[1]), fault)
+        chosen = list(first_of.values())
+        for i, (_, number, text, change) in enumerate(chosen):
+            for field, _, later, other in chosen[i + 1 :]:
+                yield number, f"{text}, {later}", gen.frame(b"".join(self.faulty(change, other)))
+
+    def refused(self):
+        for group in (self.endings, self.one_fault, self.two_faults):
+            yield from group()
 
 
 def refused(rng):
-    for group in (endings, one_fault, two_faults):
-        yield from group()
+    yield from Reading(whole_job, FIELDS, FAULTS).refused()
     for _ in range(120):
         yield None, "damaged", gen.damaged(rng)
 
@@ -267,11 +280,26 @@ def cases():
             yield number, text, record
 
 
+def ended_soon(data):
+    """Whether the job is refused, or accepted with few sweeps."""
+    try:
+        return model.read_job(data)[3]["most"] <= 100
+    except model.Refused:
+        return True
+
+
 def answers(records):
     """Pairs of a number and an answer record."""
     lines = oracle(["answers"], "".join((record.hex().upper() or "-") + "\n" for record in records))
     assert len(lines) == len(records)
     return [(int(line[10:], 16) if len(line) == 12 else 0, bytes.fromhex(line)) for line in lines]
+
+
+def stored(lines, text, record, number, answer):
+    lines.heading(f"{number:02} {text}")
+    lines.call("answer", [record], [WORKSPACE, ANSWER], number, [answer])
+    lines.call("answer", [record], [WORKSPACE, ANSWER - 1], 31, [b""])
+    lines.call("answer", [record], [WORKSPACE - 1, ANSWER], 31, [b""])
 
 
 def add(lines):
@@ -280,8 +308,5 @@ def add(lines):
     for (number, text, record), (got, answer) in zip(made, answers([record for _, _, record in made])):
         assert number in (None, got), (number, got, text)
         counts[got] += 1
-        lines.heading(f"{got:02} {text}")
-        lines.call("answer", [record], [WORKSPACE, ANSWER], got, [answer])
-        lines.call("answer", [record], [WORKSPACE, ANSWER - 1], 31, [b""])
-        lines.call("answer", [record], [WORKSPACE - 1, ANSWER], 31, [b""])
+        stored(lines, text, record, got, answer)
     return counts

@@ -38,7 +38,7 @@ class Path:
     """The objective at open, and objective, residual and norm (at least 1.0) after each sweep, whether a check is due or not."""
 
     def __init__(self, job):
-        n, entries, c, settings, _, _ = model.read_job(gen.record(job))
+        n, entries, c, settings, *_ = model.read_job(gen.record(job))
         table = model.sign_table(n, entries, c)
         run, work = model.opened(n, entries, c, settings), model.set_aside(table)
         self.rule, self.start, self.diagonal_sum, self.met = run.rule, run.last, model.total(model.diagonal(n + 1, table)), []

@@ -6,18 +6,10 @@ import subprocess
 
 import gen
 import jobs
-import model
+import pins
 from lists import ANSWER, PROGRAM, WORKSPACE
 
 BATCH = 500
-
-
-def ended_soon(data):
-    """Whether the job is refused, or accepted with few sweeps."""
-    try:
-        return model.read_job(data)[3]["most"] <= 100
-    except model.Refused:
-        return True
 
 
 def job(rng, hall, rank, **fields):
@@ -120,12 +112,12 @@ KINDS = {
 }
 
 
-def batches(kind, count, seed):
+def batches(kind, make, count, seed):
     """Batches of records of a kind."""
     rng, batch = random.Random(f"{kind} {seed}"), []
     while count > 0:
-        made = KINDS[kind][1](rng)
-        made = [data for data in (made if isinstance(made, list) else [made]) if ended_soon(data)][:count]
+        made = make(rng)
+        made = [data for data in (made if isinstance(made, list) else [made]) if jobs.ended_soon(data)][:count]
         batch += made
         count -= len(made)
         if len(batch) >= BATCH or count == 0:
@@ -133,10 +125,15 @@ def batches(kind, count, seed):
             batch = []
 
 
-def seeded(lines, count, seed):
+def seeded(lines, count, seed, kinds=KINDS):
     """So many jobs, in batches."""
-    for kind, (share, _) in KINDS.items():
-        for records in batches(kind, count * share // 1000, seed):
+    for kind, (share, make) in kinds.items():
+        for records in batches(kind, make, count * share // 1000, seed):
             for record, (number, answer) in zip(records, jobs.answers(records)):
                 lines.call("answer", [record], [WORKSPACE, ANSWER], number, [answer])
             yield
+
+
+def seeded_pins(lines, count, seed):
+    """So many jobs of version 2."""
+    yield from seeded(lines, count, f"pins {seed}", pins.KINDS)

@@ -1,4 +1,4 @@
-"""An answer record, read and held against its hall: each wrong answer is an error (01, "Job and answer records")."""
+"""An answer record, read and held against its hall: each wrong answer is an error (01, "Job and answer records"; 02, Note 1 where wagons are pinned)."""
 import math
 import os
 import re
@@ -8,7 +8,7 @@ from .text import Refused, Wrong, counted, text_of
 
 TOP = os.path.dirname(os.path.dirname(os.path.dirname(os.path.abspath(__file__))))
 HEADER = "include/wagonplan.h"
-NUMBERS = range(11, 20)  # what the record call answers, 31 aside, which writes no record
+NUMBERS = [*range(11, 20), 21]  # what the record call answers, 31 aside, which writes no record
 FIELDS = ["length", "version", "status", "rank", "n", "sweeps", "relaxed", "bound", "floor", "rounded", "cost", "rounds"]
 LAYOUT = ">IBBBBIddqqqQ"
 NAN = bytes.fromhex("7FF8000000000000")
@@ -44,7 +44,7 @@ def refuse(data):
     if data[4] != 1:
         raise Wrong(f"The answer is wrong: it is a refusal of version {data[4]}, not 1.")
     if data[5] not in NUMBERS:
-        raise Wrong(f"The answer is wrong: it is a refusal by {data[5]}, and a job is refused by a number from {NUMBERS[0]} to {NUMBERS[-1]}.")
+        raise Wrong(f"The answer is wrong: it is a refusal by {data[5]}, and a job is refused by a number from {NUMBERS[0]} to {NUMBERS[-2]} or by {NUMBERS[-1]}.")
     raise Refused(f"The job was refused by {data[5]}: {sentence_of(data[5])}")
 
 
@@ -78,12 +78,16 @@ def stated(answer, hall):
     for name, store in zip(hall.names, answer["choice"]):
         if store > 1:
             yield f"it has wagon {name} in store {store}, which is 0 for left or 1 for right"
+    for i, store in hall.pins.items():
+        if answer["choice"][i] != store:
+            yield f"it has wagon {hall.names[i]} in the {STORES[1 - store]} store, and it is pinned to the {STORES[store]} one"
 
 
 def costed(answer, hall):
     """The cost, the floor and the float bound, worked out again from the hall."""
-    cost, table = cost_of(hall, answer["choice"]), sign_table(hall)
-    floor, bound = floor_of(table), bound_of(table)
+    pairs, costs, constant = free_part(hall)
+    cost, table = cost_of(hall, answer["choice"]), sign_table(pairs, costs)
+    floor, bound = floor_of(table) + constant, bound_of(table)
     if answer["cost"] != cost:
         yield f"its cost is {eighths(answer['cost'])}, and by the hall's own costs its choice costs {eighths(cost)}"
     if answer["cost"] < answer["floor"]:
@@ -95,7 +99,7 @@ def costed(answer, hall):
 
 
 def searched(answer, hall):
-    """The search's figures, and that no wagon alone nor all of them make it cheaper."""
+    """The search's figures, and that no free wagon alone nor all of them make it cheaper."""
     fall = answer["rounded"] - answer["cost"]
     if fall < 0:
         yield f"its cost {eighths(answer['cost'])} is above {eighths(answer['rounded'])}, which the search started from"
@@ -129,19 +133,36 @@ def cost_of(hall, choice):
 
 
 def changes(hall, choice):
-    """What each wagon moved alone, and all of them, change the cost by, in eighths."""
+    """What each wagon that isn't pinned, moved alone, and all of them change the cost by, in eighths."""
     sums = [8 * c for c in hall.costs]  # what wagon i adds to a choice in which it is 0
     for (i, k), v in hall.pairs.items():
         sums[i] += 4 * v if i == k else 8 * v * choice[k]
-    for name, b, own in zip(hall.names, choice, sums):
-        yield f"wagon {name}", own * (1 - 2 * b)
-    yield "all wagons", cost_of(hall, [1 - b for b in choice]) - cost_of(hall, choice)
+    for i in hall.free():
+        yield f"wagon {hall.names[i]}", sums[i] * (1 - 2 * choice[i])
+    moved = [b if i in hall.pins else 1 - b for i, b in enumerate(choice)]
+    yield f"all wagons{' that are not pinned' if hall.pins else ''}", cost_of(hall, moved) - cost_of(hall, choice)
 
 
-def sign_table(hall):
+def free_part(hall):
+    """Pairs and costs of the wagons that aren't pinned, numbered anew, and the pinned ones' own cost in eighths: a wagon pinned to 1 leaves its pairs'
+    costs with the others."""
+    new, costs = {i: k for k, i in enumerate(hall.free())}, list(hall.costs)
+    for (i, k), v in hall.pairs.items():
+        if hall.pins.get(k) == 1:
+            costs[i] += v
+    pairs = {(new[i], new[k]): v for (i, k), v in hall.pairs.items() if i in new and k in new}
+    return pairs, [costs[i] for i in new], pinned_cost(hall)
+
+
+def pinned_cost(hall):
+    """What the pinned wagons cost by themselves, in eighths; floor and costs of an answer include it."""
+    return cost_of(hall, [hall.pins.get(i, 0) for i in range(len(hall.names))])
+
+
+def sign_table(pairs, costs):
     """01's sign table in eighths: c absorbed at (i, i), row sums at (i, n) and (n, i) where they aren't 0, the sum of all at (n, n)."""
-    n, table = len(hall.costs), dict(hall.pairs)
-    for i, c in enumerate(hall.costs):
+    n, table = len(costs), dict(pairs)
+    for i, c in enumerate(costs):
         if c:
             table[i, i] = table.get((i, i), 0) + 2 * c
     sums = [0] * n

@@ -2,6 +2,7 @@
 import io
 import os
 
+from .answer import STORES
 from .table import read_table
 from .text import Refused, count, counted, real, shown, text_of, whole
 
@@ -17,7 +18,7 @@ class Hall:
     def __init__(self, path):
         self.path, self.title = path, shown(os.path.splitext(os.path.basename(path))[0])
         self.names, self.costs, self.pairs, self.magnitude = [], [], {}, 0
-        self.rows, self.retractable = {}, set()
+        self.rows, self.retractable, self.pins = {}, set(), {}  # pins: the store of each wagon that may not move
         self.rank, self.rule, self.number, self.most, self.minimum, self.tolerances, self.width = 0, 3, 0.0, 200, 0, (0.0, 1e-6), 128
         self.start, self.start_numbers, self.seed, self.draw_count, self.draws = 0, None, "1", 30, []
         self.places, self.lines = {}, {}  # a wagon's index by its name; the last line of each word, the line of each draw
@@ -63,6 +64,14 @@ class Hall:
 
     def set_retractable(self, *wagons):
         self.retractable.update(map(self.place, wagons))
+
+    def pin(self, name, store):
+        i = self.place(name)
+        if store not in STORES:
+            raise Refused(f"a wagon is pinned to the store {' or '.join(STORES)}, not {shown(store)}")
+        if i in self.pins:
+            raise Refused(f"wagon {shown(name)} is pinned to the {STORES[self.pins[i]]} store already")
+        self.pins[i] = STORES.index(store)
 
     def set_rank(self, rank):
         self.rank = count("rank", rank, 0, RANK)
@@ -138,8 +147,12 @@ class Hall:
         line = f", line {self.lines[word]}" if word in self.lines else ""
         return Refused(f"{self.path}{line}: {sentence}.")
 
+    def free(self):
+        """The wagons that aren't pinned; a run is theirs alone."""
+        return [i for i in range(len(self.names)) if i not in self.pins]
+
     def meant_rank(self):
-        m = len(self.names) + 1
+        m = len(self.free()) + 1
         least = next(r for r in range(m + 2) if r * r >= 2 * m)
         return self.rank or max(1, min(m, least + 1))
 
@@ -152,6 +165,7 @@ LINES = {
     "table": ("FILE.csv", 1, 1, Hall.table),
     "row": ("NAME WAGON..", 2, MANY, Hall.row),
     "retractable": ("WAGON..", 1, MANY, Hall.set_retractable),
+    "pin": ("NAME left|right", 2, 2, Hall.pin),
     "rank": ("R", 1, 1, Hall.set_rank),
     "rule": ("NAME [NUMBER]", 1, 2, Hall.set_rule),
     "sweeps": ("MOST [MINIMUM]", 1, 2, Hall.set_sweeps),

@@ -6,13 +6,15 @@ from html import escape
 from unicodedata import east_asian_width
 
 from .answer import STORES, eighths
-from .say import listed, promises, stores
+from .say import listed, pinned, promises, stores
 from .text import counted
 
 MARGIN, TOP, FOOT = 10.0, 38.0, 46.0
 LABEL = 22.0  # the strip between the stores, with the rows' names
 SIZES = [size / 10 for size in range(120, 9, -1)]
 READABLE = 2.0  # smaller than this, the rows are given up for larger type
+LOCK = 0.9  # the room that a lock takes beside a pinned wagon's name, in sizes of the type
+LEGEND = 34.0  # the room of what a sign means
 INK, PAPER, PLAIN, RED = "#1a1a1a", "#f3f5f8", "#ffffff", "#b71c1c"
 BOLD = ' font-weight="bold"'
 
@@ -24,7 +26,8 @@ class Layout:
         self.bands, self.page, self.size, self.gap = bands, page, size, 0.25 * size
         self.label = LABEL if bands[0][0] is not None else 6.0
         self.store = (page[0] - 2 * MARGIN - self.label) / 2
-        self.wide, self.high = size * (max(map(em, hall.names), default=1) + 0.9), 1.8 * size
+        names = [em(name) + (LOCK if i in hall.pins else 0) for i, name in enumerate(hall.names)]
+        self.wide, self.high = size * (max(names, default=1) + 0.9), 1.8 * size
         self.across = int((self.store - self.gap) // (self.wide + self.gap))
 
     def lines(self, band):
@@ -108,7 +111,8 @@ def told(hall, answer):
     sides = [f"{side.capitalize()} store: {listed(hall, wagons)}." for side, wagons in zip(STORES, stores(hall, answer))]
     rows = [f"Row {row}: {listed(hall, members)}." for row, members in hall.rows.items()]
     retractable = [f"Retractable, in red: {listed(hall, sorted(hall.retractable))}."] if hall.retractable else []
-    return " ".join([*sides, *retractable, *rows, f"Cost {eighths(answer['cost'])}.", *promises(hall, answer)])
+    still = [f"Pinned, with a lock, may not move: {pinned(hall)}."] if hall.pins else []
+    return " ".join([*sides, *retractable, *still, *rows, f"Cost {eighths(answer['cost'])}.", *promises(hall, answer)])
 
 
 def heads(hall, answer, found):
@@ -144,20 +148,32 @@ def place(found, side, many, k, y):
 
 
 def wagon(hall, found, i, side, row, corner):
-    """A box with the name; a retractable one red with white type, so that it is told apart in black and white too."""
+    """A box with the name; a retractable one red with white type, so that it is told apart in black and white too; a pinned one with a lock."""
     x, y = corner
-    red = i in hall.retractable
-    words = f"{hall.names[i]}: {STORES[side]} store" + (f", row {row}" if row else "") + (", retractable" if red else "")
-    yield f'<g class="wagon{" retractable" if red else ""}"><title>{escape(words)}</title>'
-    yield box(x, y, found.wide, found.high, RED if red else PLAIN, f' stroke="{INK}" stroke-width="0.25" rx="0.8"')
-    yield text(x + found.wide / 2, y + found.high / 2 + 0.36 * found.size, found.size, hall.names[i], "middle", "#ffffff" if red else INK) + "</g>"
+    red, still, size = i in hall.retractable, i in hall.pins, found.size
+    words = f"{hall.names[i]}: {STORES[side]} store" + (f", row {row}" if row else "") + (", retractable" if red else "") + (", pinned" if still else "")
+    ink = "#ffffff" if red else INK
+    yield f'<g class="wagon{" retractable" if red else ""}{" pinned" if still else ""}"><title>{escape(words)}</title>'
+    yield box(x, y, found.wide, found.high, RED if red else PLAIN, f' stroke="{INK}" stroke-width="{0.7 if still else 0.25}" rx="0.8"')
+    if still:
+        yield lock(x + 0.4 * size, y + found.high / 2 - 0.5 * size, size, ink)
+    middle = x + (found.wide + (LOCK * size if still else 0)) / 2
+    yield text(middle, y + found.high / 2 + 0.36 * size, size, hall.names[i], "middle", ink) + "</g>"
+
+
+def lock(x, y, size, ink):
+    """A padlock of 0.65 by 0.95 sizes: its body, and the shackle above it."""
+    body = f"M{x:.2f} {y + 0.42 * size:.2f} h{0.65 * size:.2f} v{0.53 * size:.2f} h{-0.65 * size:.2f} Z"
+    shackle = f"M{x + 0.13 * size:.2f} {y + 0.45 * size:.2f} v{-0.18 * size:.2f} a{0.195 * size:.2f} {0.195 * size:.2f} 0 0 1 {0.39 * size:.2f} 0 v{0.18 * size:.2f}"
+    return f'<g class="lock"><path d="{body}" fill="{ink}"/><path d="{shackle}" fill="none" stroke="{ink}" stroke-width="{0.11 * size:.2f}"/></g>'
 
 
 def foot(hall, answer, found):
-    """The figures, what is promised, and what red means."""
+    """The figures, what is promised, and what red and a lock mean."""
     y, width = found.page[1] - FOOT + 10, found.page[0] - 2 * MARGIN
     figures = f"Cost {eighths(answer['cost'])}     Floor {eighths(answer['floor'])}"
-    yield text(MARGIN, y, fitted(7.5, figures, width - 40), figures, more=f'{BOLD} xml:space="preserve"')
+    legends = LEGEND * (bool(hall.retractable) + bool(hall.pins))
+    yield text(MARGIN, y, fitted(7.5, figures, width - max(40, legends + 6)), figures, more=f'{BOLD} xml:space="preserve"')
     promised = promises(hall, answer)
     size = min(fitted(4.2, line, width, 0.9) for line in promised)
     for k, line in enumerate(promised):
@@ -165,7 +181,11 @@ def foot(hall, answer, found):
     searched = f"The search took {counted(answer['rounds'], 'round')} from a cost of {eighths(answer['rounded'])}."
     checked = f"Cost and floor were worked out again from the hall's own costs. {searched}"
     yield text(MARGIN, y + 8 + 6 * len(promised), fitted(3.4, checked, width, 0.9), checked)
+    x = found.page[0] - MARGIN - LEGEND
     if hall.retractable:
-        x = found.page[0] - MARGIN - 34
         yield box(x, y - 4.6, 7, 5, RED, f' stroke="{INK}" stroke-width="0.25" rx="0.8"')
         yield text(x + 9, y - 0.6, 4.2, "retractable")
+        x -= LEGEND
+    if hall.pins:
+        yield lock(x + 2, y - 4.6, 5, INK)
+        yield text(x + 9, y - 0.6, 4.2, "pinned")

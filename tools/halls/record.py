@@ -1,4 +1,4 @@
-"""A hall to its job record, and a job record back to a hall without names (01, "Job and answer records")."""
+"""A hall to its job record, and a job record back to a hall without names (01, "Job and answer records"; 02, Note 1 for version 2, with pins)."""
 import random
 import struct
 
@@ -14,24 +14,30 @@ def job_of(hall):
     made = random.Random(hall.seed)
     start, draws = start_of(hall, made), draws_of(hall, made)
     entries = b"".join(struct.pack(">BBq", i, k, v) for (i, k), v in sorted(hall.pairs.items()))
-    table = entries + struct.pack(f">{len(hall.costs)}q", *hall.costs)
+    table = entries + struct.pack(f">{len(hall.costs)}q", *hall.costs) + pins_of(hall)
     settings = struct.pack(SETTINGS, hall.rank, hall.rule, hall.number, hall.most, hall.minimum, *hall.tolerances, hall.width, hall.start)
     parts = table, settings + doubles(start), struct.pack(">H", len(draws)) + b"".join(map(doubles, draws))
     length = struct.calcsize(HEAD) + sum(map(len, parts))
     if length > BYTES:
         raise too_long(hall, length, parts)
-    return struct.pack(HEAD, length - 4, 1, len(hall.names), len(hall.pairs)) + b"".join(parts)
+    return struct.pack(HEAD, length - 4, 2 if hall.pins else 1, len(hall.names), len(hall.pairs)) + b"".join(parts)
+
+
+def pins_of(hall):
+    """Count, and wagon and store of each; no byte where there is no pin, which is version 1."""
+    return bytes([len(hall.pins), *(x for pin in sorted(hall.pins.items()) for x in pin)]) if hall.pins else b""
 
 
 def start_of(hall, made):
-    """The start's numbers."""
-    m, rank = len(hall.names) + 1, hall.meant_rank()
+    """The start's numbers, a row for each wagon that isn't pinned and one for the anchor."""
+    m, rank = len(hall.free()) + 1, hall.meant_rank()
     if hall.start == 1 and hall.rank == 0:
         raise hall.wrong("start", "`start factor` needs a line `rank R` with R from 1 to 32, and the rank is 0")
     needed = m if hall.start == 2 else m * rank
     numbers = hall.start_numbers or ([1.0] * m if hall.start == 2 else near_normal(made, m * rank))
     if len(numbers) != needed:
-        raise hall.wrong("start", f"this start has {needed:,} numbers ({m} rows with the anchor's{'' if hall.start == 2 else f', rank {rank}'}), not {len(numbers):,}")
+        rows = f"{m} rows with the anchor's{' and none for a pinned wagon' if hall.pins else ''}{'' if hall.start == 2 else f', rank {rank}'}"
+        raise hall.wrong("start", f"this start has {counted(needed, 'number')} ({rows}), not {len(numbers):,}")
     if hall.start == 2 and hall.most > 0 and rank > 1:
         return numbers + near_normal(made, m * rank)
     return numbers
@@ -73,7 +79,12 @@ def hall_of(job):
         hall.pairs = {(i, k): v for i, k, v in struct.iter_unpack(">BBq", job[8 : 8 + 10 * entries])}
         at = 8 + 10 * entries
         hall.costs = list(struct.unpack_from(f">{n}q", job, at))
-        hall.rank, hall.rule, hall.number, hall.most, hall.minimum, *tolerances, hall.width, hall.start = struct.unpack_from(SETTINGS, job, at + 8 * n)
+        at += 8 * n
+        if job[4] == 2:
+            (count,) = struct.unpack_from(">B", job, at)
+            hall.pins = dict(struct.unpack_from(">BB", job, at + 1 + 2 * k) for k in range(count))
+            at += 1 + 2 * count
+        hall.rank, hall.rule, hall.number, hall.most, hall.minimum, *tolerances, hall.width, hall.start = struct.unpack_from(SETTINGS, job, at)
     except struct.error:
         raise Wrong("The program answered a job that is cut short.") from None
     hall.tolerances = tuple(tolerances)

@@ -2,7 +2,7 @@
 import json
 import math
 
-from .answer import STATUSES, STORES, eighths
+from .answer import STATUSES, STORES, eighths, pinned_cost
 from .text import counted
 
 
@@ -12,14 +12,22 @@ def words(hall, answer):
         yield f"{side.capitalize()} store: {listed(hall, wagons)}."
     if hall.retractable:
         yield f"Retractable: {listed(hall, sorted(hall.retractable))}."
+    if hall.pins:
+        yield f"Pinned, may not move: {pinned(hall)}."
     yield " ".join([f"This costs {eighths(answer['cost'])}.", *promises(hall, answer)])
     yield f"The search started from a cost of {eighths(answer['rounded'])} and took {counted(answer['rounds'], 'round')}."
-    floats = f"Relaxed objective {answer['relaxed']:.6g}, float bound {answer['bound']:.6g}."
-    yield f"Sweeps: {answer['sweeps']} at rank {answer['rank']}; {STATUSES[answer['status']]}. {floats}"
+    floats, own = f"Relaxed objective {answer['relaxed']:.6g}, float bound {answer['bound']:.6g}", pinned_cost(hall)
+    without = f"; both are without the pinned wagons' own cost, {eighths(own)}" if own else ""
+    yield f"Sweeps: {answer['sweeps']} at rank {answer['rank']}; {STATUSES[answer['status']]}. {floats}{without}."
 
 
 def listed(hall, wagons):
     return ", ".join(hall.names[i] for i in wagons) or "no wagon"
+
+
+def pinned(hall):
+    """Each pinned wagon with its store."""
+    return ", ".join(f"{hall.names[i]} in the {STORES[store]} store" for i, store in sorted(hall.pins.items()))
 
 
 def stores(hall, answer):
@@ -28,13 +36,14 @@ def stores(hall, answer):
 
 
 def promises(hall, answer):
-    """What holds of this choice beside its cost, a sentence for each."""
+    """What holds of this choice beside its cost, a sentence for each; where wagons are pinned, of choices that keep the pins."""
+    choice, wagon, them = ("No choice that keeps the pins", "free wagon", "all free ones") if hall.pins else ("No choice at all", "wagon", "all of them")
     if answer["cost"] == answer["floor"]:
-        return ["No choice at all costs less."]
-    floor = f"No choice at all costs less than {eighths(answer['floor'])}, the floor."
+        return [f"{choice} costs less."]
+    floor = f"{choice} costs less than {eighths(answer['floor'])}, the floor."
     if hall.width == 0:
-        return [floor, "The search was off (width 0): one wagon moved may make it cheaper."]
-    return [floor, "No single wagon moved to the other store makes it cheaper, nor all of them at once."]
+        return [floor, f"The search was off (width 0): one {wagon} moved may make it cheaper."]
+    return [floor, f"No single {wagon} moved to the other store makes it cheaper, nor {them} at once."]
 
 
 def as_json(hall, answer):
@@ -55,5 +64,7 @@ def as_json(hall, answer):
         "float_bound": finite(answer["bound"]),
         "rows": {row: [hall.names[i] for i in members] for row, members in hall.rows.items()},
         "retractable": [hall.names[i] for i in sorted(hall.retractable)],
+        "pinned": {hall.names[i]: STORES[store] for i, store in sorted(hall.pins.items())},
+        "pinned_cost": pinned_cost(hall) / 8,
     }
     return json.dumps(fields, indent=2, ensure_ascii=False, allow_nan=False) + "\n"

@@ -1,36 +1,40 @@
 -- A record written from values that 01's limits allow is accepted.
---     accepted-back    its number is 0
+--     accepted-back              its number is 0
+--     state-back, state-left     a pinned wagon's state is its store, every other wagon is free
 -- Assumes nothing.
 use Prim.Native.Nat.{ℕ, _+_, _*_, _^_, _<_, _≤_}
 use mathlib.Core.Path.{_≡_, refl, sym, ap, _∙_}
-use mathlib.Core.Bool.{Bool, true, false, _&&_, not}
+use mathlib.Core.Bool.{Bool, true, false, cond, _&&_, not}
 use mathlib.Core.List.{List, [], _∷_, _++_}
 use native.Mathlib.Omega.{arith}
-use borrow.Author.Tests.{le-ltb, eq-eqb, ne-eqb, eqb-true}
+use borrow.Author.Tests.{le-ltb, lt-leb, eq-eqb, ne-eqb, eqb-true}
 use lib.Dec.{ltb}
 use lib.ListN.{length, length-append}
 use lib.IntN.{natAbs}
 use Rattle.ieee.specs.Floats.{doubleOf}
-use Rattle.laws.specs.Refusal.{_if_, first}
+use Rattle.laws.specs.Lists.{elem}
+use Rattle.laws.specs.Refusal.{_if_, first, firstOf}
 use Rattle.laws.proofs.Refusal.{neither, none-of}
-use Rattle.laws.proofs.Any.{below-false}
+use Rattle.laws.proofs.Any.{below-false, below-none, or-none}
 use Rattle.laws.proofs.Following.{moves-on, moves-on-if, answers-last, passes-last, first-append}
-use Rattle.limits.specs.Limits.{mostWagons, mostEntries, mostMagnitude, mostRank, mostWidth, mostDraws, lastRule, lastStart}
+use Rattle.limits.specs.Limits.{mostEntries, mostMagnitude, mostRank, mostWidth, mostDraws, lastRule, lastStart}
 use Rattle.tables.proofs.Checks.{order-passes, mirror-passes}
 use Rattle.tables.specs.Check.{badEntry, badOrder, hallMagnitude}
 use Rattle.job_reader.specs.Bytes.{bigEndian}
 use Rattle.job_reader.specs.Encode.{bytesOf}
 use Rattle.job_reader.proofs.Encode.{length-bytesOf, read-bytes}
 use Rattle.run_limits.specs.Momentum.{isMomentum}
-use Rattle.job_record.specs.Fields.{restLength, version, wagons, entryAt, row, column, value, entries, signedFrom, ruleNumberAt, rankOf}
-use Rattle.job_record.specs.Number.{endsBefore, boundedNumber, frameNumber, versionNumber, entryNumber, momentumNumber, headNumbers, entriesNumbers, costsNumbers, settingsNumbers, drawsNumbers, runNumbers, jobNumber}
-use Rattle.job_record.specs.Values.{settingsPlace, drawsPlace}
+use Rattle.job_record.specs.Versions.{versions}
+use Rattle.job_record.specs.Fields.{restLength, version, wagons, entryCount, entryAt, row, column, value, entries, signedFrom, pinsPlace, pinAt, lastStore, freeState, pinCountBy, ruleNumberAt, rankOf}
+use Rattle.job_record.specs.Number.{endsBefore, boundedNumber, frameNumber, versionNumber, entryNumber, pinnedBefore, pinNumber, momentumNumber, headNumbers, entriesNumbers, costsNumbers, pinsNumbers, pinsNumbersBy, settingsNumbers, drawsNumbers, runNumbers, jobNumber}
+use Rattle.job_record.specs.Values.{pinCount, freeWagons, settingsPlace, drawsBy, drawsPlace, jobPinWagon, jobPinStore, jobStates}
 use Rattle.job_record.proofs.Same.{order-same, mirror-same, total-same}
 use Rattle.job_record.proofs.Whole.{parts}
-use Rattle.job_encoding.specs.Encode.{Values, entryBytes, signedBytes, doubleBytes, bodyBytes, headBytes, jobBytes}
-use Rattle.job_encoding.specs.Allowed.{entryOf, costIn, tableIn, Typed, Allowed}
+use Rattle.job_record.proofs.Accepted.{state-pinned, state-free}
+use Rattle.job_encoding.specs.Encode.{Values, entryBytes, signedBytes, doubleBytes, pinsBytes, bodyBytes, headBytes, jobBytes}
+use Rattle.job_encoding.specs.Allowed.{entryOf, costIn, tableIn, pinOf, Typed, Allowed}
 use Rattle.job_encoding.proofs.Each.{length-each}
-use Rattle.job_encoding.proofs.Back.{entry-size, signed-size, double-size, settings-size, head-size, wagons-back, count-back, row-back, column-back, value-back, cost-back, settings-at, setting-at, rank-is, start-is, draws-at, drawn-is, set-rule, set-number, set-width}
+use Rattle.job_encoding.proofs.Back.{entry-size, signed-size, double-size, settings-size, head-size, pinsFrom, settingsFrom, some-size, version-back, wagons-back, count-back, row-back, column-back, value-back, cost-back, pins-at, pin-back, pin-count-back, free-back, settings-at, setting-at, rank-is, start-is, draws-at, drawn-is, set-rule, set-number, set-width}
 
 -- a field that is there and within its limit
 within : (s : List ℕ) (at width most k : ℕ) → at + width ≤ length s → bigEndian s at width ≤ most → 0 ≡ boundedNumber s at width most k
@@ -42,16 +46,12 @@ false-and : (a b : Bool) → (a ≡ true → b ≡ false) → (a && b) ≡ false
 false-and true b h = h refl
 false-and false b h = refl
 
-head-rest : (rest n count : ℕ) (body : List ℕ) → rest < 2 ^ 32 → bigEndian (headBytes rest n count ++ body) 0 4 ≡ rest
+head-rest : (rest version n count : ℕ) (body : List ℕ) → rest < 2 ^ 32 → bigEndian (headBytes rest version n count ++ body) 0 4 ≡ rest
 unfolding headBytes bytesOf bigEndian
-head-rest rest n count body h = read-bytes 4 rest h
-
-head-version : (rest n count : ℕ) (body : List ℕ) → bigEndian (headBytes rest n count ++ body) 4 1 ≡ 1
-unfolding headBytes bytesOf bigEndian
-head-version rest n count body = refl
+head-rest rest version n count body h = read-bytes 4 rest h
 
 module _ (v : Values) where
-  size : length (jobBytes v) ≡ 8 + length (v .entries) * 10 + length (v .c) * 8 + 36 + length (v .startNumbers) * 8 + 2 + length (v .draws) * 8
+  size : length (jobBytes v) ≡ settingsFrom v + 36 + length (v .startNumbers) * 8 + 2 + length (v .draws) * 8
   unfolding jobBytes bodyBytes
   size =
       simp (
@@ -70,15 +70,15 @@ module _ (v : Values) where
   whole = simp (length-append, head-size)
 
 module _ (v : Values) (held : Typed v) (ok : Allowed v) where
+  count-is : versions .pinned (v .version) ≡ true → bigEndian (jobBytes v) (pinsPlace (jobBytes v)) 1 ≡ pinCount (jobBytes v)
+  unfolding pinCountBy
+  count-is t = rw (version-back v held, t)
+
   rest-is : 4 + restLength (jobBytes v) ≡ length (jobBytes v)
   unfolding jobBytes
   rest-is =
-      let r = head-rest (4 + length (bodyBytes v)) (length (v .c)) (length (v .entries)) (bodyBytes v) (omega (arith, whole v, ok .small)) in
+      let r = head-rest (4 + length (bodyBytes v)) (v .version) (length (v .c)) (length (v .entries)) (bodyBytes v) (omega (arith, whole v, ok .small)) in
       omega (arith, r, whole v)
-
-  version-is : version (jobBytes v) ≡ 1
-  unfolding jobBytes
-  version-is = head-version _ _ _ (bodyBytes v)
 
   frame : 0 ≡ frameNumber (jobBytes v)
   unfolding frameNumber
@@ -87,16 +87,17 @@ module _ (v : Values) (held : Typed v) (ok : Allowed v) where
       (moves-on-if 11 _ _ (le-ltb (length (jobBytes v)) 4 (omega (arith, size v)))
       (passes-last 11 _ (ap not (eq-eqb _ _ rest-is))))
 
-  versioned : 0 ≡ versionNumber (jobBytes v)
+  versioned : 0 ≡ versionNumber versions (jobBytes v)
   unfolding versionNumber
-  versioned = moves-on-if 11 _ _ (le-ltb (length (jobBytes v)) 5 (omega (arith, size v))) (passes-last 12 _ (ap not (eq-eqb _ _ version-is)))
+  versioned = rw (version-back v held) (moves-on-if 11 _ _ (le-ltb (length (jobBytes v)) 5 (omega (arith, size v))) (passes-last 12 _ (ap not (ok .known))))
 
-  head : first (headNumbers (jobBytes v)) ≡ 0
+  head : first (headNumbers versions (jobBytes v)) ≡ 0
   unfolding headNumbers
   head =
       let h = ok .hall in
+      let most : versions .most (version (jobBytes v)) ≡ versions .most (v .version) = ap (λ (n : ℕ). versions .most n) (version-back v held) in
       sym (moves-on _ _ {x = 0} frame refl (moves-on _ _ {x = 0} versioned refl
-      (moves-on _ _ {x = 0} (within (jobBytes v) 5 1 mostWagons 13 (omega (arith, size v)) (omega (arith, wagons-back v held, h .wagons))) refl
+      (moves-on _ _ {x = 0} (within (jobBytes v) 5 1 (versions .most (version (jobBytes v))) 13 (omega (arith, size v)) (omega (arith, wagons-back v held, h .wagons, most))) refl
       (answers-last _ (within (jobBytes v) 6 2 mostEntries 13 (omega (arith, size v)) (omega (arith, count-back v held, h .entries)))))))
 
   ordered : badOrder (length (v .c)) (row (jobBytes v)) (column (jobBytes v)) (length (v .entries)) ≡ false
@@ -135,6 +136,37 @@ module _ (v : Values) (held : Typed v) (ok : Allowed v) where
       sym (moves-on-if 11 _ _ (le-ltb (length (jobBytes v)) (8 + length (v .entries) * 10 + length (v .c) * 8) (omega (arith, size v)))
       (passes-last 16 _ (ap (ltb mostMagnitude) same ∙ le-ltb _ _ (h .magnitude))))
 
+  -- each pin: within n, no wagon twice, a store
+  pinned-once : (k : ℕ) → k < length (v .pins) → pinnedBefore (jobBytes v) (pinsPlace (jobBytes v) + 1) k ≡ false
+  unfolding pinnedBefore
+  pinned-once k l = below-none _ k (λ j m. ne-eqb _ _ (λ e. ok .once j k m l (sym (pin-back v held j (omega arith) .0) ∙ e ∙ pin-back v held k l .0)))
+
+  pin-there : versions .pinned (v .version) ≡ true → (k : ℕ) → k < length (v .pins) → pinAt (pinsPlace (jobBytes v) + 1) k + 2 ≤ length (jobBytes v)
+  pin-there t k l = omega (arith, pins-at v held, some-size v t, size v)
+
+  pin-passes : versions .pinned (v .version) ≡ true → (k : ℕ) → k < length (v .pins) → pinNumber (jobBytes v) (wagons (jobBytes v)) (pinsPlace (jobBytes v) + 1) k ≡ 0
+  unfolding pinNumber
+  pin-passes t k l =
+      let there = pin-there t k l in
+      sym (moves-on-if 11 _ _ (le-ltb (length (jobBytes v)) (pinAt (pinsPlace (jobBytes v) + 1) k + 1) (omega (arith, there)))
+      (moves-on-if 21 _ _ (or-none _ _ (lt-leb (wagons (jobBytes v)) (jobPinWagon (jobBytes v) k) (omega (arith, pin-back v held k l .0, ok .within k l, wagons-back v held))) (pinned-once k l))
+      (answers-last _ (within (jobBytes v) (pinAt (pinsPlace (jobBytes v) + 1) k + 1) 1 lastStore 21 (omega (arith, there)) (omega (arith, pin-back v held k l .1, ok .stores k l))))))
+
+  pins-pass : versions .pinned (v .version) ≡ true → first (pinsNumbers (jobBytes v) (wagons (jobBytes v)) (pinsPlace (jobBytes v))) ≡ 0
+  unfolding pinsNumbers
+  pins-pass t =
+      let count : bigEndian (jobBytes v) (pinsPlace (jobBytes v)) 1 ≡ length (v .pins) = count-is t ∙ pin-count-back v held in
+      sym (moves-on-if 11 _ _ (le-ltb (length (jobBytes v)) (pinsPlace (jobBytes v) + 1) (omega (arith, pins-at v held, some-size v t, size v)))
+      (answers-last _ (rw count (sym (none-of (pinNumber (jobBytes v) (wagons (jobBytes v)) (pinsPlace (jobBytes v) + 1)) (length (v .pins)) (pin-passes t))))))
+
+  pinned : first (pinsNumbersBy versions (jobBytes v)) ≡ 0
+  unfolding pinsNumbersBy first
+  pinned = rw (version-back v held) (go (versions .pinned (v .version)) refl)
+    where
+      go : (t : Bool) → versions .pinned (v .version) ≡ t → first (cond t (pinsNumbers (jobBytes v) (wagons (jobBytes v)) (pinsPlace (jobBytes v))) []) ≡ 0
+      go true e = pins-pass e
+      go false e = refl
+
   there : settingsPlace (jobBytes v) + 36 ≤ length (jobBytes v)
   there = omega (arith, settings-at v held, size v)
 
@@ -166,10 +198,10 @@ module _ (v : Values) (held : Typed v) (ok : Allowed v) where
       (moves-on _ _ {x = 0} (within s (at + 35) 1 lastStart 19 (omega (arith, there)) (omega (arith, start-is v held, ok .start))) refl
       (passes-last 17 _ (false-and _ _ (λ e. ne-eqb _ _ (λ z. ok .given (sym (start-is v held) ∙ eqb-true _ _ e) (sym (rank-is v held) ∙ z)))))))))))
 
-  end-is : drawsPlace (jobBytes v) + 2 + bigEndian (jobBytes v) (drawsPlace (jobBytes v)) 2 * rankOf (jobBytes v) (wagons (jobBytes v)) (settingsPlace (jobBytes v)) * 8 ≡ length (jobBytes v)
-  end-is = rw (drawn-is v held, wagons-back v held, rank-is v held, ← ok .draws) (omega (arith, draws-at v held, size v))
+  end-is : drawsPlace (jobBytes v) + 2 + bigEndian (jobBytes v) (drawsPlace (jobBytes v)) 2 * rankOf (jobBytes v) (freeWagons (jobBytes v)) (settingsPlace (jobBytes v)) * 8 ≡ length (jobBytes v)
+  end-is = rw (drawn-is v held, free-back v held, rank-is v held, ← ok .draws) (omega (arith, draws-at v held, size v))
 
-  drawn : first (drawsNumbers (jobBytes v) (drawsPlace (jobBytes v)) (rankOf (jobBytes v) (wagons (jobBytes v)) (settingsPlace (jobBytes v)))) ≡ 0
+  drawn : first (drawsNumbers (jobBytes v) (drawsPlace (jobBytes v)) (rankOf (jobBytes v) (freeWagons (jobBytes v)) (settingsPlace (jobBytes v)))) ≡ 0
   unfolding drawsNumbers
   drawn =
       let s = jobBytes v in
@@ -186,12 +218,21 @@ module _ (v : Values) (held : Typed v) (ok : Allowed v) where
       below : {a b : ℕ} → a ≡ b → b ≤ a
       below e = omega arith
 
-  run : first (runNumbers (jobBytes v) (wagons (jobBytes v)) (settingsPlace (jobBytes v))) ≡ 0
-  unfolding runNumbers drawsPlace
+  run : first (runNumbers (jobBytes v) (freeWagons (jobBytes v)) (settingsPlace (jobBytes v))) ≡ 0
+  unfolding runNumbers drawsBy
   run = first-append (settingsNumbers (jobBytes v) (settingsPlace (jobBytes v))) _ ∙ neither _ _ settled drawn
 
   pub accepted-back : jobNumber (jobBytes v) ≡ 0
-  unfolding settingsPlace
   accepted-back =
-      parts (jobBytes v)
-      ∙ neither _ _ head (neither _ _ (neither _ _ (rw (wagons-back v held, count-back v held) entered) (rw (wagons-back v held, count-back v held) costed)) run)
+      parts versions (jobBytes v)
+      ∙ neither _ _ head (neither _ _ (neither _ _ (rw (wagons-back v held, count-back v held) entered) (rw (wagons-back v held, count-back v held) costed)) (neither _ _ pinned run))
+
+  pub state-back : (k : ℕ) → k < length (v .pins) → elem (jobStates (jobBytes v)) (pinOf v k .wagon) ≡ pinOf v k .store
+  state-back k l =
+      let p = pin-back v held k l in
+      ap (elem (jobStates (jobBytes v))) (sym (p .0)) ∙ state-pinned (jobBytes v) accepted-back k (omega (arith, pin-count-back v held)) ∙ p .1
+
+  pub state-left : (w : ℕ) → w < length (v .c) → ((k : ℕ) → k < length (v .pins) → pinOf v k .wagon ≡ w → ⊥) → elem (jobStates (jobBytes v)) w ≡ freeState
+  state-left w h d =
+      state-free (jobBytes v) accepted-back w (omega (arith, wagons-back v held))
+      (λ k l e. let m : k < length (v .pins) = omega (arith, l, pin-count-back v held) in d k m (sym (pin-back v held k m .0) ∙ e))

@@ -1,3 +1,4 @@
 pub mod Encode
 pub mod Allowed
+pub mod Alike
 pub mod Examples

@@ -16,7 +16,7 @@ use Rattle.laws.specs.Refusal.{_if_, orElse, first}
 use Rattle.laws.proofs.Refusal.{clear, first-head}
 use Rattle.laws.proofs.Following.{answers-if, moves-on-if, answers-last, first-append}
 use Rattle.ieee.specs.Floats.{doubleOf}
-use Rattle.limits.specs.Limits.{mostWagons, mostEntries, mostRank, mostWidth, lastRule, lastStart, mostBytes}
+use Rattle.limits.specs.Limits.{mostEntries, mostRank, mostWidth, lastRule, lastStart, mostBytes}
 use Rattle.run_limits.specs.Momentum.{isMomentum}
 use Rattle.job_reader.specs.Bytes.{bigEndian, fieldAt, valueOf, after, afterAll, taken}
 use Rattle.job_reader.specs.declared.Field.{Field}
@@ -25,15 +25,16 @@ use Rattle.job_record.specs.declared.reading.HeadFields.{HeadFields}
 use Rattle.job_record.specs.declared.reading.HeadValues.{HeadValues}
 use Rattle.job_record.specs.declared.reading.SettingsFields.{SettingsFields}
 use Rattle.job_record.specs.declared.reading.SettingsValues.{SettingsValues}
-use Rattle.job_record.specs.Fields.{wagons, entryCount, rankAt, ruleAt, ruleNumberAt, mostAt, minimumAt, objectiveToleranceAt, stationarityToleranceAt, widthAt, startAt}
+use Rattle.job_record.specs.Versions.{known, versions}
+use Rattle.job_record.specs.Fields.{version, wagons, entryCount, rankAt, ruleAt, ruleNumberAt, mostAt, minimumAt, objectiveToleranceAt, stationarityToleranceAt, widthAt, startAt}
 use Rattle.job_record.specs.Number.{endsBefore, boundedNumber, frameNumber, versionNumber, momentumNumber, headNumbers, settingsNumbers}
-use Rattle.job_record.specs.Reading.{headOf, settingsFrom, headValues, settingsValues, isShort, fieldNumber, frameJudged, headJudged, ruleJudged, startJudged, settingsJudged}
+use Rattle.job_record.specs.Reading.{HeadThere, headOf, settingsFrom, headValues, settingsValues, isShort, fieldNumber, frameJudged, headJudged, ruleJudged, startJudged, settingsJudged}
 use Rattle.job_record.proofs.Bounded.{bounded-passed}
 use Rattle.job_record.proofs.Whole.{or-join}
 
 -- ---- places
 
-abbrev widths : List ℕ → ℕ
+abbrev pub widths : List ℕ → ℕ
 widths [] = 0
 widths (w ∷ ws) = w + widths ws
 
@@ -41,7 +42,7 @@ after-there : (s : List ℕ) (at w : ℕ) → at + w ≤ length s → after s at
 unfolding after
 after-there s at w h = rw (le-leb _ _ h)
 
-behind : (s : List ℕ) (at : ℕ) (ws : List ℕ) → at + widths ws ≤ length s → afterAll s at ws ≡ at + widths ws
+pub behind : (s : List ℕ) (at : ℕ) (ws : List ℕ) → at + widths ws ≤ length s → afterAll s at ws ≡ at + widths ws
 behind s at [] h = omega arith
 behind s at (w ∷ ws) h =
     let e : at + w + widths ws ≡ at + (w + widths ws) = omega arith in
@@ -57,18 +58,18 @@ module _ (s : List ℕ) (at : ℕ) (ws : List ℕ) (w : ℕ) where
 -- ---- numbers
 
 module _ (s : List ℕ) (at w : ℕ) where
-  field-judged : (wrong : ℕ → Bool) (k : ℕ) → fieldNumber (fieldAt s at w) wrong k ≡ first (11 if endsBefore s (at + w) ∷ k if wrong (bigEndian s at w) ∷ [])
+  pub field-judged : (wrong : ℕ → Bool) (k : ℕ) → fieldNumber (fieldAt s at w) wrong k ≡ first (11 if endsBefore s (at + w) ∷ k if wrong (bigEndian s at w) ∷ [])
   field-judged wrong k = go (leb (at + w) (length s)) refl
     where
       go : (t : Bool) → leb (at + w) (length s) ≡ t → fieldNumber (cond t (Value (bigEndian s at w) (at + w)) Short) wrong k ≡ first (11 if endsBefore s (at + w) ∷ k if wrong (bigEndian s at w) ∷ [])
       go true q = moves-on-if 11 (endsBefore s (at + w)) (k if wrong (bigEndian s at w) ∷ []) (le-ltb (length s) (at + w) (leb-true (at + w) (length s) q)) (answers-last (k if wrong (bigEndian s at w)) refl)
       go false q = answers-if 10 (endsBefore s (at + w)) (k if wrong (bigEndian s at w) ∷ []) (lt-ltb (length s) (at + w) (leb-false (at + w) (length s) q))
 
-  field-bounded : (most k : ℕ) → fieldNumber (fieldAt s at w) (ltb most) k ≡ boundedNumber s at w most k
+  pub field-bounded : (most k : ℕ) → fieldNumber (fieldAt s at w) (ltb most) k ≡ boundedNumber s at w most k
   unfolding boundedNumber
   field-bounded most k = field-judged (ltb most) k
 
-  field-short : isShort (fieldAt s at w) ≡ endsBefore s (at + w)
+  pub field-short : isShort (fieldAt s at w) ≡ endsBefore s (at + w)
   field-short = go (leb (at + w) (length s)) refl
     where
       go : (t : Bool) → leb (at + w) (length s) ≡ t → isShort (cond t (Value (bigEndian s at w) (at + w)) Short) ≡ endsBefore s (at + w)
@@ -111,7 +112,7 @@ module _ (s : List ℕ) (at w : ℕ) {f : Field} (e : f ≡ fieldAt s at w) wher
   field-there h = e ∙ ap (λ (t : Bool). cond t (Value (bigEndian s at w) (at + w)) Short) (le-leb _ _ h)
 
 -- two lists that agree as far as numbers are 0
-follow : (a a′ : ℕ) (l l′ : List ℕ) → a ≡ a′ → (a′ ≡ 0 → first l ≡ first l′) → first (a ∷ l) ≡ first (a′ ∷ l′)
+pub follow : (a a′ : ℕ) (l l′ : List ℕ) → a ≡ a′ → (a′ ≡ 0 → first l ≡ first l′) → first (a ∷ l) ≡ first (a′ ∷ l′)
 unfolding first orElse
 follow a a′ l l′ e h = rw e (go a′ h)
   where
@@ -122,36 +123,43 @@ follow a a′ l l′ e h = rw e (go a′ h)
 end-at : (a a′ : ℕ) → a ≡ a′ → first (a ∷ []) ≡ first (a′ ∷ [])
 end-at a a′ e = rw e
 
-version-there : (s : List ℕ) → versionNumber s ≡ 0 → 5 ≤ length s
+version-there : (s : List ℕ) → versionNumber versions s ≡ 0 → 5 ≤ length s
 unfolding versionNumber
 version-there s e = ltb-false _ _ (clear _ 10 (first-head _ _ e))
 
 frame-there : (s : List ℕ) → first (11 if endsBefore s 4 ∷ framed s ∷ []) ≡ 0 → 4 ≤ length s
 frame-there s e = ltb-false _ _ (clear _ 10 (first-head _ _ e))
 
-version-judged : (s : List ℕ) → fieldNumber (fieldAt s 4 1) (λ v. not (eqb v 1)) 12 ≡ versionNumber s
+version-judged : (s : List ℕ) → fieldNumber (fieldAt s 4 1) (λ v. not (known versions v)) 12 ≡ versionNumber versions s
 unfolding versionNumber
-version-judged s = field-judged s 4 1 (λ v. not (eqb v 1)) 12
+version-judged s = field-judged s 4 1 (λ v. not (known versions v)) 12
 
-head-numbers : (s : List ℕ) → first (headNumbers s)
+-- n, by the version
+wagons-judged : (s : List ℕ) → 5 ≤ length s
+    → fieldNumber (taken s 0 (4 ∷ 1 ∷ []) 1) (ltb (versions .most (valueOf (taken s 0 (4 ∷ []) 1)))) 13 ≡ boundedNumber s 5 1 (versions .most (version s)) 13
+wagons-judged s h =
+    ap (λ (f : Field). fieldNumber (taken s 0 (4 ∷ 1 ∷ []) 1) (ltb (versions .most (valueOf f))) 13) (there s 0 (4 ∷ []) 1 h)
+    ∙ ap (λ (f : Field). fieldNumber f (ltb (versions .most (version s))) 13) (reached s 0 (4 ∷ 1 ∷ []) 1 h) ∙ field-bounded s 5 1 (versions .most (version s)) 13
+
+head-numbers : (s : List ℕ) → first (headNumbers versions s)
     ≡ first (11 if ltb mostBytes (length s)
     ∷ first (11 if endsBefore s 4 ∷ framed s ∷ [])
-    ∷ versionNumber s
-    ∷ boundedNumber s 5 1 mostWagons 13
+    ∷ versionNumber versions s
+    ∷ boundedNumber s 5 1 (versions .most (version s)) 13
     ∷ boundedNumber s 6 2 mostEntries 13
     ∷ [])
 unfolding headNumbers frameNumber first
 head-numbers s =
-    sym (or-join (11 if ltb mostBytes (length s)) (first (11 if endsBefore s 4 ∷ framed s ∷ [])) (first (versionNumber s ∷ boundedNumber s 5 1 mostWagons 13 ∷ boundedNumber s 6 2 mostEntries 13 ∷ [])))
+    sym (or-join (11 if ltb mostBytes (length s)) (first (11 if endsBefore s 4 ∷ framed s ∷ [])) (first (versionNumber versions s ∷ boundedNumber s 5 1 (versions .most (version s)) 13 ∷ boundedNumber s 6 2 mostEntries 13 ∷ [])))
 
-pub head-judged : (s : List ℕ) → first (headJudged (length s) (headOf s)) ≡ first (headNumbers s)
+pub head-judged : (s : List ℕ) → first (headJudged (length s) (headOf s)) ≡ first (headNumbers versions s)
 unfolding headOf
 head-judged s =
     follow _ _ _ _ refl (λ _.
     follow _ _ _ _ (frame-judged s) (λ z₁.
-    follow _ _ _ _ (ap (λ (f : Field). fieldNumber f (λ v. not (eqb v 1)) 12) (reached s 0 (4 ∷ []) 1 (frame-there s z₁)) ∙ version-judged s) (λ z₂.
-    follow _ _ _ _ (ap (λ (f : Field). fieldNumber f (ltb mostWagons) 13) (reached s 0 (4 ∷ 1 ∷ []) 1 (version-there s z₂)) ∙ field-bounded s 5 1 mostWagons 13) (λ z₃.
-    end-at _ _ (ap (λ (f : Field). fieldNumber f (ltb mostEntries) 13) (reached s 0 (4 ∷ 1 ∷ 1 ∷ []) 2 (bounded-passed s 5 1 mostWagons 12 z₃ .0)) ∙ field-bounded s 6 2 mostEntries 13)))))
+    follow _ _ _ _ (ap (λ (f : Field). fieldNumber f (λ v. not (known versions v)) 12) (reached s 0 (4 ∷ []) 1 (frame-there s z₁)) ∙ version-judged s) (λ z₂.
+    follow _ _ _ _ (wagons-judged s (version-there s z₂)) (λ z₃.
+    end-at _ _ (ap (λ (f : Field). fieldNumber f (ltb mostEntries) 13) (reached s 0 (4 ∷ 1 ∷ 1 ∷ []) 2 (bounded-passed s 5 1 (versions .most (version s)) 12 z₃ .0)) ∙ field-bounded s 6 2 mostEntries 13)))))
     ∙ sym (head-numbers s)
 
 or-step : (a : Bool) {b c : Bool} → (a ≡ true → true ≡ c) → (a ≡ false → b ≡ c) → (a || b) ≡ c
@@ -211,9 +219,14 @@ settings-parts f = first-append (ruleJudged (f .rank) (f .rule) (f .«rule_numbe
 
 -- ---- values
 
-pub head-there : (s : List ℕ) → 8 ≤ length s → (headValues (headOf s) .n ≡ wagons s) × (headValues (headOf s) .count ≡ entryCount s)
+pub head-there : (s : List ℕ) → 8 ≤ length s → HeadThere s (headValues (headOf s))
 unfolding headOf
-head-there s h = (ap valueOf (there s 0 (4 ∷ 1 ∷ []) 1 (omega arith)), ap valueOf (there s 0 (4 ∷ 1 ∷ 1 ∷ []) 2 h))
+head-there s h =
+    record {
+      version = ap valueOf (there s 0 (4 ∷ []) 1 (omega arith));
+      n = ap valueOf (there s 0 (4 ∷ 1 ∷ []) 1 (omega arith));
+      count = ap valueOf (there s 0 (4 ∷ 1 ∷ 1 ∷ []) 2 h);
+    }
 
 -- all of the settings are there
 pub record SettingsThere (s : List ℕ) (at : ℕ) (v : SettingsValues) : Type 0 where
@@ -247,13 +260,11 @@ settings-there s at h =
 
 -- the same of what the calls gave
 module _ (s : List ℕ) {f : HeadFields} (e : f ≡ headOf s) where
-  pub head-number-is : {r : ℕ} → r ≡ first (headJudged (length s) f) → r ≡ first (headNumbers s)
+  pub head-number-is : {r : ℕ} → r ≡ first (headJudged (length s) f) → r ≡ first (headNumbers versions s)
   head-number-is q = q ∙ ap (λ (h : HeadFields). first (headJudged (length s) h)) e ∙ head-judged s
 
-  pub head-values-are : {v : HeadValues} → v ≡ headValues f → 8 ≤ length s → (v .n ≡ wagons s) × (v .count ≡ entryCount s)
-  head-values-are {v} q h =
-      let all : v ≡ headValues (headOf s) = q ∙ ap headValues e in
-      (ap (λ (u : HeadValues). u .n) all ∙ head-there s h .0, ap (λ (u : HeadValues). u .count) all ∙ head-there s h .1)
+  pub head-values-are : {v : HeadValues} → v ≡ headValues f → 8 ≤ length s → HeadThere s v
+  head-values-are {v} q h = subst (HeadThere s) (sym (q ∙ ap headValues e)) (head-there s h)
 
 module _ (s : List ℕ) (at : ℕ) {f : SettingsFields} (e : f ≡ settingsFrom s at) where
   pub settings-number-is : {r : ℕ} → r ≡ first (settingsJudged f) → r ≡ first (settingsNumbers s at)

@@ -9,7 +9,6 @@ use native.Mathlib.Omega.{arith}
 use lib.ListN.{length}
 use lib.Dec.{ltb}
 use lib.IntN.{ℤ, pos, natAbs}
-use lib.Ieee.{Float}
 use Rattle.laws.specs.Refusal.{_if_, first}
 use Rattle.laws.specs.Sum.{total}
 use Rattle.laws.specs.Lists.{elem, elemZ}
@@ -52,11 +51,11 @@ module _ (s : List ℕ) (e : jobNumber s ≡ 0) where
       let h = head s (p .head) in
       none (wagons s) (jobTable s) (jobCost s) (h .few) (h .short) (ordered s _ _ (p .entries)) (mirrored s (wagons s) _ (p .entries)) (magnitude-bounded s _ _ (p .costs))
 
-  pub hall-stored : {rows₀ cols₀ : List ℕ} {values₀ c₀ : List ℤ} {start₀ draws₀ : List Float} {rows cols : List ℕ} {values c : List ℤ} {start draws : List Float}
-      → Stored s rows₀ cols₀ values₀ c₀ start₀ draws₀ rows cols values c start draws
+  pub hall-stored : {rows₀ cols₀ : List ℕ} {values₀ c₀ : List ℤ} {rows cols : List ℕ} {values c : List ℤ}
+      → Stored s rows₀ cols₀ values₀ c₀ rows cols values c
       → mostEntries ≤ length rows₀ → mostEntries ≤ length cols₀ → mostEntries ≤ length values₀ → mostWagons ≤ length c₀
       → hallNumber mostWagons mostEntries mostMagnitude (wagons s) (tableOf (entryCount s) rows cols values) (elemZ c) ≡ 0
-  hall-stored {rows₀} {cols₀} {values₀} {c₀} {start₀} {draws₀} {rows} {cols} {values} {c} stored fr fk fv fc =
+  hall-stored {rows₀} {cols₀} {values₀} {c₀} {rows} {cols} {values} {c} stored fr fk fv fc =
       let p = passed s e in
       let h = head s (p .head) in
       let count = entryCount s in

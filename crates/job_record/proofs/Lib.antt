@@ -1,10 +1,13 @@
 pub mod Bounded
+pub mod Fronts
 pub mod Sections
 pub mod Products
 pub mod Same
 pub mod Entries
 pub mod Whole
 pub mod FieldByField
+pub mod Pinning
 pub mod Accepted
+pub mod Before
 pub mod Halls
 pub mod Examples

@@ -1,7 +1,7 @@
 -- What holds of a section that is not refused.
 use Prim.Native.Nat.{ℕ, zero, suc, _+_, _*_, _≤_}
 use mathlib.Core.Path.{_≡_, refl, sym, _∙_}
-use mathlib.Core.Bool.{Bool, true, false, _&&_}
+use mathlib.Core.Bool.{Bool, true, false, _&&_, not}
 use mathlib.Core.List.{List}
 use native.Mathlib.Omega.{arith}
 use borrow.Author.Tests.{ltb-false, eqb-true, eqb-false, not-false, eq-eqb}
@@ -12,30 +12,41 @@ use Rattle.laws.proofs.Following.{first-append}
 use Rattle.limits.specs.Limits.{mostWagons, mostEntries, mostRank, mostWidth, mostDraws, lastRule, lastStart, mostBytes}
 use Rattle.job_reader.specs.Bytes.{bigEndian}
 use Rattle.run_limits.specs.Momentum.{isMomentum}
-use Rattle.job_record.specs.Fields.{restLength, wagons, entryCount, rankAt, ruleAt, ruleNumberAt, widthAt, startAt, rankOf, drawsAfter}
-use Rattle.job_record.specs.Number.{frameNumber, headNumbers, momentumNumber, settingsNumbers, drawsNumbers, runNumbers}
+use Rattle.job_record.specs.Versions.{known, versions}
+use Rattle.job_record.specs.Fields.{restLength, version, wagons, entryCount, rankAt, ruleAt, ruleNumberAt, widthAt, startAt, rankOf, drawsAfter}
+use Rattle.job_record.specs.Number.{frameNumber, versionNumber, headNumbers, momentumNumber, settingsNumbers, drawsNumbers, runNumbers}
 use Rattle.job_record.proofs.Bounded.{bounded-passed}
+
+-- no version has more wagons than the library allows
+pub most-wagons : (v : ℕ) → versions .most v ≤ mostWagons
+unfolding versions
+most-wagons v = omega arith
 
 -- the frame, the version, n and the entry count
 pub record Head (s : List ℕ) : Type 0 where
   pub small : length s ≤ mostBytes
   pub framed : 4 + restLength s ≡ length s
   pub there : 8 ≤ length s
+  pub versioned : known versions (version s) ≡ true
+  pub few-of : wagons s ≤ versions .most (version s)
   pub few : wagons s ≤ mostWagons
   pub short : entryCount s ≤ mostEntries
 
-pub head : (s : List ℕ) → first (headNumbers s) ≡ 0 → Head s
-unfolding headNumbers frameNumber
+pub head : (s : List ℕ) → first (headNumbers versions s) ≡ 0 → Head s
+unfolding headNumbers frameNumber versionNumber
 head s e =
     let frame = first-head _ _ e in
+    let version = first-head _ _ (first-rest _ _ e) in
     let later = first-rest _ _ (first-rest _ _ e) in
-    let n = bounded-passed s 5 1 mostWagons 12 (first-head _ _ later) in
+    let n = bounded-passed s 5 1 (versions .most (bigEndian s 4 1)) 12 (first-head _ _ later) in
     let count = bounded-passed s 6 2 mostEntries 12 (first-head _ _ (first-rest _ _ later)) in
     record {
       small = ltb-false _ _ (clear _ 10 (first-head _ _ frame));
       framed = eqb-true _ _ (not-false _ (clear _ 10 (first-head _ _ (first-rest _ _ (first-rest _ _ frame)))));
       there = count .0;
-      few = n .1;
+      versioned = not-false _ (clear _ 11 (first-head _ _ (first-rest _ _ version)));
+      few-of = n .1;
+      few = omega (arith, n .1, most-wagons (bigEndian s 4 1));
       short = count .1;
     }
 

@@ -1,5 +1,6 @@
--- The fields of a job record in reading order (01, "Job and answer records"): where each stands, and what it holds.
-use Prim.Native.Nat.{ℕ, _+_, _*_}
+-- The fields of a job record in reading order (01, "Job and answer records"; the pins: 02, Note 1): where each stands, and what it holds.
+use Prim.Native.Nat.{ℕ, _+_, _-_, _*_}
+use mathlib.Core.Bool.{cond}
 use mathlib.Core.List.{List}
 use lib.IntN.{ℤ}
 use lib.Ieee.{Float}
@@ -7,6 +8,7 @@ use Rattle.tables.specs.Table.{Table}
 use Rattle.run_limits.specs.Rank.{rankMeant}
 use Rattle.run_limits.specs.Start.{startLength}
 use Rattle.job_reader.specs.Bytes.{bigEndian, signedAt, doubleAt}
+use Rattle.job_record.specs.Versions.{Format}
 
 -- length of the rest (4), version (1), n (1), entry count (2)
 abbrev pub restLength : List ℕ → ℕ
@@ -44,9 +46,40 @@ signedFrom s at i = signedAt s (at + i * 8)
 abbrev pub doubleFrom : List ℕ → ℕ → ℕ → Float
 doubleFrom s at i = doubleAt s (at + i * 8)
 
--- c (8 signed each) follows the entries, and the settings follow c
-abbrev pub settingsAfter : ℕ → ℕ → ℕ
-settingsAfter n count = entryAt count + n * 8
+-- c (8 signed each) follows the entries, and ends here
+abbrev pub costsEnd : ℕ → ℕ → ℕ
+costsEnd n count = entryAt count + n * 8
+
+-- behind c, in a version that carries them: a pin count (1), then for each pin its wagon (1) and its store (1)
+abbrev pub pinsPlace : List ℕ → ℕ
+pinsPlace s = costsEnd (wagons s) (entryCount s)
+
+-- pin k of those that start at `at`
+abbrev pub pinAt : ℕ → ℕ → ℕ
+pinAt at k = at + k * 2
+
+abbrev pub pinWagon : List ℕ → ℕ → ℕ → ℕ
+pinWagon s at k = bigEndian s (pinAt at k) 1
+
+abbrev pub pinStore : List ℕ → ℕ → ℕ → ℕ
+pinStore s at k = bigEndian s (pinAt at k + 1) 1
+
+-- the stores are 0 and 1; a wagon that no pin holds has this in the place of its store
+abbrev pub lastStore : ℕ
+lastStore = 1
+
+abbrev pub freeState : ℕ
+freeState = 2
+
+-- by a table of versions: the pin count, 0 where a version carries none; the wagons that no pin holds; where the settings stand
+unfoldable pub pinCountBy : Format → List ℕ → ℕ
+pinCountBy format s = cond (format .pinned (version s)) (bigEndian s (pinsPlace s) 1) 0
+
+unfoldable pub freeBy : Format → List ℕ → ℕ
+freeBy format s = wagons s - pinCountBy format s
+
+unfoldable pub settingsBy : Format → List ℕ → ℕ
+settingsBy format s = cond (format .pinned (version s)) (pinAt (pinsPlace s + 1) (pinCountBy format s)) (pinsPlace s)
 
 -- the settings from `at` on: rank (1), rule (1), its number (8), most sweeps (4), minimum (4), objective tolerance (8), stationarity
 -- tolerance (8), W (1), start (1)

@@ -2,8 +2,12 @@
 use crate::arrays::read_doubles;
 use crate::arrays::read_entries;
 use crate::arrays::read_signed;
+use crate::pins::Behind;
+use crate::pins::behind_pins;
+use crate::pins::pins_number;
+use crate::pins::set_free;
+use crate::places::costs_end;
 use crate::places::entry_at;
-use crate::places::settings_at;
 use crate::reading::HeadValues;
 use crate::reading::SettingsValues;
 use crate::reading::head_values;
@@ -11,6 +15,7 @@ use crate::reading::read_draw_count;
 use crate::reading::read_head;
 use crate::reading::read_settings;
 use crate::reading::settings_values;
+use crate::versions::carries_pins;
 use ieee::bits::double_of;
 use job_reader::place_after;
 use job_reader::value_of;
@@ -19,17 +24,19 @@ use run_limits::start_length;
 ghost use mathlib.Core.Path.{_≡_};
 ghost use Prim.Native.Nat.{_+_, _*_, _≤_, _<_, _^_};
 ghost use lib.ListN.{length};
-ghost use Rattle.laws.specs.Lists.{fill};
+ghost use Rattle.laws.specs.Lists.{fill, over};
 ghost use Rattle.limits.specs.Limits.{mostWagons, mostEntries, mostRank, mostStart, mostDrawn};
-ghost use Rattle.job_record.specs.Fields.{wagons, entryCount};
 ghost use Rattle.job_record.specs.Number.{jobNumber};
-ghost use Rattle.job_record.specs.Reading.{settingsFrom, settingsValues};
-ghost use Rattle.job_record.specs.Values.{settingsPlace, drawsPlace, jobOf, jobRank, jobStartCount, jobStart, jobDrawn, jobDraw, Stored};
+ghost use Rattle.job_record.specs.Reading.{HeadThere, settingsFrom, settingsValues};
+ghost use Rattle.job_record.specs.Values.{pinCount, freeWagons, settingsPlace, drawsPlace, jobStates, jobOf, jobRank, jobStartCount, jobStart, jobDrawn, jobDraw, Stored};
 
-// The fields of one number each: the rank as given (0 means the default rank), the rule's code, the start's kind.
+// The fields of one number each: n, the entries, the pins and the wagons that they leave free; the rank as given (0 means the default rank),
+// the rule's code, the start's kind.
 pub struct Job {
     pub n: usize,
     pub count: usize,
+    pub pins: usize,
+    pub free: usize,
     pub rank: usize,
     pub rule: u8,
     pub rule_number: f64,
@@ -45,18 +52,27 @@ pub struct Job {
 // The numbers of an accepted job's head.
 fn accepted_head(job: &[u8]) -> HeadValues
     requires { ⌜ jobNumber (now job) ≡ 0 ⌝ }
-    ensures { λ r. ⌜ (r .n ≡ wagons (now (job .entry))) × (r .count ≡ entryCount (now (job .entry))) ⌝ }
+    ensures { λ r. ⌜ HeadThere (now (job .entry)) r ⌝ }
 {
     let head = read_head(job);
     head_values(head)
 }
 
+// Its pins.
+fn accepted_pins(job: &[u8]) -> Behind
+    requires { ⌜ jobNumber (now job) ≡ 0 ⌝ }
+    ensures { λ r. ⌜ (r .pins ≡ pinCount (now (job .entry))) × (r .free ≡ freeWagons (now (job .entry))) × (r .settings ≡ settingsPlace (now (job .entry))) ⌝ }
+{
+    let head = accepted_head(job);
+    behind_pins(job, head)
+}
+
 // And of its settings.
-fn accepted_settings(job: &[u8], head: HeadValues) -> SettingsValues
-    requires { ⌜ (jobNumber (now job) ≡ 0) × (head .n ≡ wagons (now job)) × (head .count ≡ entryCount (now job)) ⌝ }
+fn accepted_settings(job: &[u8], at: usize) -> SettingsValues
+    requires { ⌜ (jobNumber (now job) ≡ 0) × (at ≡ settingsPlace (now job)) ⌝ }
     ensures { λ r. ⌜ (r ≡ settingsValues (settingsFrom (now (job .entry)) (settingsPlace (now (job .entry))))) × (r .most < 2 ^ 32) × (r .minimum < 2 ^ 32) ⌝ }
 {
-    let f = read_settings(job, settings_at(head.n as usize, head.count as usize));
+    let f = read_settings(job, at);
     settings_values(f)
 }
 
@@ -72,10 +88,10 @@ fn parts_of(job: &[u8]) -> Parts
     requires { ⌜ jobNumber (now job) ≡ 0 ⌝ }
     ensures { λ r. ⌜ (r .rank ≡ jobRank (now (job .entry))) × (r .start ≡ settingsPlace (now (job .entry)) + 36) × (r .count ≡ jobStartCount (now (job .entry))) × (r .draws ≡ drawsPlace (now (job .entry))) × (r .rank ≤ mostRank) × (r .count ≤ mostStart) ⌝ }
 {
-    let head = accepted_head(job);
-    let f = accepted_settings(job, head);
-    let rank = rank_meant(head.n as usize + 1, f.rank as usize);
-    let count = start_length(f.start as u8, head.n as usize + 1, rank, f.most as u32);
+    let b = accepted_pins(job);
+    let f = accepted_settings(job, b.settings);
+    let rank = rank_meant(b.free + 1, f.rank as usize);
+    let count = start_length(f.start as u8, b.free + 1, rank, f.most as u32);
     Parts {
         rank,
         start: f.next,
@@ -108,12 +124,15 @@ pub fn job_of(job: &[u8]) -> Job
     ensures { λ r. ⌜ r ≡ jobOf (now (job .entry)) ⌝ }
 {
     let head = accepted_head(job);
-    let f = accepted_settings(job, head);
+    let b = accepted_pins(job);
+    let f = accepted_settings(job, b.settings);
     let p = parts_of(job);
     let drawn = read_draw_count(job, p.draws);
     Job {
         n: head.n as usize,
         count: head.count as usize,
+        pins: b.pins,
+        free: b.free,
         rank: f.rank as usize,
         rule: f.rule as u8,
         rule_number: double_of(f.rule_number),
@@ -127,8 +146,8 @@ pub fn job_of(job: &[u8]) -> Job
     }
 }
 
-// The start's doubles.
-fn read_start(job: &[u8], start: &mut [f64])
+// The start's doubles, over the front of the slice.
+pub fn read_start(job: &[u8], start: &mut [f64])
     requires { ⌜ (jobNumber (now job) ≡ 0) × (mostStart ≤ length (now start)) ⌝ }
     ensures { λ _. ⌜ now (start .exit) ≡ fill (jobStart (now (job .entry))) (jobStartCount (now (job .entry))) (now (start .entry)) ⌝ }
 {
@@ -136,8 +155,8 @@ fn read_start(job: &[u8], start: &mut [f64])
     read_doubles(job, p.start, p.count, start);
 }
 
-// The draws: behind their count.
-fn read_draws(job: &[u8], draws: &mut [f64])
+// The draws, over the front of the slice: behind their count.
+pub fn read_draws(job: &[u8], draws: &mut [f64])
     requires { ⌜ (jobNumber (now job) ≡ 0) × (mostDrawn ≤ length (now draws)) ⌝ }
     ensures { λ _. ⌜ now (draws .exit) ≡ fill (jobDraw (now (job .entry))) (jobDrawn (now (job .entry))) (now (draws .entry)) ⌝ }
 {
@@ -149,21 +168,11 @@ fn read_draws(job: &[u8], draws: &mut [f64])
     read_doubles(job, first, count, draws);
 }
 
-// An accepted job: its settings; H, c, the start's doubles and the draws over the fronts of the slices.
-pub fn read_job(
-    job: &[u8],
-    rows: &mut [u16],
-    cols: &mut [u16],
-    values: &mut [i64],
-    c: &mut [i64],
-    start: &mut [f64],
-    draws: &mut [f64],
-) -> Job
-    requires { ⌜ (jobNumber (now job) ≡ 0) × (mostEntries ≤ length (now rows)) × (mostEntries ≤ length (now cols)) × (mostEntries ≤ length (now values)) × (mostWagons ≤ length (now c))
-        × (mostStart ≤ length (now start)) × (mostDrawn ≤ length (now draws)) ⌝ }
-    ensures { λ r. ⌜ (r ≡ jobOf (now (job .entry)))
-        × Stored (now (job .entry)) (now (rows .entry)) (now (cols .entry)) (now (values .entry)) (now (c .entry)) (now (start .entry)) (now (draws .entry))
-        (now (rows .exit)) (now (cols .exit)) (now (values .exit)) (now (c .exit)) (now (start .exit)) (now (draws .exit)) ⌝ }
+// H and c, over the fronts of the slices.
+pub fn read_table(job: &[u8], rows: &mut [u16], cols: &mut [u16], values: &mut [i64], c: &mut [i64])
+    requires { ⌜ (jobNumber (now job) ≡ 0) × (mostEntries ≤ length (now rows)) × (mostEntries ≤ length (now cols)) × (mostEntries ≤ length (now values)) × (mostWagons ≤ length (now c)) ⌝ }
+    ensures { λ _. ⌜ Stored (now (job .entry)) (now (rows .entry)) (now (cols .entry)) (now (values .entry)) (now (c .entry))
+        (now (rows .exit)) (now (cols .exit)) (now (values .exit)) (now (c .exit)) ⌝ }
 {
     let head = accepted_head(job);
     let count = head.count as usize;
@@ -171,7 +180,17 @@ pub fn read_job(
     let costs = entry_at(count);
     read_entries(job, count, rows, cols, values);
     read_signed(job, costs, n, c);
-    read_start(job, start);
-    read_draws(job, draws);
-    job_of(job)
+}
+
+// The states of its wagons, a byte each, over the front of `states`.
+pub fn read_states(job: &[u8], states: &mut [u8])
+    requires { ⌜ (jobNumber (now job) ≡ 0) × (mostWagons ≤ length (now states)) ⌝ }
+    ensures { λ _. ⌜ now (states .exit) ≡ over (jobStates (now (job .entry))) (now (states .entry)) ⌝ }
+{
+    let head = accepted_head(job);
+    let n = head.n as usize;
+    set_free(n, states);
+    if carries_pins(head.version) {
+        pins_number(job, n, costs_end(n, head.count as usize), &mut states[0..n]);
+    }
 }

@@ -2,6 +2,8 @@
 pub mod arrays;
 pub mod job;
 pub mod number;
+pub mod pins;
 pub mod places;
 pub mod reading;
 pub mod settings;
+pub mod versions;

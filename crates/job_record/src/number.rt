@@ -1,20 +1,25 @@
 // The number of a job record: the first refusal in reading order, or 0.
 use crate::arrays::read_entries;
 use crate::arrays::read_signed;
+use crate::pins::behind_pins;
+use crate::pins::version_pins;
 use crate::places::ENTRY;
 use crate::places::HEAD;
+use crate::places::costs_end;
 use crate::places::entry_at;
-use crate::places::settings_at;
 use crate::reading::HeadFields;
+use crate::reading::HeadValues;
 use crate::reading::head_values;
 use crate::reading::read_head;
 use crate::settings::limit_number;
 use crate::settings::run_number;
+use crate::versions::is_known;
+use crate::versions::most_wagons_of;
 use job_reader::Field;
+use job_reader::value_of;
 use limits::MOST_BYTES;
 use limits::MOST_ENTRIES;
 use limits::MOST_MAGNITUDE;
-use limits::MOST_WAGONS;
 use tables::check::bad_order;
 use tables::check::hall_too_large;
 use tables::mirror::unmirrored;
@@ -22,13 +27,14 @@ ghost use mathlib.Core.Path.{_≡_};
 ghost use mathlib.Core.Bool.{not};
 ghost use Prim.Native.Nat.{ℕ, _+_, _≤_, _<_};
 ghost use lib.ListN.{length};
-ghost use lib.Dec.{eqb};
 ghost use Rattle.laws.specs.Refusal.{first, orElse};
 ghost use Rattle.laws.specs.Lists.{elemZ};
 ghost use Rattle.limits.specs.Limits.{mostWagons, mostEntries};
-ghost use Rattle.job_record.specs.Fields.{entryAt, value};
-ghost use Rattle.job_record.specs.Reading.{fieldNumber, frameJudged, headJudged};
-ghost use Rattle.job_record.specs.Number.{entriesNumbers, costsNumbers, jobNumber};
+ghost use Rattle.job_record.specs.Versions.{known, versions};
+ghost use Rattle.job_record.specs.Fields.{wagons, entryCount, entryAt, value};
+ghost use Rattle.job_record.specs.Reading.{HeadThere, fieldNumber, frameJudged, headJudged};
+ghost use Rattle.job_record.specs.Number.{entriesNumbers, costsNumbers, pinsNumbersBy, runNumbers, jobNumber};
+ghost use Rattle.job_record.specs.Values.{freeWagons, settingsPlace};
 
 // The length of the rest, in a record of `len` bytes.
 fn frame_number(len: usize, rest: Field) -> u8
@@ -48,14 +54,14 @@ fn frame_number(len: usize, rest: Field) -> u8
     }
 }
 
-// 11 past the end, 12 where it isn't 1.
+// 11 past the end, 12 where it isn't known.
 fn version_number(version: Field) -> u8
-    ensures { λ r. ⌜ r ≡ fieldNumber version (λ v. not (eqb v 1)) 12 ⌝ }
+    ensures { λ r. ⌜ r ≡ fieldNumber version (λ v. not (known versions v)) 12 ⌝ }
 {
     match version {
         Field::Short => 11,
         Field::Value(value, _) => {
-            if value != 1 {
+            if !is_known(value) {
                 return 12;
             }
             0
@@ -81,7 +87,7 @@ fn head_number(len: usize, head: HeadFields) -> u8
         return unknown;
     }
     let n = head.n;
-    let many = limit_number(n, MOST_WAGONS, 13);
+    let many = limit_number(n, most_wagons_of(value_of(version)), 13);
     if many != 0 {
         return many;
     }
@@ -133,7 +139,7 @@ fn costs_number(job: &[u8], n: usize, count: usize, values: &[i64]) -> u8
     requires { ⌜ (n ≤ mostWagons) × (count ≤ mostEntries) × (count ≤ length (now values)) × ((k : ℕ) → k < count → elemZ (now values) k ≡ value (now job) k) ⌝ }
     ensures { λ r. ⌜ r ≡ first (costsNumbers (now (job .entry)) n count) ⌝ }
 {
-    if job.len() < settings_at(n, count) {
+    if job.len() < costs_end(n, count) {
         return 11;
     }
     let mut c = [0i64; limits::MOST_WAGONS];
@@ -159,6 +165,19 @@ fn table_number(job: &[u8], n: usize, count: usize) -> u8
     costs_number(job, n, count, &values)
 }
 
+// Behind c: the pins, then the rest for the free wagons.
+fn rest_number(job: &[u8], head: HeadValues) -> u8
+    requires { ⌜ HeadThere (now job) head × (wagons (now job) ≤ mostWagons) × (entryCount (now job) ≤ mostEntries) ⌝ }
+    ensures { λ r. ⌜ r ≡ orElse (first (pinsNumbersBy versions (now (job .entry)))) (first (runNumbers (now (job .entry)) (freeWagons (now (job .entry))) (settingsPlace (now (job .entry))))) ⌝ }
+{
+    let pins = version_pins(job, head);
+    if pins != 0 {
+        return pins;
+    }
+    let b = behind_pins(job, head);
+    run_number(job, b.free, b.settings)
+}
+
 // The first number of a job record in the order of reading, 0 where it is accepted.
 pub fn job_number(job: &[u8]) -> u8
     ensures { λ r. ⌜ r ≡ jobNumber (now (job .entry)) ⌝ }
@@ -175,5 +194,5 @@ pub fn job_number(job: &[u8]) -> u8
     if table != 0 {
         return table;
     }
-    run_number(job, n, settings_at(n, count))
+    rest_number(job, v)
 }

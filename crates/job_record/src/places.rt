@@ -1,7 +1,7 @@
 // Where the parts of a job record stand.
 ghost use mathlib.Core.Path.{_≡_};
 ghost use Prim.Native.Nat.{_<_, _^_};
-ghost use Rattle.job_record.specs.Fields.{entryAt, settingsAfter};
+ghost use Rattle.job_record.specs.Fields.{entryAt, costsEnd};
 
 // The bytes of a head, and of an entry.
 pub const HEAD: usize = 8;
@@ -16,10 +16,10 @@ pub fn entry_at(k: usize) -> usize
     HEAD + k * ENTRY
 }
 
-// Where the settings stand: behind c.
-pub fn settings_at(n: usize, count: usize) -> usize
-    requires { ⌜ settingsAfter n count < 2 ^ 64 ⌝ }
-    ensures { λ r. ⌜ r ≡ settingsAfter n count ⌝ }
+// Where c ends.
+pub fn costs_end(n: usize, count: usize) -> usize
+    requires { ⌜ costsEnd n count < 2 ^ 64 ⌝ }
+    ensures { λ r. ⌜ r ≡ costsEnd n count ⌝ }
 {
     entry_at(count) + n * 8
 }

@@ -1,4 +1,4 @@
-// The head and the settings of a job record, field by field: a reader is made at a place and takes one field after the other.
+// The head, a pin and the settings of a job record, field by field: a reader is made at a place and takes one field after the other.
 // What is past the end stays visible, for whoever judges the fields.
 use job_reader::Field;
 use job_reader::JobReader;
@@ -7,7 +7,7 @@ use job_reader::take;
 use job_reader::value_of;
 ghost use mathlib.Core.Path.{_≡_};
 ghost use Rattle.job_reader.specs.Bytes.{fieldAt};
-ghost use Rattle.job_record.specs.Reading.{headOf, settingsFrom, headValues, settingsValues};
+ghost use Rattle.job_record.specs.Reading.{headOf, pinFrom, settingsFrom, headValues, settingsValues};
 
 // Length of the rest, version, n, entry count.
 pub struct HeadFields {
@@ -15,6 +15,13 @@ pub struct HeadFields {
     pub version: Field,
     pub n: Field,
     pub count: Field,
+}
+
+// Wagon and store of a pin, and how far the reader has read.
+pub struct PinFields {
+    pub wagon: Field,
+    pub store: Field,
+    pub next: usize,
 }
 
 // The settings, and how far the reader has read.
@@ -31,8 +38,9 @@ pub struct SettingsFields {
     pub next: usize,
 }
 
-// n and the entry count as numbers.
+// Version, n and the entry count as numbers.
 pub struct HeadValues {
+    pub version: u64,
     pub n: u64,
     pub count: u64,
 }
@@ -68,6 +76,20 @@ pub fn read_head(job: &[u8]) -> HeadFields
     }
 }
 
+// The pin at `at`.
+pub fn read_pin(job: &[u8], at: usize) -> PinFields
+    ensures { λ r. ⌜ r ≡ pinFrom (now (job .entry)) at ⌝ }
+{
+    let mut reader = JobReader { bytes: job, at };
+    let wagon = take(&mut reader, 1);
+    let store = take(&mut reader, 1);
+    PinFields {
+        wagon,
+        store,
+        next: reader.at,
+    }
+}
+
 // The settings from `at` on.
 pub fn read_settings(job: &[u8], at: usize) -> SettingsFields
     ensures { λ r. ⌜ r ≡ settingsFrom (now (job .entry)) at ⌝ }
@@ -100,9 +122,11 @@ pub fn read_settings(job: &[u8], at: usize) -> SettingsFields
 pub fn head_values(head: HeadFields) -> HeadValues
     ensures { λ r. ⌜ r ≡ headValues head ⌝ }
 {
+    let version = head.version;
     let n = head.n;
     let count = head.count;
     HeadValues {
+        version: value_of(version),
         n: value_of(n),
         count: value_of(count),
     }
@@ -133,6 +157,13 @@ pub fn settings_values(f: SettingsFields) -> SettingsValues
         start: value_of(start),
         next: f.next,
     }
+}
+
+// The pin count at `at`.
+pub fn read_pin_count(job: &[u8], at: usize) -> Field
+    ensures { λ r. ⌜ r ≡ fieldAt (now (job .entry)) at 1 ⌝ }
+{
+    field_at(job, at, 1)
 }
 
 // The draw count at `at`.

@@ -10,39 +10,30 @@ use borrow.Author.Tests.{lt-ltb, le-ltb}
 use Rattle.laws.specs.Lists.{over}
 use Rattle.laws.proofs.Refusal.{first-here, first-skip, first-found, first-next, first-end}
 use Rattle.laws.proofs.Any.{any-here, any-skip, any-not, any-none}
-use Rattle.run_contract.specs.declared.FinishResult.{FinishResult}
 use Rattle.job_record.specs.Number.{jobNumber}
 use Rattle.answer_record.specs.Answer.{answerBytes, refusalBytes}
 use Rattle.answer_record.specs.declared.answer.Answer.{Answer}
 use Rattle.limits.specs.Limits.{mostWagons, leastAnswer}
-use Rattle.record_call.specs.Record.{jobCosts, jobResult, jobChoice, fieldsOf, bytesBy, answerOf, leastWorkspace, tooShort, callNumber, answerAfter}
+use Rattle.record_call.specs.Record.{jobFields, wholeChoice, bytesBy, answerOf, leastWorkspace, tooShort, callNumber, answerAfter}
 use Rattle.record_call.specs.Promise.{Answers}
-use Rattle.record_call.proofs.Accepted.{few}
-use Rattle.record_call.proofs.Figures.{n-is, rank-low}
-use Rattle.record_call.proofs.Promise.{accepted-bytes, choice-size, fields-read, choice-read, promise}
+use Rattle.record_call.proofs.Freed.{job-hall}
+use Rattle.record_call.proofs.Promise.{accepted-bytes, n-is, choice-size, fields-read, choice-read, pins-promise, promise}
 
 -- ---- an accepted job
 
+same-bytes : (a : Answer) (b b′ : List ℕ) → take (a .n) b ≡ take (a .n) b′ → answerBytes a b ≡ answerBytes a b′
+unfolding answerBytes
+same-bytes a b b′ e = rw e
+
 module _ (s : List ℕ) (e : jobNumber s ≡ 0) where
-  pub bytes-hold : (x : FinishResult) → x ≡ jobResult (jobCosts s) s → (x .rank < 256) × (x .n < 256)
-  bytes-hold x is =
-      let rank : x .rank ≡ jobResult (jobCosts s) s .rank = ap (λ (y : FinishResult). y .rank) is in
-      let n : x .n ≡ jobCosts s .n = ap (λ (y : FinishResult). y .n) is ∙ n-is s e in
-      (omega (arith, rank-low s e), omega (arith, few s e))
-
-  pub n-fits : (a : Answer) (x : FinishResult) → a ≡ fieldsOf x → x ≡ jobResult (jobCosts s) s → a .n ≤ mostWagons
-  n-fits a x p q = let n : a .n ≡ jobCosts s .n = ap (λ (y : Answer). y .n) p ∙ ap (λ (y : FinishResult). y .n) q ∙ n-is s e in omega (arith, few s e)
-
-  same-bytes : (a : Answer) (b b′ : List ℕ) → take (a .n) b ≡ take (a .n) b′ → answerBytes a b ≡ answerBytes a b′
-  unfolding answerBytes
-  same-bytes a b b′ h = rw h
+  pub n-fits : (a : Answer) → a ≡ jobFields s → a .n ≤ mostWagons
+  n-fits a is = let n : a .n ≡ jobFields s .n = ap (λ (y : Answer). y .n) is in omega (arith, n-is s e, job-hall s e .wagons)
 
   -- a choice at the front of a slice is written as alone
-  pub written-bytes : (a : Answer) (x : FinishResult) (b b₀ : List ℕ) → a ≡ fieldsOf x → x ≡ jobResult (jobCosts s) s → b ≡ over (jobChoice (jobCosts s) s) b₀
-      → answerBytes a b ≡ answerBytes (fieldsOf (jobResult (jobCosts s) s)) (jobChoice (jobCosts s) s)
-  written-bytes a x b b₀ p q r =
-      rw (p, q, r)
-      (same-bytes (fieldsOf (jobResult (jobCosts s) s)) (over (jobChoice (jobCosts s) s) b₀) (jobChoice (jobCosts s) s) (take-append-le (jobResult (jobCosts s) s .n) (jobChoice (jobCosts s) s) (drop (length (jobChoice (jobCosts s) s)) b₀) (omega (arith, n-is s e, choice-size s e))))
+  pub written-bytes : (a : Answer) (b b₀ : List ℕ) → a ≡ jobFields s → b ≡ over (wholeChoice s) b₀ → answerBytes a b ≡ answerBytes (jobFields s) (wholeChoice s)
+  written-bytes a b b₀ p r =
+      rw (p, r)
+      (same-bytes (jobFields s) (over (wholeChoice s) b₀) (wholeChoice s) (take-append-le (jobFields s .n) (wholeChoice s) (drop (length (wholeChoice s)) b₀) (omega (arith, n-is s e, choice-size s e))))
 
 -- ---- the call
 
@@ -69,6 +60,7 @@ module _ (job workspace answer : List ℕ) where
         refused = λ _. refl;
         kept = refl;
         read = λ z. absurd (omega (arith, z));
+        pinned = λ z. absurd (omega (arith, z));
         promised = λ z. absurd (omega (arith, z));
       }
 
@@ -87,6 +79,7 @@ module _ (job workspace answer : List ℕ) where
         refused = λ _. refl;
         kept = refl;
         read = λ z. absurd (some z);
+        pinned = λ z. absurd (some z);
         promised = λ z. absurd (some z);
       }
 
@@ -96,13 +89,13 @@ module _ (job workspace answer : List ℕ) where
   number-none t is = first-skip 31 _ _ t ∙ first-next (jobNumber job) [] is ∙ first-end
 
   answer-left : (answer′ : List ℕ) → tooShort (length workspace) (length answer) ≡ false → jobNumber job ≡ 0
-      → answer′ ≡ over (answerBytes (fieldsOf (jobResult (jobCosts job) job)) (jobChoice (jobCosts job) job)) answer → answer′ ≡ answerAfter job (length workspace) answer
+      → answer′ ≡ over (answerBytes (jobFields job) (wholeChoice job)) answer → answer′ ≡ answerAfter job (length workspace) answer
   unfolding answerAfter
   answer-left answer′ t is e = rw (t, accepted-bytes job is) e
 
   pub answers-accepted : ((i : ℕ) → getD job i 0 < 256) → (workspace′ answer′ : List ℕ) → drop leastWorkspace workspace′ ≡ drop leastWorkspace workspace
       → tooShort (length workspace) (length answer) ≡ false → jobNumber job ≡ 0
-      → answer′ ≡ over (answerBytes (fieldsOf (jobResult (jobCosts job) job)) (jobChoice (jobCosts job) job)) answer → Answers job workspace answer 0 workspace′ answer′
+      → answer′ ≡ over (answerBytes (jobFields job) (wholeChoice job)) answer → Answers job workspace answer 0 workspace′ answer′
   answers-accepted bytes workspace′ answer′ tail t is e =
       record {
         numbered = sym (number-none t is);
@@ -110,5 +103,6 @@ module _ (job workspace answer : List ℕ) where
         refused = λ z. absurd (z refl);
         kept = tail;
         read = λ _. (rw e (fields-read job is bytes answer), rw e (choice-read job is bytes answer));
-        promised = λ _ some. rw e (promise job is bytes answer some);
+        pinned = λ _ some. rw e (pins-promise job is bytes answer some);
+        promised = λ _ none some. rw e (promise job is bytes answer none some);
       }

@@ -1,6 +1,8 @@
 -- Every field of an accepted job's answer fits its bytes. Assumes nothing.
---     demanded    demand 3 of what a finish finds
---     held        the fields of a job's answer
+--     demanded       demand 3 of what a finish finds
+--     run-finish     what the finish of a job's run finds, as that of the reduced (H, c)
+--     figures-fit    with the constant, too, an i64 holds the figures
+--     held           the fields of a job's answer
 use Prim.Native.Nat.{ℕ, zero, suc, _+_, _*_, _^_, _≤_, _<_}
 use native.Mathlib.Nat.{lt-of-le-of-lt, pow-suc}
 use native.Mathlib.Omega.{arith}
@@ -12,47 +14,40 @@ use lib.IntN.{ℤ, pos, negℤ, natAbs, _-ℤ_}
 use lib.Ieee.{Float, binary64, fits}
 use lib.Ieee.Fits.{add-fits, sub-fits}
 use lib.Signed.{_≤ℤ_}
-use mir.Syntax.{w64}
-use mir.Val.{SFits}
-use Rattle.laws.proofs.Integer.{integers, abs-parts, add-parts, neg-⁺, neg-⁻, fits-abs}
-use Rattle.laws.proofs.Sums.{sum-bounded}
+use Rattle.laws.proofs.Integer.{integers, abs-parts, add-parts, neg-⁺, neg-⁻}
 use Rattle.laws.proofs.Made.{over-all}
-use Rattle.tables.specs.Table.{Table, magnitudeOf, floorTerm, floorOf}
+use Rattle.tables.specs.Table.{Table, magnitudeOf}
 use Rattle.tables.specs.Bound.{entrywise}
 use Rattle.tables.specs.Check.{Hall}
 use Rattle.limits.specs.Limits.{mostWagons, mostEntries, mostMagnitude, mostSignMagnitude, mostRank}
-use Rattle.tables.proofs.Checks.{hall-accepted}
-use Rattle.tables.proofs.Shares.{abs-least}
 use Rattle.sign_table.specs.SignTable.{signTable}
 use Rattle.sign_table.proofs.Theorems.{hall-sign-table}
 use Rattle.sign_search.proofs.Lawful.{objective-abs}
 use Rattle.sign_search.proofs.HallTheorems.{hall-mirrors}
-use Rattle.finalize.specs.Finalize.{floatBound, floorEighths, multipliersOf, roundedSigns, roundedCost, searchResult, searchedChoice, searchedCost, searchedRounds}
+use Rattle.finalize.specs.Finalize.{diagonalTotal, floatBound, floorEighths, multipliersOf, roundedSigns, roundedCost, searchResult, searchedChoice, searchedCost, searchedRounds}
 use Rattle.finalize.specs.Demand3.{Demand3}
+use Rattle.finalize.specs.Contracts.{Finalizes}
 use Rattle.finalize.proofs.Demand3.{demand3, unsearched}
+use Rattle.pinned.specs.Pinned.{freeTable, freeCost}
+use Rattle.pinned_demand.specs.PinnedDemand3.{freeCount}
+use Rattle.pinned_demand.proofs.Figures.{figures-within, fits-within}
 use Rattle.run_record.specs.CostTable.{quadratic, linear}
-use Rattle.run_contract.specs.Calls.{finishResult}
+use Rattle.run_contract.specs.Calls.{finishResult, finishMultipliers}
 use Rattle.run_contract.specs.PlainRun.{recordOf}
 use Rattle.job_reader.specs.Bytes.{bigEndian}
 use Rattle.job_record.specs.Number.{jobNumber}
-use Rattle.job_record.specs.Values.{jobOf, settingsPlace}
+use Rattle.job_record.specs.Values.{settingsPlace, jobStates, jobBy, jobOf}
 use Rattle.answer_record.specs.Answer.{Held}
-use Rattle.record_call.specs.Record.{jobCosts, jobDraws, stopped, jobResult, fieldsOf}
-use Rattle.record_call.proofs.Accepted.{costs-pass, few, stops, rank-few}
+use Rattle.record_call.specs.Record.{jobCosts, reducedCosts, runCosts, pinnedCost, jobDraws, stopped, jobResult, jobChoice, jobFields}
+use Rattle.record_call.specs.Decoded.{FiguresFit}
+use Rattle.record_call.proofs.Freed.{job-hall, run-hall}
+use Rattle.record_call.proofs.Accepted.{stops, rank-few}
 
 -- ---- what a finish finds, of any hall
 
 module _ {n : ℕ} {h : Table} {c : ℕ → ℤ} (hall : Hall mostWagons mostEntries mostMagnitude n h c) (rank : ℕ) (factor draws : List Float) (drawCount width : ℕ) where
   small : magnitudeOf (signTable n h c) ≤ mostSignMagnitude
   small = hall-sign-table hall .magnitude
-
-  floor-low : natAbs (floorEighths n h c) ≤ mostSignMagnitude
-  unfolding floorEighths
-  floor-low =
-      let t = signTable n h c in
-      let b : natAbs (floorOf t) ≤ 1 * magnitudeOf t =
-      sum-bounded 1 (t .count) (t .count) (floorTerm t) (λ l. natAbs (t .value l)) (λ l. abs-least (t .row l) (t .column l) (t .value l)) (omega arith) in
-      omega (arith, b, small)
 
   rounded-low : natAbs (roundedCost n h c rank factor draws drawCount) ≤ 2 * mostSignMagnitude
   unfolding roundedCost
@@ -62,31 +57,25 @@ module _ {n : ℕ} {h : Table} {c : ℕ → ℤ} (hall : Hall mostWagons mostEnt
   unfolding searchedCost
   cost-low = objective-abs (hall-mirrors hall) small (searchResult n h c rank factor draws drawCount width .answer)
 
-  pub floor-fits : SFits w64 (floorEighths n h c)
-  floor-fits = fits-abs (floorEighths n h c) (lt-of-le-of-lt floor-low (omega arith))
-
-  pub rounded-fits : SFits w64 (roundedCost n h c rank factor draws drawCount)
-  rounded-fits = fits-abs (roundedCost n h c rank factor draws drawCount) (lt-of-le-of-lt rounded-low (omega arith))
-
-  pub cost-fits : SFits w64 (searchedCost n h c rank factor draws drawCount width)
-  cost-fits = fits-abs (searchedCost n h c rank factor draws drawCount width) (lt-of-le-of-lt cost-low (omega arith))
+  finalized : Finalizes n h c rank width drawCount draws factor (searchedChoice n h c rank factor draws drawCount width) (searchedChoice n h c rank factor draws drawCount width)
+      (multipliersOf n h c rank factor) (multipliersOf n h c rank factor) (diagonalTotal n h c) (floatBound n h c) (floorEighths n h c)
+      (roundedCost n h c rank factor draws drawCount) (searchedCost n h c rank factor draws drawCount width) (searchedRounds n h c rank factor draws drawCount width)
+  finalized =
+      record {
+        diagonal-is = refl;
+        bound-is = refl;
+        floor-is = refl;
+        rounded-is = refl;
+        cost-is = refl;
+        rounds-are = refl;
+        choice-is = sym (over-all (searchedChoice n h c rank factor draws drawCount width) (searchedChoice n h c rank factor draws drawCount width) refl);
+        multipliers-are = sym (over-all (multipliersOf n h c rank factor) (multipliersOf n h c rank factor) refl);
+      }
 
   module _ (some : 1 ≤ width) where
     pub demanded : Demand3 n h c rank factor draws drawCount width (searchedChoice n h c rank factor draws drawCount width) (floorEighths n h c)
         (roundedCost n h c rank factor draws drawCount) (searchedCost n h c rank factor draws drawCount width) (searchedRounds n h c rank factor draws drawCount width)
-    demanded =
-        demand3 hall rank factor draws drawCount width some
-        {b = searchedChoice n h c rank factor draws drawCount width} {multipliers = multipliersOf n h c rank factor}
-        (record {
-          diagonal-is = refl;
-          bound-is = refl;
-          floor-is = refl;
-          rounded-is = refl;
-          cost-is = refl;
-          rounds-are = refl;
-          choice-is = sym (over-all (searchedChoice n h c rank factor draws drawCount width) (searchedChoice n h c rank factor draws drawCount width) refl);
-          multipliers-are = sym (over-all (multipliersOf n h c rank factor) (multipliersOf n h c rank factor) refl);
-        })
+    demanded = demand3 hall rank factor draws drawCount width some finalized
 
     rounds-some : searchedRounds n h c rank factor draws drawCount width < 2 ^ 64
     rounds-some =
@@ -114,56 +103,70 @@ read-low s bytes at (suc n) = rw pow-suc (next (bigEndian s at n) (getD s (at + 
 -- ---- an accepted job
 
 module _ (s : List ℕ) (e : jobNumber s ≡ 0) where
-  pub job-hall : Hall mostWagons mostEntries mostMagnitude (jobCosts s .n) (quadratic (jobCosts s)) (linear (jobCosts s))
-  job-hall = hall-accepted (costs-pass s e)
-
-  pub n-is : jobResult (jobCosts s) s .n ≡ jobCosts s .n
-  unfolding jobResult finishResult
-  n-is = refl
-
-  pub rank-low : jobResult (jobCosts s) s .rank ≤ mostRank
+  pub rank-low : jobResult (runCosts s) s .rank ≤ mostRank
   unfolding jobResult finishResult
   rank-low = rw (stops s e .sound .rank-is) (rank-few s e)
 
-  status-low : jobResult (jobCosts s) s .status ≤ 2
+  status-low : jobResult (runCosts s) s .status ≤ 2
   unfolding jobResult finishResult
   status-low = stops s e .sound .status-few
 
-  sweeps-low : jobResult (jobCosts s) s .sweeps ≤ jobOf s .most
+  sweeps-low : jobResult (runCosts s) s .sweeps ≤ jobOf s .most
   unfolding jobResult finishResult
   sweeps-low = stops s e .sound .sweeps-few
 
   most-low : ((i : ℕ) → getD s i 0 < 256) → jobOf s .most < 2 ^ 32
-  unfolding jobOf
+  unfolding jobBy
   most-low bytes = read-low s bytes (settingsPlace s + 10) 4
 
   -- each double is a sum or a difference, rounded
-  relaxed-fits : T (fits binary64 (jobResult (jobCosts s) s .«relaxed_objective»))
+  relaxed-fits : T (fits binary64 (jobResult (runCosts s) s .«relaxed_objective»))
   unfolding jobResult finishResult
   relaxed-fits = add-fits binary64 _ _
 
-  bound-fits : T (fits binary64 (jobResult (jobCosts s) s .«float_bound»))
+  bound-fits : T (fits binary64 (jobResult (runCosts s) s .«float_bound»))
   unfolding jobResult finishResult floatBound entrywise
   bound-fits = sub-fits binary64 _ _
 
-  -- of a job that is made of bytes
-  pub held : ((i : ℕ) → getD s i 0 < 256) → Held (fieldsOf (jobResult (jobCosts s) s))
+  rounds-fit : jobResult (runCosts s) s .rounds < 2 ^ 64
   unfolding jobResult finishResult recordOf
+  rounds-fit = rounds-low (run-hall s e) (stopped (runCosts s) s .rank) (stopped (runCosts s) s .factor) (jobDraws s) (jobOf s .«draw_count») (jobOf s .width)
+
+  -- what the finish of the run finds
+  abbrev H : Table
+  H = quadratic (jobCosts s)
+
+  abbrev free : List ℕ
+  free = jobStates s
+
+  pub run-finish : Finalizes (freeCount (jobCosts s .n) free) (freeTable (jobCosts s .n) H free) (freeCost (jobCosts s .n) H (linear (jobCosts s)) free) (stopped (runCosts s) s .rank) (jobOf s .width)
+      (jobOf s .«draw_count») (jobDraws s) (stopped (runCosts s) s .factor) (jobChoice (runCosts s) s) (jobChoice (runCosts s) s)
+      (finishMultipliers (recordOf (stopped (runCosts s) s)) (runCosts s) (stopped (runCosts s) s .factor)) (finishMultipliers (recordOf (stopped (runCosts s) s)) (runCosts s) (stopped (runCosts s) s .factor))
+      (diagonalTotal (runCosts s .n) (quadratic (runCosts s)) (linear (runCosts s))) (jobResult (runCosts s) s .«float_bound»)
+      (jobResult (runCosts s) s .floor) (jobResult (runCosts s) s .«rounded_cost») (jobResult (runCosts s) s .cost) (jobResult (runCosts s) s .rounds)
+  unfolding jobResult finishResult jobChoice recordOf runCosts reducedCosts freeTable
+  run-finish =
+      finalized (run-hall s e) (stopped (runCosts s) s .rank) (stopped (runCosts s) s .factor) (jobDraws s) (jobOf s .«draw_count») (jobOf s .width)
+
+  pub figures-fit : FiguresFit (pinnedCost s) (jobResult (runCosts s) s)
+  unfolding pinnedCost
+  figures-fit =
+      let w = figures-within (job-hall s e) free run-finish in
+      record { floor = fits-within _ mostMagnitude (omega arith) (w .0); rounded = fits-within _ mostMagnitude (omega arith) (w .1); cost = fits-within _ mostMagnitude (omega arith) (w .2) }
+
+  -- of a job that is made of bytes
+  pub held : ((i : ℕ) → getD s i 0 < 256) → Held (jobFields s)
+  unfolding jobFields
   held bytes =
-      let rank = stopped (jobCosts s) s .rank in
-      let factor = stopped (jobCosts s) s .factor in
-      let draws = jobDraws s in
-      let drawCount = jobOf s .«draw_count» in
-      let width = jobOf s .width in
       record {
         status = omega (arith, status-low);
         rank = omega (arith, rank-low);
-        n = omega (arith, n-is, few s e);
+        n = omega (arith, job-hall s e .wagons);
         sweeps = lt-of-le-of-lt sweeps-low (most-low bytes);
         relaxed = relaxed-fits;
         bound = bound-fits;
-        floor = floor-fits job-hall rank factor draws drawCount width;
-        rounded = rounded-fits job-hall rank factor draws drawCount width;
-        cost = cost-fits job-hall rank factor draws drawCount width;
-        rounds = rounds-low job-hall rank factor draws drawCount width;
+        floor = figures-fit .floor;
+        rounded = figures-fit .rounded;
+        cost = figures-fit .cost;
+        rounds = rounds-fit;
       }

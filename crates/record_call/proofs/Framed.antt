@@ -17,11 +17,10 @@ use Rattle.answer_record.specs.Answer.{frameBytes, countBytes, floatBytes, eigh
 use Rattle.answer_record.specs.declared.answer.Answer.{Answer}
 use Rattle.answer_record.proofs.Sizes.{length-frame, length-count, length-float, length-eighth}
 use Rattle.limits.specs.Limits.{leastAnswer}
-use Rattle.record_call.specs.Record.{jobCosts, jobResult, jobChoice, fieldsOf, bytesBy, answerOf, leastWorkspace, tooShort, answerAfter}
-use Rattle.record_call.proofs.Accepted.{few}
+use Rattle.record_call.specs.Record.{jobFields, wholeChoice, bytesBy, answerOf, leastWorkspace, tooShort, answerAfter}
+use Rattle.record_call.proofs.Freed.{job-hall}
 use Rattle.record_call.proofs.Answering.{roomy}
-use Rattle.record_call.proofs.Figures.{n-is}
-use Rattle.record_call.proofs.Promise.{choice-size}
+use Rattle.record_call.proofs.Promise.{n-is, choice-size}
 
 answer-size : (a : Answer) (b : List ℕ) → a .n ≤ length b → length (answerBytes a b) ≡ 60 + a .n
 unfolding answerBytes
@@ -42,11 +41,11 @@ refusal-front k out = refl
 module _ (s out : List ℕ) where
   accepted-length : jobNumber s ≡ 0 → 4 + bigEndian (over (bytesBy 0 s) out) 0 4 ≡ length (bytesBy 0 s)
   accepted-length e =
-      let a = fieldsOf (jobResult (jobCosts s) s) in
-      let low = few s e in
+      let a = jobFields s in
+      let low = job-hall s e .wagons in
       let n = n-is s e in
-      let front = answer-front a (jobChoice (jobCosts s) s) out (omega arith) in
-      let size = answer-size a (jobChoice (jobCosts s) s) (omega (arith, choice-size s e)) in
+      let front = answer-front a (wholeChoice s) out (omega arith) in
+      let size = answer-size a (wholeChoice s) (omega (arith, choice-size s e)) in
       omega arith
 
   by-number : (n : ℕ) → jobNumber s ≡ n → 4 + bigEndian (over (bytesBy n s) out) 0 4 ≡ length (bytesBy n s)
@@ -60,8 +59,8 @@ module _ (s out : List ℕ) where
   -- it fits the least answer slice
   few-bytes : (n : ℕ) → jobNumber s ≡ n → length (bytesBy n s) ≤ leastAnswer
   few-bytes zero e =
-      let size = answer-size (fieldsOf (jobResult (jobCosts s) s)) (jobChoice (jobCosts s) s) (omega (arith, choice-size s e, n-is s e)) in
-      omega (arith, size, few s e, n-is s e)
+      let size = answer-size (jobFields s) (wholeChoice s) (omega (arith, choice-size s e, n-is s e)) in
+      omega (arith, size, job-hall s e .wagons, n-is s e)
   few-bytes (suc k) e = omega (arith, refusal-size (suc k))
 
   pub record-few : length (answerOf s .bytes) ≤ leastAnswer

@@ -1,5 +1,6 @@
 pub mod Stopping
 pub mod Unrefused
+pub mod Freed
 pub mod Accepted
 pub mod Figures
 pub mod Promise
@@ -8,3 +9,4 @@ pub mod Answering
 pub mod Framed
 pub mod Halls
 pub mod Long
+pub mod Before

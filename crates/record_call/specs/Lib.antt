@@ -1,3 +1,4 @@
 pub mod Record
 pub mod Promise
 pub mod Decoded
+pub mod Base

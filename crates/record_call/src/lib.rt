@@ -1,52 +1,30 @@
 // The record call: a job's bytes in, the answer's bytes and a number out (01, "Job and answer records").
 mod run; // run.rt: an accepted job's open, sweeps and finish
 
-use answer_record::answer::Answer;
 use answer_record::answer::write_answer;
 use answer_record::answer::write_refusal;
 use job_record::number::job_number;
 use limits::LEAST_ANSWER;
 use limits::MOST_WAGONS;
 use limits::SEARCH_WORKSPACE;
-use run::job_result;
-use run_contract::FinishResult;
+use run::job_answer;
 ghost use mathlib.Core.Path.{_≡_};
-ghost use Prim.Native.Nat.{_≤_, _<_};
+ghost use Prim.Native.Nat.{_≤_};
 ghost use lib.ListN.{length};
 ghost use Rattle.laws.specs.Lists.{over};
 ghost use Rattle.job_record.specs.Number.{jobNumber};
 ghost use Rattle.answer_record.specs.Answer.{answerBytes};
 ghost use Rattle.limits.specs.Limits.{leastAnswer};
-ghost use Rattle.record_call.specs.Record.{jobCosts, jobResult, jobChoice, fieldsOf, leastWorkspace};
+ghost use Rattle.record_call.specs.Record.{jobFields, wholeChoice, leastWorkspace};
 ghost use Rattle.record_call.specs.Promise.{Answers};
-
-// The fields of an answer record.
-fn fields_of(x: FinishResult) -> Answer
-    requires { ⌜ (x .rank < 256) × (x .n < 256) ⌝ }
-    ensures { λ r. ⌜ r ≡ fieldsOf x ⌝ }
-{
-    Answer {
-        status: x.status,
-        rank: x.rank as u8,
-        n: x.n as u8,
-        sweeps: x.sweeps,
-        relaxed_objective: x.relaxed_objective,
-        float_bound: x.float_bound,
-        floor: x.floor,
-        rounded_cost: x.rounded_cost,
-        cost: x.cost,
-        rounds: x.rounds,
-    }
-}
 
 // The answer record of an accepted job.
 fn answer_job(job: &[u8], workspace: &mut [u8], answer: &mut [u8])
     requires { ⌜ (jobNumber (now job) ≡ 0) × (leastWorkspace ≤ length (now workspace)) × (leastAnswer ≤ length (now answer)) ⌝ }
-    ensures { λ _. ⌜ now (answer .exit) ≡ over (answerBytes (fieldsOf (jobResult (jobCosts (now (job .entry))) (now (job .entry)))) (jobChoice (jobCosts (now (job .entry))) (now (job .entry)))) (now (answer .entry)) ⌝ }
+    ensures { λ _. ⌜ now (answer .exit) ≡ over (answerBytes (jobFields (now (job .entry))) (wholeChoice (now (job .entry)))) (now (answer .entry)) ⌝ }
 {
     let mut b = [0u8; MOST_WAGONS];
-    let result = job_result(job, &mut b, workspace);
-    let fields = fields_of(result);
+    let fields = job_answer(job, &mut b, workspace);
     write_answer(answer, fields, &b);
 }
 

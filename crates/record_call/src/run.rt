@@ -1,14 +1,24 @@
-// The run of an accepted job: its open, a sweep up to its most, its finish.
+// The run of an accepted job: its open, a sweep up to its most, its finish; on the free wagons where wagons are pinned.
+use answer_record::answer::Answer;
 use job_record::job::Job;
+use job_record::job::job_of;
 use job_record::job::job_rank;
 use job_record::job::job_start_count;
-use job_record::job::read_job;
+use job_record::job::read_draws;
+use job_record::job::read_start;
+use job_record::job::read_states;
+use job_record::job::read_table;
+use job_record::pins::FREE;
 use limits::MOST_DRAWN;
 use limits::MOST_ENTRIES;
 use limits::MOST_FACTOR;
 use limits::MOST_SIGNS;
 use limits::MOST_START;
 use limits::MOST_WAGONS;
+use pinned::lift::lift_choice;
+use pinned::reduce::Shrunk;
+use pinned::reduce::free_wagons;
+use pinned::reduce::reduce;
 use run_contract::FinishResult;
 use run_record::OpenSettings;
 use run_record::Run;
@@ -16,21 +26,23 @@ use sdp_solver::finish::finish_accepted;
 use sdp_solver::open::open_accepted;
 use sdp_solver::sweep::sweep_accepted;
 ghost use mathlib.Core.Path.{_≡_};
-ghost use Prim.Native.Nat.{_+_, _*_, _≤_};
+ghost use Prim.Native.Nat.{_+_, _*_, _≤_, _<_};
 ghost use lib.ListN.{length};
 ghost use Rattle.laws.specs.Lists.{over};
+ghost use Rattle.run_record.specs.CostTable.{costTable};
 ghost use Rattle.limits.specs.Limits.{mostWagons, mostSigns, mostDrawn};
 ghost use Rattle.run_contract.specs.Calls.{openSize, openRank};
 ghost use Rattle.run_contract.specs.PlainRun.{recordOf};
 ghost use Rattle.job_record.specs.Number.{jobNumber};
-ghost use Rattle.job_record.specs.Values.{jobOf, jobDrawn};
-ghost use Rattle.record_call.specs.Record.{jobCosts, jobSettings, jobDraws, stopped, jobResult, jobChoice, leastWorkspace};
-ghost use Rattle.record_call.specs.Decoded.{Decoded};
+ghost use Rattle.job_record.specs.Values.{jobStates, jobOf, jobDrawn};
+ghost use Rattle.record_call.specs.Record.{runCosts, jobSettings, jobDraws, stopped, jobResult, jobChoice, fieldsOf, jobFields, wholeChoice, leastWorkspace};
+ghost use Rattle.record_call.specs.Decoded.{Decoded, CostsRoom, CostsRead, FiguresFit};
 
 // The job's open and, where its most is above 0, a sweep up to the most.
 fn run_job(
     job: &[u8],
     j: Job,
+    count: usize,
     rows: &[u16],
     cols: &[u16],
     values: &[i64],
@@ -38,12 +50,12 @@ fn run_job(
     start: &[f64],
     factor: &mut [f64],
 ) -> Run
-    requires { ⌜ Decoded (now job) j (now rows) (now cols) (now values) (now c) (now start) × (length (now factor) ≡ openSize (jobSettings (jobCosts (now job)) (now job)) * openRank (jobSettings (jobCosts (now job)) (now job))) ⌝ }
-    ensures { λ r. ⌜ (r ≡ recordOf (stopped (jobCosts (now (job .entry))) (now (job .entry)))) × (now (factor .exit) ≡ stopped (jobCosts (now (job .entry))) (now (job .entry)) .factor) ⌝ }
+    requires { ⌜ Decoded (now job) j count (now rows) (now cols) (now values) (now c) (now start) × (length (now factor) ≡ openSize (jobSettings (runCosts (now job)) (now job)) * openRank (jobSettings (runCosts (now job)) (now job))) ⌝ }
+    ensures { λ r. ⌜ (r ≡ recordOf (stopped (runCosts (now (job .entry))) (now (job .entry)))) × (now (factor .exit) ≡ stopped (runCosts (now (job .entry))) (now (job .entry)) .factor) ⌝ }
 {
     let run = open_accepted(
-        j.n,
-        j.count,
+        j.free,
+        count,
         rows,
         cols,
         values,
@@ -64,13 +76,14 @@ fn run_job(
     if j.most == 0 {
         return run;
     }
-    sweep_accepted(run, j.n, j.count, rows, cols, values, c, j.most, factor)
+    sweep_accepted(run, j.free, count, rows, cols, values, c, j.most, factor)
 }
 
 // The run, and its finish; the factor is of the run's size.
 fn finish_run(
     job: &[u8],
     j: Job,
+    count: usize,
     rows: &[u16],
     cols: &[u16],
     values: &[i64],
@@ -82,15 +95,15 @@ fn finish_run(
     dual: &mut [f64],
     workspace: &mut [u8],
 ) -> FinishResult
-    requires { ⌜ Decoded (now job) j (now rows) (now cols) (now values) (now c) (now start) × (now draws ≡ jobDraws (now job)) × (length (now factor) ≡ openSize (jobSettings (jobCosts (now job)) (now job)) * openRank (jobSettings (jobCosts (now job)) (now job)))
+    requires { ⌜ Decoded (now job) j count (now rows) (now cols) (now values) (now c) (now start) × (now draws ≡ jobDraws (now job)) × (length (now factor) ≡ openSize (jobSettings (runCosts (now job)) (now job)) * openRank (jobSettings (runCosts (now job)) (now job)))
         × (mostWagons ≤ length (now b)) × (mostSigns ≤ length (now dual)) × (leastWorkspace ≤ length (now workspace)) ⌝ }
-    ensures { λ r. ⌜ (r ≡ jobResult (jobCosts (now (job .entry))) (now (job .entry))) × (now (b .exit) ≡ over (jobChoice (jobCosts (now (job .entry))) (now (job .entry))) (now (b .entry))) ⌝ }
+    ensures { λ r. ⌜ (r ≡ jobResult (runCosts (now (job .entry))) (now (job .entry))) × (now (b .exit) ≡ over (jobChoice (runCosts (now (job .entry))) (now (job .entry))) (now (b .entry))) ⌝ }
 {
-    let run = run_job(job, j, rows, cols, values, c, start, factor);
+    let run = run_job(job, j, count, rows, cols, values, c, start, factor);
     finish_accepted(
         run,
-        j.n,
-        j.count,
+        j.free,
+        count,
         rows,
         cols,
         values,
@@ -109,6 +122,7 @@ fn finish_run(
 fn finish_job(
     job: &[u8],
     j: Job,
+    count: usize,
     rows: &[u16],
     cols: &[u16],
     values: &[i64],
@@ -118,16 +132,17 @@ fn finish_job(
     b: &mut [u8],
     workspace: &mut [u8],
 ) -> FinishResult
-    requires { ⌜ Decoded (now job) j (now rows) (now cols) (now values) (now c) (now start) × (now draws ≡ jobDraws (now job)) × (mostWagons ≤ length (now b)) × (leastWorkspace ≤ length (now workspace)) ⌝ }
-    ensures { λ r. ⌜ (r ≡ jobResult (jobCosts (now (job .entry))) (now (job .entry))) × (now (b .exit) ≡ over (jobChoice (jobCosts (now (job .entry))) (now (job .entry))) (now (b .entry))) ⌝ }
+    requires { ⌜ Decoded (now job) j count (now rows) (now cols) (now values) (now c) (now start) × (now draws ≡ jobDraws (now job)) × (mostWagons ≤ length (now b)) × (leastWorkspace ≤ length (now workspace)) ⌝ }
+    ensures { λ r. ⌜ (r ≡ jobResult (runCosts (now (job .entry))) (now (job .entry))) × (now (b .exit) ≡ over (jobChoice (runCosts (now (job .entry))) (now (job .entry))) (now (b .entry))) ⌝ }
 {
     let mut factor = [0.0f64; MOST_FACTOR];
     let mut dual = [0.0f64; MOST_SIGNS];
     let rank = job_rank(job);
-    let used = (j.n + 1) * rank;
+    let used = (j.free + 1) * rank;
     finish_run(
         job,
         j,
+        count,
         rows,
         cols,
         values,
@@ -150,40 +165,169 @@ fn drawn_numbers(job: &[u8], draw_count: usize) -> usize
     draw_count * rank
 }
 
-// What the finish of an accepted job gives; its choice over the front of b.
-pub fn job_result(job: &[u8], b: &mut [u8], workspace: &mut [u8]) -> FinishResult
-    requires { ⌜ (jobNumber (now job) ≡ 0) × (mostWagons ≤ length (now b)) × (leastWorkspace ≤ length (now workspace)) ⌝ }
-    ensures { λ r. ⌜ (r ≡ jobResult (jobCosts (now (job .entry))) (now (job .entry))) × (now (b .exit) ≡ over (jobChoice (jobCosts (now (job .entry))) (now (job .entry))) (now (b .entry))) ⌝ }
+// The fields of an answer: n of all wagons, the constant added.
+fn fields_of(n: usize, constant: i64, x: FinishResult) -> Answer
+    requires { ⌜ (n < 256) × (x .rank < 256) × FiguresFit constant x ⌝ }
+    ensures { λ r. ⌜ r ≡ fieldsOf n constant x ⌝ }
 {
-    let mut rows = [0u16; MOST_ENTRIES];
-    let mut cols = [0u16; MOST_ENTRIES];
-    let mut values = [0i64; MOST_ENTRIES];
-    let mut c = [0i64; MOST_WAGONS];
-    let mut start = [0.0f64; MOST_START];
-    let mut draws = [0.0f64; MOST_DRAWN];
-    let j = read_job(
+    Answer {
+        status: x.status,
+        rank: x.rank as u8,
+        n: n as u8,
+        sweeps: x.sweeps,
+        relaxed_objective: x.relaxed_objective,
+        float_bound: x.float_bound,
+        floor: x.floor + constant,
+        rounded_cost: x.rounded_cost + constant,
+        cost: x.cost + constant,
+        rounds: x.rounds,
+    }
+}
+
+// The (H, c) of the free wagons, where wagons are pinned: all are read, and reduced into the slices.
+fn read_reduced(
+    job: &[u8],
+    j: Job,
+    states: &[u8],
+    free: &mut [u16],
+    rows: &mut [u16],
+    cols: &mut [u16],
+    values: &mut [i64],
+    c: &mut [i64],
+) -> Shrunk
+    requires { ⌜ (jobNumber (now job) ≡ 0) × (j ≡ jobOf (now job)) × (now states ≡ jobStates (now job)) × CostsRoom (now free) (now rows) (now cols) (now values) (now c) ⌝ }
+    ensures { λ r. ⌜ CostsRead (now (job .entry)) (now (free .entry)) r (now (free .exit)) (now (rows .exit)) (now (cols .exit)) (now (values .exit)) (now (c .exit)) ⌝ }
+{
+    let mut all_rows = [0u16; MOST_ENTRIES];
+    let mut all_cols = [0u16; MOST_ENTRIES];
+    let mut all_values = [0i64; MOST_ENTRIES];
+    let mut all_c = [0i64; MOST_WAGONS];
+    read_table(
         job,
-        &mut rows,
-        &mut cols,
-        &mut values,
-        &mut c,
-        &mut start,
-        &mut draws,
+        &mut all_rows,
+        &mut all_cols,
+        &mut all_values,
+        &mut all_c,
     );
     let n = j.n;
     let count = j.count;
+    reduce(
+        n,
+        count,
+        &all_rows[..count],
+        &all_cols[..count],
+        &all_values[..count],
+        &all_c[..n],
+        states,
+        free,
+        rows,
+        cols,
+        values,
+        c,
+    )
+}
+
+// The (H, c) of the run, over the fronts of the slices, and the free wagons; where no wagon is pinned it is the job's own.
+fn read_costs(
+    job: &[u8],
+    j: Job,
+    states: &[u8],
+    free: &mut [u16],
+    rows: &mut [u16],
+    cols: &mut [u16],
+    values: &mut [i64],
+    c: &mut [i64],
+) -> Shrunk
+    requires { ⌜ (jobNumber (now job) ≡ 0) × (j ≡ jobOf (now job)) × (now states ≡ jobStates (now job)) × CostsRoom (now free) (now rows) (now cols) (now values) (now c) ⌝ }
+    ensures { λ r. ⌜ CostsRead (now (job .entry)) (now (free .entry)) r (now (free .exit)) (now (rows .exit)) (now (cols .exit)) (now (values .exit)) (now (c .exit)) ⌝ }
+{
+    if j.pins != 0 {
+        return read_reduced(job, j, states, free, rows, cols, values, c);
+    }
+    read_table(job, rows, cols, values, c);
+    let all = free_wagons(j.n, states, free);
+    Shrunk {
+        free: all,
+        count: j.count,
+        constant: 0,
+    }
+}
+
+// The finish of an accepted job over the (H, c) of its run: start and draws are read.
+fn finish_read(
+    job: &[u8],
+    j: Job,
+    count: usize,
+    rows: &[u16],
+    cols: &[u16],
+    values: &[i64],
+    c: &[i64],
+    b: &mut [u8],
+    workspace: &mut [u8],
+) -> FinishResult
+    requires { ⌜ (jobNumber (now job) ≡ 0) × (j ≡ jobOf (now job)) × (costTable (j .free) count (now rows) (now cols) (now values) (now c) ≡ runCosts (now job))
+        × (mostWagons ≤ length (now b)) × (leastWorkspace ≤ length (now workspace)) ⌝ }
+    ensures { λ r. ⌜ (r ≡ jobResult (runCosts (now (job .entry))) (now (job .entry))) × (now (b .exit) ≡ over (jobChoice (runCosts (now (job .entry))) (now (job .entry))) (now (b .entry))) ⌝ }
+{
+    let mut start = [0.0f64; MOST_START];
+    let mut draws = [0.0f64; MOST_DRAWN];
+    read_start(job, &mut start);
+    read_draws(job, &mut draws);
     let numbers = job_start_count(job);
     let drawn = drawn_numbers(job, j.draw_count);
     finish_job(
         job,
         j,
-        &rows[..count],
-        &cols[..count],
-        &values[..count],
-        &c[..n],
+        count,
+        rows,
+        cols,
+        values,
+        c,
         &start[..numbers],
         &draws[..drawn],
         b,
         workspace,
     )
+}
+
+// The answer of an accepted job: its fields, and the choice of all wagons over the front of b.
+pub fn job_answer(job: &[u8], b: &mut [u8], workspace: &mut [u8]) -> Answer
+    requires { ⌜ (jobNumber (now job) ≡ 0) × (mostWagons ≤ length (now b)) × (leastWorkspace ≤ length (now workspace)) ⌝ }
+    ensures { λ r. ⌜ (r ≡ jobFields (now (job .entry))) × (now (b .exit) ≡ over (wholeChoice (now (job .entry))) (now (b .entry))) ⌝ }
+{
+    let mut rows = [0u16; MOST_ENTRIES];
+    let mut cols = [0u16; MOST_ENTRIES];
+    let mut values = [0i64; MOST_ENTRIES];
+    let mut c = [0i64; MOST_WAGONS];
+    let mut states = [FREE; MOST_WAGONS];
+    let mut free = [0u16; MOST_WAGONS];
+    let mut chosen = [0u8; MOST_WAGONS];
+    let j = job_of(job);
+    let n = j.n;
+    read_states(job, &mut states);
+    let t = read_costs(
+        job,
+        j,
+        &states[..n],
+        &mut free,
+        &mut rows,
+        &mut cols,
+        &mut values,
+        &mut c,
+    );
+    let count = t.count;
+    let some = t.free;
+    let x = finish_read(
+        job,
+        j,
+        count,
+        &rows[..count],
+        &cols[..count],
+        &values[..count],
+        &c[..some],
+        &mut chosen,
+        workspace,
+    );
+    lift_choice(n, &states[..n], &free[..some], &chosen, b);
+    fields_of(n, t.constant, x)
 }

@@ -1,15 +1,16 @@
-//! A job's answer: the unchanged solver run on the job's sign matrix, written as a record.
+//! A job's answer: the unchanged solver run on the sign matrix of the job's free wagons, written as a record.
 
 use crate::draws::lent;
 use crate::job::{self, Job, Settings};
 use crate::maxcut_oracle::entrywise_lower_bound;
+use crate::pinned::{full_cost, without_pins};
 use crate::sdp_solver::{
-    eval_qubo_objective, qubo_binary_from_sign_solution, solve_maxcut_sdp, SolveOptions,
-    SolveResult, SolveStatus, WarmStart,
+    qubo_binary_from_sign_solution, solve_maxcut_sdp, SolveOptions, SolveResult, SolveStatus,
+    WarmStart,
 };
 use crate::search::search;
 use crate::step_rules::StepRule;
-use crate::table::{choice_bytes, eighths, linear, sign_matrix, Table};
+use crate::table::{choice_bytes, eighths, sign_matrix, Table};
 use crate::words::bits;
 use ndarray::{Array1, Array2};
 use sprs::CsMat;
@@ -17,16 +18,14 @@ use sprs::CsMat;
 /// The answer record, or the six bytes of a refusal.
 pub fn answer(record: &[u8]) -> Vec<u8> {
     match job::read(record) {
-        Ok(job) => {
-            let (q, result) = solve(&job);
-            write(&job, &q, &result)
-        }
+        Ok(job) => answered(&job),
         Err(number) => vec![0, 0, 0, 2, 1, number],
     }
 }
 
-/// The sign matrix and the solver's result.
+/// The sign matrix and the solver's result, of a job without pins.
 pub fn solve(job: &Job) -> (CsMat<f64>, SolveResult) {
+    assert!(job.pins.is_empty(), "the solver knows no pins");
     let q = sign_matrix(&job.h, &job.c);
     let start = Start::new(&job.settings, q.rows(), &job.start_numbers);
     let options = options(job, start.warm);
@@ -106,24 +105,31 @@ pub fn end_signs(result: &SolveResult) -> (&Array1<f64>, &Array1<f64>) {
     (rounded, improved.unwrap_or(rounded))
 }
 
-/// Writes the record. The rounds are counted by a second search, which must end where the solver did.
-pub fn write(job: &Job, q: &CsMat<f64>, result: &SolveResult) -> Vec<u8> {
-    let (rounded, signs) = end_signs(result);
-    let searched = search(q, job.width, rounded);
+/// The record. The rounds are counted by a second search, which must end where the solver did; the
+/// cost of the choice of all wagons, by the whole table, must be the reduced one and the constant.
+fn answered(job: &Job) -> Vec<u8> {
+    let (reduced, held) = without_pins(job);
+    let (q, result) = solve(&reduced);
+    let (rounded, signs) = end_signs(&result);
+    let searched = search(&q, job.width, rounded);
     assert_eq!(&searched.signs, signs, "the solver's search and the counted one");
     let rounded_cost = result.rounded_objective.expect("rounding is on");
     let cost = result.locally_improved_objective.unwrap_or(rounded_cost);
-    let choice = qubo_binary_from_sign_solution(signs);
-    let own = eval_qubo_objective(&job.h.matrix(1.0), &linear(&job.c), &choice);
-    assert_eq!(own, cost, "the choice's own cost and the reported one");
+    let choice = held.lifted(&qubo_binary_from_sign_solution(signs));
+    assert_eq!(
+        full_cost(job, &choice),
+        cost + held.constant,
+        "the choice's own cost and the reported one"
+    );
 
+    let constant = eighths(held.constant);
     let mut body = vec![1, status_number(result.status), result.rank as u8, job.h.size as u8];
     body.extend((result.iterations as u32).to_be_bytes());
     body.extend(bits(result.relaxed_objective).to_be_bytes());
-    body.extend(bits(entrywise_lower_bound(q)).to_be_bytes());
-    body.extend(Table::of_matrix(q).floor().to_be_bytes());
-    body.extend(eighths(rounded_cost).to_be_bytes());
-    body.extend(eighths(cost).to_be_bytes());
+    body.extend(bits(entrywise_lower_bound(&q)).to_be_bytes());
+    body.extend((Table::of_matrix(&q).floor() + constant).to_be_bytes());
+    body.extend((eighths(rounded_cost) + constant).to_be_bytes());
+    body.extend((eighths(cost) + constant).to_be_bytes());
     body.extend((searched.levels.len() as u64).to_be_bytes());
     body.extend(choice_bytes(&choice));
     let mut record = (body.len() as u32).to_be_bytes().to_vec();

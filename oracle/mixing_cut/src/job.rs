@@ -1,4 +1,4 @@
-//! Reads a job record of version 1, field by field, and refuses it by 01's numbers.
+//! Reads a job record of version 1 or 2, field by field, and refuses it by 01's and 02's numbers.
 
 use crate::refusals::{
     bad_draw_count, bad_place, bad_rule, too_large, unmirrored, MOST_ENTRIES, MOST_RANK,
@@ -7,9 +7,12 @@ use crate::refusals::{
 use crate::sdp_solver::default_sdp_rank;
 use crate::table::{Entry, Table};
 
+#[derive(Clone)]
 pub struct Job {
     pub h: Table,
     pub c: Vec<i64>,
+    /// Wagons that may not move, each with its store; none in version 1.
+    pub pins: Vec<(usize, u8)>,
     pub settings: Settings,
     pub start_numbers: Vec<f64>,
     pub width: usize,
@@ -52,6 +55,7 @@ impl Settings {
 }
 
 const FRAME: usize = 65_536;
+const LAST_VERSION: u8 = 2;
 
 struct Reader<'a> {
     rest: &'a [u8],
@@ -101,16 +105,18 @@ pub fn read(record: &[u8]) -> Result<Job, u8> {
     let mut reader = Reader { rest: record };
     let length = reader.number(4)?;
     refuse_if(length != reader.rest.len() as u64, 11)?;
-    refuse_if(reader.byte()? != 1, 12)?;
+    let version = reader.byte()?;
+    refuse_if(version == 0 || version > LAST_VERSION, 12)?;
     let (h, c) = read_table(&mut reader)?;
+    let pins = if version == 1 { Vec::new() } else { read_pins(&mut reader, h.size)? };
     let (settings, width) = read_settings(&mut reader)?;
-    let m = h.size + 1;
+    let m = h.size - pins.len() + 1;
     let start_numbers = reader.doubles(settings.start_count(m))?;
     let draw_count = reader.number(2)? as usize;
     refuse_if(bad_draw_count(draw_count), 19)?;
     let draws = reader.doubles(draw_count * settings.resolved_rank(m))?;
     refuse_if(!reader.rest.is_empty(), 11)?;
-    Ok(Job { h, c, settings, start_numbers, width, draw_count, draws })
+    Ok(Job { h, c, pins, settings, start_numbers, width, draw_count, draws })
 }
 
 fn read_table(reader: &mut Reader) -> Result<(Table, Vec<i64>), u8> {
@@ -130,6 +136,20 @@ fn read_table(reader: &mut Reader) -> Result<(Table, Vec<i64>), u8> {
     let c: Vec<i64> = (0..n).map(|_| reader.whole()).collect::<Result<_, _>>()?;
     refuse_if(too_large(&entries, &c), 16)?;
     Ok((Table { size: n, entries }, c))
+}
+
+/// The pins, each byte judged as it is read.
+fn read_pins(reader: &mut Reader, n: usize) -> Result<Vec<(usize, u8)>, u8> {
+    let count = reader.byte()?;
+    let mut pins: Vec<(usize, u8)> = Vec::new();
+    for _ in 0..count {
+        let wagon = reader.byte()? as usize;
+        refuse_if(wagon >= n || pins.iter().any(|pin| pin.0 == wagon), 21)?;
+        let store = reader.byte()?;
+        refuse_if(store > 1, 21)?;
+        pins.push((wagon, store));
+    }
+    Ok(pins)
 }
 
 fn read_settings(reader: &mut Reader) -> Result<(Settings, usize), u8> {

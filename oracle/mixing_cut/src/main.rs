@@ -12,6 +12,7 @@ mod leaf;
 mod leaf_calls;
 mod leaf_numbers;
 mod lent;
+mod pinned;
 mod plain;
 mod problem;
 mod reduced;

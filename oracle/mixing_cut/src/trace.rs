@@ -5,6 +5,7 @@ use crate::answer::{self, end_signs, solve, status_number};
 use crate::draws::lent;
 use crate::job::{self, Job};
 use crate::maxcut_oracle::{compute_rounded_sols, obj_rounded};
+use crate::pinned::without_pins;
 use crate::plain::{finish, open, sweep_once, Check, Finish, Run, Stage};
 use crate::sdp_solver::inside_solver::separate_diagonal;
 use crate::table::{eighths, sign_bytes, sign_matrix, Table};
@@ -41,11 +42,22 @@ impl Lines {
 pub fn trace(record: &[u8]) -> String {
     let mut lines = Lines { text: String::new() };
     match job::read(record) {
-        Ok(job) => trace_job(&mut lines, &job),
+        Ok(job) => trace_free(&mut lines, &job),
         Err(number) => lines.line("refused", number),
     }
     lines.line("answer", hex(&answer::answer(record)));
     lines.text
+}
+
+/// The job on its free wagons; which they are, and the constant in eighths, where some are pinned.
+fn trace_free(lines: &mut Lines, job: &Job) {
+    let (reduced, held) = without_pins(job);
+    if !job.pins.is_empty() {
+        let free: Vec<String> = held.free().iter().map(usize::to_string).collect();
+        lines.line("free", free.join(" "));
+        lines.line("constant", eighths(held.constant));
+    }
+    trace_job(lines, &reduced);
 }
 
 fn trace_job(lines: &mut Lines, job: &Job) {

@@ -6,20 +6,14 @@ use mathlib.Core.Path.{_≡_, ap, _∙_}
 use native.Mathlib.Omega.{arith}
 use Rattle.job_record.specs.Reading.{settingsFrom, settingsValues}
 use Rattle.job_record.specs.Values.{settingsPlace}
-use Rattle.job_record.proofs.Accepted.{fields, settings-held}
+use Rattle.job_record.proofs.Accepted.{settings-held}
 use Rattle.job_record.proofs.FieldByField.{number-below}
 
-settings-at-requires : tie.Need-settings-at-requires
-settings-at-requires c κs = let f = fields (c .before .args .job .now) (c .before .pre .0) in omega (arith, c .before .pre .1, c .before .pre .2, f .few, f .short)
-
 returns : tie.Need-returns
-unfolding settingsPlace
-returns c = let s = c .before .before .before .before .args .job .now in let place : c .before .before .settings-at .result ≡ settingsPlace s = rw (c .before .before .settings-at .ensures, c .before .before .before .before .pre .1, c .before .before .before .before .pre .2) in
-    let e = c .settings-values .ensures ∙ ap settingsValues (c .before .read-settings .ensures ∙ ap (settingsFrom s) place) in
-    let t = settings-held s (c .before .before .before .before .pre .0) _ e in
-    (e, omega (arith, t .most, number-below s (settingsPlace s + 10) 4 (λ i. omega (arith, c .before .before .before .shared-slice-known .given i))), omega (arith, t .minimum, number-below s (settingsPlace s + 14) 4 (λ i. omega (arith, c .before .before .before .shared-slice-known .given i))))
+returns c = let s = c .before .before .before .args .job .now in
+    let e = c .settings-values .ensures ∙ ap settingsValues (c .before .read-settings .ensures ∙ ap (settingsFrom s) (c .before .before .before .pre .1)) in
+    let t = settings-held s (c .before .before .before .pre .0) _ e in
+    (e, omega (arith, t .most, number-below s (settingsPlace s + 10) 4 (λ i. omega (arith, c .before .before .shared-slice-known .given i))), omega (arith, t .minimum, number-below s (settingsPlace s + 14) 4 (λ i. omega (arith, c .before .before .shared-slice-known .given i))))
 
 pub accepted-settings-spec : {M : Type 1} → statement M
-accepted-settings-spec =
-    tie.close
-    (tie.spec settings-at-requires (λ c κs. search needs) (λ c κs. search needs) returns)
+accepted-settings-spec = tie.close (tie.spec (λ c κs. search needs) (λ c κs. search needs) returns)

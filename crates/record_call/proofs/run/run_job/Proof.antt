@@ -3,13 +3,13 @@ use borrow.Author.Needs.{needs}
 use mathlib.Core.Path.{_≡_, refl, _∙_}
 use denote.Ref.{now}
 use Rattle.run_contract.specs.Calls.{openRun, startFactor}
-use Rattle.record_call.specs.Record.{jobCosts, jobSettings}
+use Rattle.record_call.specs.Record.{runCosts, jobSettings}
 use Rattle.record_call.proofs.Decoding.{opens-now, opened-run, unswept-run, sweeps-now, swept-run, started, positive}
 use Rattle.record_call.proofs.run.run_job.Statement.{statement}
 use Rattle.record_call.proofs.run.run_job.Tie as tie
 
 -- record and factor after the open
-run-opened : (c : tie.After-open-accepted) → (c .open-accepted .result ≡ openRun (jobSettings (jobCosts (now (c .before .before .before .before .before .before .before .args .job))) (now (c .before .before .before .before .before .before .before .args .job)))) × (c .open-accepted .last .1 .1 .1 .1 .1 .1 .1 .1 .0 ≡ startFactor (jobSettings (jobCosts (now (c .before .before .before .before .before .before .before .args .job))) (now (c .before .before .before .before .before .before .before .args .job))))
+run-opened : (c : tie.After-open-accepted) → (c .open-accepted .result ≡ openRun (jobSettings (runCosts (now (c .before .before .before .before .before .before .before .args .job))) (now (c .before .before .before .before .before .before .before .args .job)))) × (c .open-accepted .last .1 .1 .1 .1 .1 .1 .1 .1 .0 ≡ startFactor (jobSettings (runCosts (now (c .before .before .before .before .before .before .before .args .job))) (now (c .before .before .before .before .before .before .before .args .job))))
 run-opened c =
     let o = opened-run (c .before .before .before .before .before .before .before .pre .0) (c .before .before .before .before .before .before .before .pre .1) (c .open-accepted .ensures) in
     (started refl (o .0), o .1)
