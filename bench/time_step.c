@@ -41,7 +41,7 @@ int main(int argc, char **argv) {
     size_t rank = (size_t)atoi(argv[3]), calls = (size_t)atoi(argv[4]);
     wagonplan_table t = hall();
     // behind a check, so that the next is due 19 sweeps later; no tolerance stops it
-    wagonplan_run run = {t.n + 1, rank, (uint64_t)atoi(argv[1]), atof(argv[2]), 1001, 1e300, -1.0, -1.0, UINT32_MAX, 0, WAGONPLAN_OPEN, WAGONPLAN_ALL_SWEEPS};
+    wagonplan_run run = {t.n + 1, rank, (uint64_t)atoi(argv[1]), atof(argv[2]), 1001, 1e300, -1.0, -1.0, UINT32_MAX, 0, WAGONPLAN_OPEN, WAGONPLAN_ALL_SWEEPS, 0};
     if (word() != run.size * rank || WAGONPLAN_FACTOR_MOST < run.size * rank || calls < 1) return 2;
     for (size_t k = 0; k < run.size * rank; k++) {
         uint64_t bits = word();

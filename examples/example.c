@@ -134,6 +134,8 @@ static void too_short(const char *what, size_t job_len, size_t workspace_len, si
 static const uint16_t at_0[] = {0};
 static const int64_t h_00[] = {2}, c_0[] = {-3};
 static const wagonplan_table table = {1, 1, {at_0, 1}, {at_0, 1}, {h_00, 1}, {c_0, 1}};
+static const int64_t no_c[] = {0};
+static const wagonplan_table no_cost = {1, 0, {at_0, 0}, {at_0, 0}, {h_00, 0}, {no_c, 1}};
 
 static void run_steps(void) {
     static const double signs[] = {1.0, 1.0}, draw[] = {1.0, 0.0};
@@ -163,7 +165,13 @@ static void run_steps(void) {
     expect("one sweep", said(wagonplan_sweep(&run, &table, 1, factor)) == 0 && run.sweeps == 1);
     expect("a finish before the stop is refused by 32", said(wagonplan_finish(&run, &table, 1, 1, draws, factor_read, choice, duals, room, &x)) == 32);
     expect("the others", said(wagonplan_sweep(&run, &table, 9, factor)) == 0 && run.stage == WAGONPLAN_STOPPED);
+    expect("in which every row moved", run.standing == 0);
     expect("finished", said(wagonplan_finish(&run, &table, 1, 1, draws, factor_read, choice, duals, room, &x)) == 0);
+    expect("opened over a table of no cost", said(wagonplan_open(&no_cost, &settings, numbers, factor, &run)) == 0);
+    expect("swept", said(wagonplan_sweep(&run, &no_cost, 9, factor)) == 0 && run.sweeps == 3);
+    expect("finished", said(wagonplan_finish(&run, &no_cost, 1, 1, draws, factor_read, choice, duals, room, &x)) == 0);
+    expect("no row moved: 2 stood in each of 3 sweeps", run.standing == 6 && x.standing == 6);
+    printf("  %d rows left standing in %d sweeps\n", (int)x.standing, (int)x.sweeps);
 }
 
 static void search_alone(void) {

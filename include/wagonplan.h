@@ -35,7 +35,7 @@ extern "C" {
 // ---- sizes --------------------------------------------------------------------------------------
 
 enum {
-    WAGONPLAN_VERSION = 1, // of these declarations; `wagonplan_version` answers the archive's
+    WAGONPLAN_VERSION = 2, // of these declarations; `wagonplan_version` answers the archive's
 
     WAGONPLAN_JOB_MOST = 65536,         // bytes of a job record
     WAGONPLAN_WAGONS_MOST = 127,        // n
@@ -51,9 +51,9 @@ enum {
     WAGONPLAN_ANSWER = 187,             // bytes of answer slice to lend, at least: a record of 127 wagons
     WAGONPLAN_REFUSAL = 6,              // bytes of a refusal: 00 00 00 02 01 and the number
     WAGONPLAN_REDUCED_MOST = 1024,      // original size of a reduced problem
-    WAGONPLAN_RUN_WORDS = 12,           // words of a run record, of settings and of a result, as the raw functions take them
+    WAGONPLAN_RUN_WORDS = 13,           // words of a run record, of settings and of a result, as the raw functions take them
     WAGONPLAN_SETTING_WORDS = 8,
-    WAGONPLAN_RESULT_WORDS = 10,
+    WAGONPLAN_RESULT_WORDS = 11,
 
     WAGONPLAN_STACK = 393216 // bytes of stack that a call may take
 };
@@ -141,6 +141,7 @@ typedef struct {
     uint64_t minimum;
     uint64_t stage;
     uint64_t status;
+    uint64_t standing; // rows that a sweep left as they were, counted over all sweeps under rules 3 and 4: their gradient's norm wasn't 1E-24 or more
 } wagonplan_run;
 
 // What a finish gives; costs in eighths.
@@ -155,6 +156,7 @@ typedef struct {
     int64_t rounded_cost; // of the choice that the search started from
     int64_t cost;         // of the choice in b
     uint64_t rounds;      // of the search
+    uint64_t standing;    // the run's
 } wagonplan_result;
 
 typedef char wagonplan_run_is_words[sizeof(wagonplan_run) == 8 * WAGONPLAN_RUN_WORDS ? 1 : -1];

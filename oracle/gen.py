@@ -1190,9 +1190,11 @@ def record_line(rng, m, r):
     sweeps = rng.choice([0, max(0, most - 1), most // 2, most, most + 1])
     size_ = rng.choice([m] * 8 + [0, m + 1, 2**64 - 1])
     rank = rng.choice([r] * 8 + [0, 33])
+    most_rows = min(size_ * sweeps, 2**64 - 2)
+    standing = rng.choice([0, 0, 0, 0, rng.randint(0, most_rows), most_rows, most_rows + 1, 2**64 - 1])
     numbers_ = factor(rng, m, r)
     return "record " + words(size_, rank, rule, number, sweeps, odd(rng), tolerance(rng),
-                             tolerance(rng), rng.choice([0, 1, 5, 20]), most, stage, status, numbers_)
+                             tolerance(rng), rng.choice([0, 1, 5, 20]), most, stage, status, standing, numbers_)
 
 
 def script(rng):

@@ -199,24 +199,35 @@ def moved(factor, alpha, gradient, sign):
 
 def step(rule, number, table, factor):
     """One sweep; a new factor."""
+    return step_told(rule, number, table, factor)[0]
+
+
+def step_told(rule, number, table, factor):
+    """One sweep; a new factor, and how many rows it left as they were under rules 3 and 4."""
+    if rule <= 1:
+        return gradient_step(rule, number, table, factor), 0
+    factor, left = [list(row) for row in factor], 0
+    for i, row in enumerate(by_row(len(factor), table)):
+        factor[i], wrote = row_step(rule, number, i, row, factor)
+        left += not wrote
+    return factor, left
+
+
+def gradient_step(rule, number, table, factor):
     if rule == 0:
         return project(moved(factor, number, grad(table, factor), -1))
-    if rule == 1:
-        g = grad(table, factor)
-        f0 = obj(table, factor)
-        x = obj(table, moved(factor, number, g, 1)) - f0
-        y = obj(table, moved(factor, number, g, -1)) - f0
-        alpha = div((0.5 * (y - x)) * number, x + y)
-        if obj(table, moved(factor, alpha, g, -1)) > f0:
-            alpha = number
-        return project(moved(factor, alpha, g, -1))
-    factor = [list(row) for row in factor]
-    for i, row in enumerate(by_row(len(factor), table)):
-        factor[i] = row_step(rule, number, i, row, factor)
-    return factor
+    g = grad(table, factor)
+    f0 = obj(table, factor)
+    x = obj(table, moved(factor, number, g, 1)) - f0
+    y = obj(table, moved(factor, number, g, -1)) - f0
+    alpha = div((0.5 * (y - x)) * number, x + y)
+    if obj(table, moved(factor, alpha, g, -1)) > f0:
+        alpha = number
+    return project(moved(factor, alpha, g, -1))
 
 
 def row_step(rule, number, i, row, factor):
+    """The row anew, and whether it was written: under rules 3 and 4 only where its norm is at least 1E-24."""
     old = factor[i]
     g = [0.0] * len(old)
     for k, q in row:
@@ -225,17 +236,17 @@ def row_step(rule, number, i, row, factor):
     if rule == 2:
         t = [v - number * x for v, x in zip(old, g)]
         length = norm(t)
-        return [div(x, length) for x in t]
+        return [div(x, length) for x in t], True
     length = norm4(g)
     if not length >= 1e-24:
-        return old
+        return old, False
     inverse = div(1.0, length)
     new = [x * inverse for x in g]
     if rule == 4 and number != 0.0:
         new = [(1.0 + number) * x - number * v for x, v in zip(new, old)]
         inverse = div(1.0, norm4(new))
         new = [x * inverse for x in new]
-    return new
+    return new, True
 
 
 def start_factor(kind, most, m, rank, numbers):
@@ -314,7 +325,7 @@ class Run:
 
     FIELDS = (
         "size rank rule number sweeps last objective_tolerance stationarity_tolerance "
-        "minimum most stage status"
+        "minimum most stage status standing"
     ).split()
 
 
@@ -324,7 +335,7 @@ def opened(n, entries, c, s):
     m = n + 1
     run.size, run.rank = m, s["rank"] or default_rank(m)
     run.rule, run.number = s["rule"], 0.0 if s["rule"] == 3 else s["number"]
-    run.sweeps, run.status = 0, 0
+    run.sweeps, run.status, run.standing = 0, 0, 0
     run.minimum, run.most = s["minimum"], s["most"]
     run.objective_tolerance = s["objective_tolerance"]
     run.stationarity_tolerance = s["stationarity_tolerance"]
@@ -349,8 +360,9 @@ def measured(work, factor):
 
 def swept(run, work):
     """One sweep; what the check found, if one was due."""
-    run.factor = step(run.rule, run.number, work, run.factor)
+    run.factor, left = step_told(run.rule, run.number, work, run.factor)
     run.sweeps += 1
+    run.standing += left
     found = None
     if run.sweeps in (1, run.minimum, run.most) or run.sweeps % 20 == 0:
         dual, new, residual, length = measured(work, run.factor)
@@ -992,6 +1004,7 @@ class Script:
             (33, lambda: not agrees or bad_rank),
             (33, lambda: run.sweeps > run.most or (is_open and run.sweeps == run.most)),
             (33, lambda: run.status > 2 or (is_open and run.status != 0)),
+            (33, lambda: run.standing > run.size * run.sweeps),
         )
 
     def call_sweep(self, w):
@@ -1033,7 +1046,7 @@ class Script:
         draws = [draws[k * run.rank : (k + 1) * run.rank] for k in range(draw_count)]
         f = finished(run, self.n, self.entries, self.c, width, draws)
         head = [run.status, run.rank, self.n, run.sweeps, f["relaxed"], f["bound"], f["floor"]]
-        return 0, head + [f["rounded_cost"], f["cost"], len(f["levels"]), f["b"], f["dual"]]
+        return 0, head + [f["rounded_cost"], f["cost"], len(f["levels"]), run.standing, f["b"], f["dual"]]
 
 
 def main():

@@ -1,5 +1,6 @@
 #!/usr/bin/env python3
-"""Tests of tools/hall, tools/plan and tools/show_hall.sh; tests/check_halls.sh runs it. WAGONPLAN may name another program than target/bin/wagonplan."""
+"""Tests of tools/hall, tools/plan and tools/show_hall.sh; tests/check_halls.sh runs it. WAGONPLAN may name another program than target/bin/wagonplan,
+WAGONPLAN_ARCHIVE another archive than target/libwagonplan.a."""
 import json
 import os
 import random
@@ -13,13 +14,13 @@ import xml.etree.ElementTree
 
 sys.dont_write_bytecode = True
 sys.path.insert(0, os.path.join(os.path.dirname(os.path.dirname(os.path.abspath(__file__))), "tools"))
-from halls import answer, hall, picture, program, record, say  # noqa: E402
+from halls import answer, hall, picture, program, record, rows, say  # noqa: E402
 from halls.text import Refused, Wrong  # noqa: E402
 
 TOP = answer.TOP
 PROGRAM = os.environ.get("WAGONPLAN") or os.path.join(TOP, "target", "bin", "wagonplan")
 HALLS = "examples/halls"
-STALLS, DOORWAY, REPAIRS = (os.path.join(TOP, HALLS, name) for name in ("stalls.txt", "doorway.txt", "repairs.txt"))
+STALLS, DOORWAY, REPAIRS, BALCONY = (os.path.join(TOP, HALLS, name) for name in ("stalls.txt", "doorway.txt", "repairs.txt", "balcony.txt"))
 TWO = "wagon a 1\nwagon b -2\n"
 FRAME = "wagon a 0\npair a a 1\nrank 24\n"
 SVG = "{http://www.w3.org/2000/svg}"
@@ -53,6 +54,14 @@ def contents(path):
 
 def changed(data, at, new):
     return data[:at] + new + data[at + len(new) :]
+
+
+def stored_jobs():
+    """Each stored job in hexadecimal, with its answer or refusal."""
+    for name in ("jobs.txt", "pins.txt"):
+        with open(os.path.join(TOP, "tests", "lists", name), encoding="ascii") as file:
+            lines = (line.split() for line in file if line.startswith("answer ") and " ~ " not in line)
+            yield from ((words[1], bytes.fromhex(words[-1])) for words in lines if words[-2] != "1F")
 
 
 class Case(unittest.TestCase):
@@ -292,16 +301,12 @@ class Answers(Case):
     def test_stored_jobs(self):
         """Every stored answer is right by its job, and every refusal has its sentence."""
         counts = [0, 0]
-        for name in ("jobs.txt", "pins.txt"):
-            with open(os.path.join(TOP, "tests", "lists", name), encoding="ascii") as file:
-                lines = (line.split() for line in file if line.startswith("answer ") and " ~ " not in line)
-                for job, stored in ((words[1], words[-1]) for words in lines if words[-2] != "1F"):
-                    data = bytes.fromhex(stored)
-                    if len(data) == 6:
-                        self.assertRaises(Refused, answer.refuse, data)
-                    else:
-                        answer.read_answer(data, record.hall_of(bytes.fromhex(job)))
-                    counts[len(data) == 6] += 1
+        for job, data in stored_jobs():
+            if len(data) == 6:
+                self.assertRaises(Refused, answer.refuse, data)
+            else:
+                answer.read_answer(data, record.hall_of(bytes.fromhex(job)))
+            counts[len(data) == 6] += 1
         self.assertGreater(min(counts), 100)
 
     def test_json(self):
@@ -397,6 +402,92 @@ class Pins(Case):
             self.ends(run("plan", "-", given=changed(job, at + place, bytes([byte]))), 1, f"The job was refused by 21: {answer.sentence_of(21)}")
 
 
+class Rows(Case):
+    """How many rows the sweeps left standing: the run made again by the library's calls, and held against the answer."""
+
+    SAID = [
+        (many(2, "sweeps 5 5\n"), 15, "all 15, in 5 sweeps of 3 rows (one for each wagon, one for the anchor); nothing measurable pulled there."),
+        (TWO + "wagon c 0\nsweeps 5 5\n", 5, "5 of 20, in 5 sweeps of 4 rows (one for each wagon, one for the anchor); nothing measurable pulled there."),
+        (TWO + "rule CoordMomentum 0.5\nsweeps 1\n", 0, "none of 3, in 1 sweep of 3 rows (one for each wagon, one for the anchor)."),
+        (many(2, "rule CoordMomentum 0.5\nsweeps 1\n"), 3, "all 3, in 1 sweep of 3 rows (one for each wagon, one for the anchor); nothing measurable pulled there."),
+        (TWO + "sweeps 0\n", 0, "none, as no sweep was made."),
+        # pinned to the right, w2 leaves its pair's cost with w0, which has none of its own; pinned to the left it leaves nothing
+        (many(3, "pair w0 w2 4\npin w2 right\nsweeps 2 2\n"), 2, "2 of 6, in 2 sweeps of 3 rows (one for each free wagon, one for the anchor); nothing measurable pulled there."),
+        (many(3, "pair w0 w2 4\npin w2 left\nsweeps 2 2\n"), 6, "all 6, in 2 sweeps of 3 rows (one for each free wagon, one for the anchor); nothing measurable pulled there."),
+        (TWO + "pin a right\npin b left\nsweeps 2 2\n", 2, "all 2, in 2 sweeps of 1 row (one for each free wagon, one for the anchor); nothing measurable pulled there."),
+        *((TWO + f"rule {rule} 0.01\n", None, f"not counted under the rule {rule}, only under CoordNoStep and CoordMomentum.") for rule in hall.RULES[:3]),
+    ]
+
+    def test_said(self):
+        written = os.path.join(self.folder, "json")
+        for text, total, sentence in self.SAID:
+            done = run("plan", self.file("hall.txt", text), "--rows", "--json", written)
+            self.ends(done, 0)
+            self.assertEqual(done.stdout.decode().splitlines()[-1], f"Rows left standing: {sentence}")
+            self.assertEqual(json.loads(contents(written))["rows_standing"], total)
+
+    def test_every_command(self):
+        """From a hall, from its answer and from its job."""
+        made = hall.read_hall(REPAIRS)
+        job, data = record.job_of(made), self.answered(made)[0]
+        for command, given in ((("hall", "solve", REPAIRS), b""), (("hall", "words", REPAIRS, "-"), data), (("plan", "-"), job)):
+            done = run(*command, "--rows", given=given)
+            self.ends(done, 0)
+            self.assertTrue(done.stdout.decode().endswith("\nRows left standing: none of 27, in 3 sweeps of 9 rows (one for each free wagon, one for the anchor).\n"))
+        self.assertEqual(json.loads(run("hall", "json", REPAIRS, "-", "--rows", given=data).stdout)["rows_standing"], 0)
+        self.assertNotIn(b"standing", run("hall", "words", REPAIRS, "-", given=data).stdout + run("hall", "json", REPAIRS, "-", given=data).stdout)
+
+    def test_stored_jobs(self):
+        """The run made again is that of every stored answer, and no total is above the rows swept."""
+        command, totals = rows.built(self.folder), []
+        for job, data in stored_jobs():
+            if len(data) != 6:
+                made, found = record.hall_of(bytes.fromhex(job)), rows.made_again(command, bytes.fromhex(job))
+                self.assertEqual(list(rows.unlike(found, answer.read_answer(data, made), made)), [])
+                self.assertLessEqual(found["standing"], found["size"] * found["sweeps"] if made.rule in hall.COUNTING else 0)
+                totals.append(found["standing"])
+        self.assertGreater(sum(total > 0 for total in totals), 10)
+
+    def test_answers_of_another_run(self):
+        """Right by the hall, but not what its run gives."""
+        good = self.answered(hall.read_hall(BALCONY))[0]
+        sweeps, relaxed, rounded = (changed(good, at, new) for at, new in ((8, struct.pack(">I", 39)), (12, answer.NAN), (36, struct.pack(">qqQ", -8 * 26, -8 * 27, 1))))
+        for data, sentence in ((sweeps, "gives sweeps 40, not 39"), (relaxed, "gives relaxed objective -28.11"), (rounded, "gives rounds 0, not 1")):
+            self.ends(run("hall", "words", BALCONY, "-", given=data), 0)
+            self.ends(run("hall", "words", BALCONY, "-", "--rows", given=data), 1, "The answer is wrong: the hall's run, made again by the library's calls, ", sentence)
+        other = self.script(f"cat '{self.file('answer', sweeps)}'")
+        self.ends(run("plan", BALCONY, "--rows", WAGONPLAN=other), 2, "gives sweeps 40, not 39.")
+
+    def test_cost_with_pins(self):
+        """Costs are compared without the pinned wagons' own."""
+        made = hall.read_hall(REPAIRS)
+        fields = self.answered(made)[1]
+        found = rows.made_again(rows.built(self.folder), record.job_of(made))
+        self.assertEqual(found["cost"] + answer.pinned_cost(made), fields["cost"])
+        told = list(rows.unlike(found, {**fields, "cost": fields["cost"] - 24}, made))
+        self.assertEqual(told, ["the hall's run, made again by the library's calls, gives cost -23, not -26"])
+
+    def test_nothing_to_count_with(self):
+        absent = os.path.join(self.folder, "absent")
+        self.ends(run("plan", DOORWAY, "--rows", WAGONPLAN_ARCHIVE=absent), 2, f"Rows are counted by the archive {absent}, which isn't there. tools/archive.sh proves and builds it")
+        os.symlink(sys.executable, os.path.join(self.folder, "python3"))
+        self.ends(run("plan", DOORWAY, "--rows", PATH=self.folder, WAGONPLAN_ARCHIVE=PROGRAM), 2, "The program gcc can't be run: No such file or directory. Rows are counted by a small program")
+        self.ends(run("plan", DOORWAY, "--rows", WAGONPLAN_ARCHIVE=self.file("archive", "no archive")), 2, "The program gcc ended with status 1")
+
+    def test_jobs_that_the_calls_refuse(self):
+        job = record.job_of(hall.read_hall(DOORWAY))
+        at = record.places(job)[-1]
+        command = rows.built(self.folder)
+        for bad, sentence in (
+            (b"", "The job is cut short."), (job[:-1], "The job has another length than it says."), (changed(job, 4, b"\2"), "The job isn't of version 1."),
+            (changed(job + b"\0", 3, bytes([job[3] + 1])), "The job has bytes left over."), (bytes(65537), "The job is too long."),
+            (changed(job, 7, b"\xff"), "The job is cut short."), (changed(job, at + 1, b"\5"), f"The call open was refused by 18: {answer.sentence_of(18)}"),
+            (changed(job, at + 34, b"\x81"), f"The call finish was refused by 19: {answer.sentence_of(19)}"),
+        ):
+            done = subprocess.run([command], input=bad, capture_output=True, check=False)
+            self.assertEqual((done.returncode, done.stdout, done.stderr.decode()), (1, b"", sentence + "\n"))
+
+
 class Pictures(Case):
     def drawn(self, made):
         """The picture's root, once it is well formed and has its words."""
@@ -467,7 +558,7 @@ class Commands(Case):
             self.assertTrue(done.stdout)
 
     def test_bad_usage(self):
-        for words in ((), ("draw",), ("words", STALLS), ("solve",), ("job", STALLS, "--plan", "x")):
+        for words in ((), ("draw",), ("words", STALLS), ("solve",), ("job", STALLS, "--plan", "x"), ("plan", STALLS, "-", "--rows")):
             self.ends(run("hall", *words), 1, "usage: hall")
         self.ends(run("plan", STALLS, "--drawing", "x"), 2, "usage: plan")
         self.ends(run("hall", "job", "absent.txt"), 1, "absent.txt can't be read: No such file or directory.")

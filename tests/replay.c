@@ -504,7 +504,7 @@ static const Call *named(const char *name, size_t length) {
     give_up("no call has this name");
 }
 
-// `run`, twelve words and a factor: what the next line goes on with.
+// `run`, thirteen words and a factor: what the next line goes on with.
 static void set_run(void) {
     size_t count;
     memcpy(run, read_words(&line_words, WAGONPLAN_RUN_WORDS), sizeof run);

@@ -55,7 +55,7 @@ def step_script(words):
     if not hall:
         return []
     record = {"size": 2, "rank": rank, "rule": rule, "number": 0 if rule == 3 else number, "sweeps": 0, "last": 0, "objective": 0,
-              "stationarity": steps.NO_TOLERANCE, "minimum": 0, "most": 1, "stage": 0, "status": 0, "factor": factor}
+              "stationarity": steps.NO_TOLERANCE, "minimum": 0, "most": 1, "stage": 0, "status": 0, "standing": 0, "factor": factor}
     return ["new", runs.record_line(record), runs.sweep_line(hall, 1, 2 * rank)]
 
 

@@ -56,7 +56,7 @@ def finish_line(t, f):
 def record_line(r):
     return "record " + gen.words(*[r[k] for k in (
         "size", "rank", "rule", "number", "sweeps", "last", "objective", "stationarity", "minimum", "most",
-        "stage", "status", "factor")])
+        "stage", "status", "standing", "factor")])
 
 
 def finish_of(rng, m, r, width=1, draws=1, more=0):
@@ -118,7 +118,7 @@ def whole_runs(rng):
 def answer_of(words):
     """The answer record of a finish's words."""
     body = bytes(words[:3]) + words[3].to_bytes(4, "big") + b"".join(x.to_bytes(8, "big") for x in words[4:10])
-    body = b"\1" + body + bytes(words[11 : 11 + words[10]])
+    body = b"\1" + body + bytes(words[12 : 12 + words[11]])
     return (len(body).to_bytes(4, "big") + body).hex().upper()
 
 
@@ -166,7 +166,7 @@ OPEN_FAULTS = TABLE_FAULTS + [
 RECORD_FAULTS = [
     Fault(33, put(size=4), spoils="size"), Fault(33, put(size=0), spoils="size"), Fault(33, put(size=2**64 - 1), spoils="size"),
     Fault(33, put(rank=0), spoils="rank"), Fault(33, put(rank=33), spoils="rank"),
-    Fault(33, put(sweeps=8)), Fault(33, put(status=3)), Fault(33, put(status=255)),
+    Fault(33, put(sweeps=8)), Fault(33, put(status=3)), Fault(33, put(status=255)), Fault(33, put(standing=2**64 - 1)),
     Fault(18, put(rule=4, number=bits(1.0))), Fault(18, put(rule=4, number=NAN)),
     Fault(31, drop("lent"), "n size rank"),
 ]
@@ -183,12 +183,12 @@ def base(rng):
     settings = {"rank": 2, "rule": 2, "number": bits(0.01), "most": 7, "minimum": 2, "objective": 0, "stationarity": 0,
                 "start": 0, "numbers": gen.numbers(rng, 6, "usual"), "factor": 6}
     record = {"size": 3, "rank": 2, "rule": 2, "number": bits(0.01), "sweeps": 3, "last": bits(-1.5), "objective": 0,
-              "stationarity": 0, "minimum": 2, "most": 7, "stage": 0, "status": 0, "factor": gen.numbers(rng, 6, "usual"), "lent": 6}
+              "stationarity": 0, "minimum": 2, "most": 7, "stage": 0, "status": 0, "standing": 9, "factor": gen.numbers(rng, 6, "usual"), "lent": 6}
     return t, settings, record
 
 
 PROBE = {
-    "n": 2, **faults.BASE, "c": [-1, 4], "rank": 2, "rule": 2, "number": 0, "start": 0, "numbers": [1] * 6, "factor": 6, "size": 3, "sweeps": 3, "status": 0,
+    "n": 2, **faults.BASE, "c": [-1, 4], "rank": 2, "rule": 2, "number": 0, "start": 0, "numbers": [1] * 6, "factor": 6, "size": 3, "sweeps": 3, "status": 0, "standing": 9,
     "stage": 7, "lent": 6, "draws": [1] * 2, "draw_count": 1, "b": 2, "dual": 3, "workspace": WORKSPACE, "width": 1}
 
 
@@ -281,7 +281,7 @@ def edge_runs(rng):
     # open at the most: 33 for a sweep, 32 for a finish
     lines += [(record_line({**record, "sweeps": 7}), None), (sweep_line(t, 0, 6), 33), (finish_line(t, f), 32)]
     for status in range(3):
-        lines += [(record_line({**stopped, "status": status, "sweeps": 0}), None), (finish_line(t, f), 0)]
+        lines += [(record_line({**stopped, "status": status, "sweeps": 0, "standing": 0}), None), (finish_line(t, f), 0)]
     yield lines
 
 
@@ -455,7 +455,7 @@ class Answered:
             assert given == line
             name, *words = given.split()
             words, (number, *rest) = [int(w, 16) for w in words], [int(w, 16) for w in said.split()]
-            state = rest[: 13 + rest[12]] if rest else []
+            state = rest[: 14 + rest[13]] if rest else []
             result = rest[len(state) :]
             if name == "finish" and words[-1] < WORKSPACE:
                 number, result = 31, []
@@ -481,25 +481,25 @@ class Answered:
                 for text in itertools.islice(headings, 1):
                     lines.heading(text)
             elif name == "record":
-                lines.run(in_order(words[:12]), words[13:])
+                lines.run(in_order(words[:13]), words[14:])
             else:
                 add_call(lines, name, words, number, state, result)
 
 
 def add_call(lines, name, words, number, state, result):
     group, words = cut(words, 1, 1, 0, 0, 0, 0)
-    front = state[13 : 13 + state[0] * state[1]] if number == 0 else []
+    front = state[14 : 14 + state[0] * state[1]] if number == 0 else []
     if name == "open":
         (numbers, factor), _ = cut(words[8:], 0, 1)
-        lines.call(name, group, [*words[:8], numbers, factor], number, [front, *in_order(state[:12])] if number == 0 else [])
+        lines.call(name, group, [*words[:8], numbers, factor], number, [front, *in_order(state[:13])] if number == 0 else [])
     elif name == "sweep":
-        lines.call(name, group, words[:2], number, [*in_order(state[:12]), front] if number == 0 else [])
+        lines.call(name, group, words[:2], number, [*in_order(state[:13]), front] if number == 0 else [])
     else:
         given, _ = cut(words, 1, 1, 0, 1, 1, 1, 1)
         back = []
         if number == 0:
-            (b, dual), _ = cut(result[10:], 0, 0)
-            back = [bytes(b), dual, *result[:10]]
+            (b, dual), _ = cut(result[11:], 0, 0)
+            back = [bytes(b), dual, *result[:11]]
         lines.call(name, group, given, number, back)
 
 
@@ -519,7 +519,7 @@ def answered(scripts):
     answers = Answered(lines)
     for end, (_, job) in zip(ends, scripts):
         if job:
-            hold_whole(job, answers.results[end], answers.states[end][13:])
+            hold_whole(job, answers.results[end], answers.states[end][14:])
     return answers
 
 

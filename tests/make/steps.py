@@ -17,10 +17,10 @@ def double(bits):
     return struct.unpack(">d", struct.pack(">Q", bits))[0]
 
 
-def standing(rng, m, rank, rule, **fields):
+def fresh(rng, m, rank, rule, **fields):
     """A run record before its first sweep, the only one."""
     record = {"size": m, "rank": rank, "rule": rule, "number": 0 if rule == 3 else gen.rule_number(rng, rule), "sweeps": 0, "last": gen.usual(rng), "objective": 0,
-              "stationarity": NO_TOLERANCE, "minimum": 0, "most": 1, "stage": 0, "status": 0, "factor": gen.factor(rng, m, rank)}
+              "stationarity": NO_TOLERANCE, "minimum": 0, "most": 1, "stage": 0, "status": 0, "standing": 0, "factor": gen.factor(rng, m, rank)}
     return {**record, **fields}
 
 
@@ -34,7 +34,7 @@ def small_steps(rng):
     for rank in range(1, 33):
         for rule in range(5):
             n = rng.randint(0, max(1, 40 // rank))
-            yield script(rng, runs.some_table(rng, n), standing(rng, n + 1, rank, rule), rng.choice([0, 1, 2]), rng.choice([1, 2]), rng.choice([0, 0, 2]))
+            yield script(rng, runs.some_table(rng, n), fresh(rng, n + 1, rank, rule), rng.choice([0, 1, 2]), rng.choice([1, 2]), rng.choice([0, 0, 2]))
 
 
 def wide_steps(rng):
@@ -43,7 +43,7 @@ def wide_steps(rng):
         gen.WIDE = True
         for _ in range(2):
             m, rank = gen.shape(rng)
-            yield script(rng, runs.some_table(rng, m - 1), standing(rng, m, rank, rule), 1, 1)
+            yield script(rng, runs.some_table(rng, m - 1), fresh(rng, m, rank, rule), 1, 1)
         gen.WIDE = False
 
 
@@ -68,10 +68,10 @@ def edge_runs(rng):
         for rule in range(5):
             n = rng.randint(1, 4)
             t = runs.some_table(rng, n)
-            record = standing(rng, n + 1, rank, rule, most=7, number=0 if rule == 3 else gen.bits(0.1), factor=gen.numbers(rng, (n + 1) * rank, "usual"))
+            record = fresh(rng, n + 1, rank, rule, most=7, number=0 if rule == 3 else gen.bits(0.1), factor=gen.numbers(rng, (n + 1) * rank, "usual"))
             sweep = runs.sweep_line(t, 1, (n + 1) * rank)
             after = runs.Answered(["new", runs.record_line(record), sweep]).states[-1]
-            ((objective, residual, norm),) = measured(t, rank, [after[13:]])
+            ((objective, residual, norm),) = measured(t, rank, [after[14:]])
             last = objective + abs(objective) / 3 + 1.0
             met = {"stationarity": residual / max(norm, 1.0), **({"objective": last - objective} if rule <= 2 else {})}
             for name, x in met.items():
@@ -118,7 +118,7 @@ def seeded(lines, count, seed):
             asked = []
             for rule in range(5):
                 m = rng.choice([128, rng.randint(1, 128), rng.randint(1, 128)])
-                asked += script(rng, full_table(rng, m), standing(rng, m, rank, rule), rng.choice([0, 1, 4]), rng.choice([1, 3]))
+                asked += script(rng, full_table(rng, m), fresh(rng, m, rank, rule), rng.choice([0, 1, 4]), rng.choice([1, 3]))
             asked += [full_start(rng, rank, start) for start in range(3)]
             runs.Answered(asked).add(lines)
             yield

@@ -5,6 +5,7 @@ import os
 from .answer import read_answer, refuse
 from .picture import plan
 from .program import answered, emit, write_files
+from .rows import with_rows
 from .say import as_json, words
 from .text import Wrong
 
@@ -28,6 +29,11 @@ def with_files(parser):
     parser.add_argument("--answer", metavar="FILE", help="write the answer record")
     parser.add_argument("--plan", metavar="FILE", help="draw the plan as SVG, a page of A4")
     parser.add_argument("--json", metavar="FILE", help="write the answer as JSON")
+    return with_rows_option(parser)
+
+
+def with_rows_option(parser):
+    parser.add_argument("--rows", action="store_true", help="say too how many rows the sweeps left standing; makes the run again, by the archive and gcc")
     return parser
 
 
@@ -48,6 +54,8 @@ def solve(job, hall_of_job, given):
     refuse(record)
     hall = hall_of_job(job)
     answer = read_answer(record, hall)
+    if given.rows:
+        answer = with_rows(job, hall, answer)
     files = [(given.answer, record), (given.plan, FORMS["plan"](hall, answer)), (given.json, FORMS["json"](hall, answer))]
     try:
         write_files([(path, data) for path, data in files if path])

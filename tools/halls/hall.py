@@ -7,6 +7,7 @@ from .table import read_table
 from .text import Refused, count, counted, real, shown, text_of, whole
 
 RULES = ["Grad", "GradAdv", "Coord", "CoordNoStep", "CoordMomentum"]
+COUNTING = [3, 4]  # the rules whose sweeps count the rows that they leave standing
 STARTS = ["random", "factor", "signs"]
 
 # 01's limits, and the characters of a name, so that it can be read in the picture.

@@ -1,4 +1,4 @@
-"""Running `wagonplan`, and writing what it answers so that nothing is lost."""
+"""Running a program, `wagonplan` above all, and writing what it answers so that nothing is lost."""
 import os
 import stat
 import subprocess
@@ -11,10 +11,16 @@ from .text import Wrong
 def answered(job):
     """The program's bytes to a job."""
     program = os.environ.get("WAGONPLAN") or os.path.join(TOP, "target", "bin", "wagonplan")
+    return output([program], job, "tools/show_hall.sh proves and builds it; WAGONPLAN may name another.")
+
+
+def output(command, given, advice):
+    """What a program writes, given these bytes; the advice is for who hasn't got it."""
+    program = command[0]
     try:
-        done = subprocess.run([program], input=job, stdout=subprocess.PIPE, check=False)
+        done = subprocess.run(command, input=given, stdout=subprocess.PIPE, check=False)
     except OSError as error:
-        raise Wrong(f"The program {program} can't be run: {error.strerror}. tools/show_hall.sh proves and builds it; WAGONPLAN may name another.") from None
+        raise Wrong(f"The program {program} can't be run: {error.strerror}. {advice}") from None
     if done.returncode != 0:
         how = f"was killed by signal {-done.returncode}" if done.returncode < 0 else f"ended with status {done.returncode}"
         raise Wrong(f"The program {program} {how} and gave no whole answer.")

@@ -2,6 +2,7 @@
 import random
 import struct
 
+from .answer import free_part
 from .hall import DRAWS, Hall
 from .text import Wrong, counted
 
@@ -13,14 +14,24 @@ def job_of(hall):
     """The job record; numbers that the file leaves open are made from its seed."""
     made = random.Random(hall.seed)
     start, draws = start_of(hall, made), draws_of(hall, made)
-    entries = b"".join(struct.pack(">BBq", i, k, v) for (i, k), v in sorted(hall.pairs.items()))
-    table = entries + struct.pack(f">{len(hall.costs)}q", *hall.costs) + pins_of(hall)
+    table = table_of(hall.pairs, hall.costs) + pins_of(hall)
     settings = struct.pack(SETTINGS, hall.rank, hall.rule, hall.number, hall.most, hall.minimum, *hall.tolerances, hall.width, hall.start)
     parts = table, settings + doubles(start), struct.pack(">H", len(draws)) + b"".join(map(doubles, draws))
     length = struct.calcsize(HEAD) + sum(map(len, parts))
     if length > BYTES:
         raise too_long(hall, length, parts)
     return struct.pack(HEAD, length - 4, 2 if hall.pins else 1, len(hall.names), len(hall.pairs)) + b"".join(parts)
+
+
+def free_job(job):
+    """The job of version 1 that has the same run: of the wagons that aren't pinned alone, with this job's settings, start and draws."""
+    pairs, costs, _ = free_part(hall_of(job))
+    parts = table_of(pairs, costs) + job[places(job)[-1] :]
+    return struct.pack(HEAD, struct.calcsize(HEAD) - 4 + len(parts), 1, len(costs), len(pairs)) + parts
+
+
+def table_of(pairs, costs):
+    return b"".join(struct.pack(">BBq", i, k, v) for (i, k), v in sorted(pairs.items())) + struct.pack(f">{len(costs)}q", *costs)
 
 
 def pins_of(hall):
@@ -74,18 +85,21 @@ def hall_of(job):
     """The hall of a job that the program accepted, its wagons named by their numbers from 0."""
     hall = Hall("job")
     try:
-        n, entries = struct.unpack_from(">BH", job, 5)
+        n, costs, pins, at = places(job)
         hall.names = [str(i) for i in range(n)]
-        hall.pairs = {(i, k): v for i, k, v in struct.iter_unpack(">BBq", job[8 : 8 + 10 * entries])}
-        at = 8 + 10 * entries
-        hall.costs = list(struct.unpack_from(f">{n}q", job, at))
-        at += 8 * n
-        if job[4] == 2:
-            (count,) = struct.unpack_from(">B", job, at)
-            hall.pins = dict(struct.unpack_from(">BB", job, at + 1 + 2 * k) for k in range(count))
-            at += 1 + 2 * count
+        hall.pairs = {(i, k): v for i, k, v in struct.iter_unpack(">BBq", job[struct.calcsize(HEAD) : costs])}
+        hall.costs = list(struct.unpack_from(f">{n}q", job, costs))
+        hall.pins = dict(struct.iter_unpack(">BB", job[pins + 1 : at]))
         hall.rank, hall.rule, hall.number, hall.most, hall.minimum, *tolerances, hall.width, hall.start = struct.unpack_from(SETTINGS, job, at)
     except struct.error:
         raise Wrong("The program answered a job that is cut short.") from None
     hall.tolerances = tuple(tolerances)
     return hall
+
+
+def places(job):
+    """A job's count of wagons, and where its costs, its pins and its settings begin; version 1 has no byte for pins."""
+    _, version, n, entries = struct.unpack_from(HEAD, job)
+    costs = struct.calcsize(HEAD) + 10 * entries
+    pins = costs + 8 * n
+    return n, costs, pins, pins + (1 + 2 * struct.unpack_from(">B", job, pins)[0] if version == 2 else 0)

@@ -3,6 +3,7 @@ import json
 import math
 
 from .answer import STATUSES, STORES, eighths, pinned_cost
+from .hall import COUNTING, RULES
 from .text import counted
 
 
@@ -19,6 +20,21 @@ def words(hall, answer):
     floats, own = f"Relaxed objective {answer['relaxed']:.6g}, float bound {answer['bound']:.6g}", pinned_cost(hall)
     without = f"; both are without the pinned wagons' own cost, {eighths(own)}" if own else ""
     yield f"Sweeps: {answer['sweeps']} at rank {answer['rank']}; {STATUSES[answer['status']]}. {floats}{without}."
+    if "standing" in answer:
+        yield rows_left(hall, answer)
+
+
+def rows_left(hall, answer):
+    """Whether the sweeps moved anything; the rows are the factor's, not those that the hall's wagons stand in."""
+    if hall.rule not in COUNTING:
+        return f"Rows left standing: not counted under the rule {RULES[hall.rule]}, only under {' and '.join(RULES[rule] for rule in COUNTING)}."
+    if answer["sweeps"] == 0:
+        return "Rows left standing: none, as no sweep was made."
+    size, left = len(hall.free()) + 1, answer["standing"]
+    total = size * answer["sweeps"]
+    many = f"none of {total:,}" if left == 0 else f"all {left:,}" if left == total else f"{left:,} of {total:,}"
+    swept = f"{counted(answer['sweeps'], 'sweep')} of {counted(size, 'row')} (one for each {'free ' if hall.pins else ''}wagon, one for the anchor)"
+    return f"Rows left standing: {many}, in {swept}{'; nothing measurable pulled there' if left else ''}."
 
 
 def listed(hall, wagons):
@@ -67,4 +83,6 @@ def as_json(hall, answer):
         "pinned": {hall.names[i]: STORES[store] for i, store in sorted(hall.pins.items())},
         "pinned_cost": pinned_cost(hall) / 8,
     }
+    if "standing" in answer:
+        fields["rows_standing"] = answer["standing"]
     return json.dumps(fields, indent=2, ensure_ascii=False, allow_nan=False) + "\n"

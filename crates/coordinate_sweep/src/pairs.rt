@@ -13,9 +13,11 @@ ghost use Rattle.ieee.specs.Floats.{_/ᶠ_, zero64, one64};
 ghost use Rattle.ieee.specs.Sqrt.{sqrtOf};
 ghost use Rattle.factor.specs.Norms.{squaredNorm};
 ghost use Rattle.factor.specs.Vectors.{scaled};
-ghost use Rattle.coordinate_sweep.specs.Sweep.{momentumRow, normalized, wrote, rowBy, rowTo, meetsNext};
+ghost use Rattle.coordinate_sweep.specs.Sweep.{momentumRow, normalized, wrote, rowBy, rowTo, meetsNext, stands};
+use super::left_of;
 use super::set_momentum;
 use super::update_at;
+use super::writes;
 use factor::rows::row;
 use factor::rows::scale;
 use factor::sums::squared_norm;
@@ -88,19 +90,22 @@ fn moves(a: f64, b: f64, beta: f64) -> bool
     false
 }
 
-// Rows i and i + 1 by their gradients g and h.
-pub fn renew_pair(factor: &mut [f64], g: &[f64], h: &[f64], i: usize, beta: f64)
+// Rows i and i + 1 by their gradients g and h; how many of the two were left.
+pub fn renew_pair(factor: &mut [f64], g: &[f64], h: &[f64], i: usize, beta: f64) -> usize
     requires { ⌜ ((i + 1) * length (now g) + length (now g) ≤ length (now factor)) × (length (now h) ≡ length (now g)) × (i < 65536) ⌝ }
     ensures { λ _. ⌜ now (factor .exit) ≡ rowBy beta (now (h .entry)) (length (now (g .entry))) (rowBy beta (now (g .entry)) (length (now (g .entry))) (now (factor .entry)) i) (i + 1) ⌝ }
+    ensures { λ r. ⌜ r ≡ stands (sqrtOf (squaredNorm (now (g .entry)))) + stands (sqrtOf (squaredNorm (now (h .entry)))) ⌝ }
 {
     let a = ieee::sqrt(squared_norm(g));
     let b = ieee::sqrt(squared_norm(h));
+    let left = left_of(writes(a)) + left_of(writes(b));
     if moves(a, b, beta) {
         move_pair(factor, g, h, i, 1.0 / a, 1.0 / b, beta);
     } else {
         update_at(factor, g, i, a, beta);
         update_at(factor, h, i + 1, b, beta);
     }
+    left
 }
 
 // Whether column i is found by now, after one more.

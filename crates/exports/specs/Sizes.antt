@@ -6,7 +6,7 @@ use Rattle.limits.specs.Limits.{mostWagons, mostEntries, mostSigns, mostSignEnt
 use Rattle.exports.specs.Words.{runWords, settingWords, resultWords}
 
 abbrev pub callsVersion : ℕ
-callsVersion = 1
+callsVersion = 2
 
 -- in the order of `enum wagonplan_sizes` of include/wagonplan.h
 abbrev pub sizes : List ℕ

@@ -18,13 +18,13 @@ use Rattle.run_contract.specs.Calls.{Settings, settingsOf}
 use Rattle.run_contract.specs.declared.FinishResult.{FinishResult}
 
 abbrev pub runWords : ℕ
-runWords = 12
+runWords = 13
 
 abbrev pub settingWords : ℕ
 settingWords = 8
 
 abbrev pub resultWords : ℕ
-resultWords = 10
+resultWords = 11
 
 -- a word that is too large for its field is read as the field's largest number
 unfoldable pub within : ℕ → ℕ → ℕ
@@ -57,7 +57,8 @@ ruleValue (Coord alpha) = alpha
 ruleValue CoordNoStep = zero64
 ruleValue (CoordMomentum beta) = beta
 
--- the run record: size, rank, rule, its number, sweeps done, last objective, objective tolerance, stationarity tolerance, most, minimum, stage, status
+-- the run record: size, rank, rule, its number, sweeps done, last objective, objective tolerance, stationarity tolerance, most, minimum, stage, status,
+-- rows left standing
 unfoldable pub runIn : List ℕ → Run
 runIn w =
     record {
@@ -72,6 +73,7 @@ runIn w =
       minimum = countIn (elem w 9);
       stage = stageIn (elem w 10);
       status = byteIn (elem w 11);
+      standing = elem w 12;
     }
 
 unfoldable pub wordsOf : Run → List ℕ
@@ -88,6 +90,7 @@ wordsOf run =
     ∷ run .minimum
     ∷ stageWord (run .stage)
     ∷ run .status
+    ∷ run .standing
     ∷ []
 
 -- a record that words can hold, as every one of the machine is: doubles, counts of 32 bits, a status of 8
@@ -107,7 +110,7 @@ settingsIn t w numbers =
     settingsOf t (elem w 0) (byteIn (elem w 1)) (doubleOf (elem w 2)) (countIn (elem w 3)) (countIn (elem w 4)) (doubleOf (elem w 5)) (doubleOf (elem w 6))
     (byteIn (elem w 7)) numbers
 
--- the result of a finish: status, rank, n, sweeps, relaxed objective, float bound, floor, rounded cost, cost, rounds
+-- the result of a finish: status, rank, n, sweeps, relaxed objective, float bound, floor, rounded cost, cost, rounds, rows left standing
 unfoldable pub resultWordsOf : FinishResult → List ℕ
 resultWordsOf x =
     x .status
@@ -120,4 +123,5 @@ resultWordsOf x =
     ∷ bitsOfSigned (x .«rounded_cost»)
     ∷ bitsOfSigned (x .cost)
     ∷ x .rounds
+    ∷ x .standing
     ∷ []

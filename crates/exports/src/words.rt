@@ -14,11 +14,11 @@ ghost use Rattle.laws.specs.Lists.{over};
 ghost use Rattle.step_rules.specs.Rule.{ruleNumber};
 ghost use Rattle.exports.specs.Words.{runWords, resultWords, byteIn, countIn, stageIn, stageWord, ruleIn, ruleValue, runIn, wordsOf, resultWordsOf};
 
-pub const RUN_WORDS: usize = 12;
+pub const RUN_WORDS: usize = 13;
 
 pub const SETTING_WORDS: usize = 8;
 
-pub const RESULT_WORDS: usize = 10;
+pub const RESULT_WORDS: usize = 11;
 
 // A word as a byte.
 pub fn byte_in(word: u64) -> u8
@@ -113,6 +113,7 @@ pub fn run_in(words: &[u64]) -> Run
         minimum: count_in(words[9]),
         stage,
         status: byte_in(words[11]),
+        standing: words[12],
     }
 }
 
@@ -135,6 +136,7 @@ fn words_of(run: Run) -> [u64; RUN_WORDS]
         run.minimum as u64,
         stage_word(stage),
         run.status as u64,
+        run.standing,
     ]
 }
 
@@ -153,6 +155,7 @@ fn result_words(x: FinishResult) -> [u64; RESULT_WORDS]
         bits_of_signed(x.rounded_cost),
         bits_of_signed(x.cost),
         x.rounds,
+        x.standing,
     ]
 }
 

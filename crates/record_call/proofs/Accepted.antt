@@ -127,7 +127,7 @@ module _ (s : List ℕ) (e : jobNumber s ≡ 0) where
   unfolding openRun jobSettings
   sweeps some factor room =
       sweep-passes (openRun (jobSettings (runCosts s) s)) (runCosts s) factor (costs-there s) room (is-open (jobOf s .most) some)
-      (open-record (openRun (jobSettings (runCosts s) s)) (runCosts s .n) refl rank-some rank-few some refl) (costs-pass s e) (rule-good (openRun (jobSettings (runCosts s) s)) refl)
+      (open-record (openRun (jobSettings (runCosts s) s)) (runCosts s .n) refl rank-some rank-few some refl (omega arith)) (costs-pass s e) (rule-good (openRun (jobSettings (runCosts s) s)) refl)
 
   -- the plain run's state is what open and sweep leave; where the most is 0 no sweep is made, and none is left
   pub stopped-is : stateOf (stopped (runCosts s) s) ≡ sweepsUpTo (jobOf s .most) (callWork (runCosts s)) (openRun (jobSettings (runCosts s) s)) (startFactor (jobSettings (runCosts s) s))
@@ -145,7 +145,7 @@ module _ (s : List ℕ) (e : jobNumber s ≡ 0) where
 
   left : Running (openRun (jobSettings (runCosts s) s))
   unfolding openRun jobSettings
-  left = some-left (jobOf s .most)
+  left = record { sweep-left = some-left (jobOf s .most); standing-few = omega arith }
 
   enough : openRun (jobSettings (runCosts s) s) .most ≤ openRun (jobSettings (runCosts s) s) .sweeps + jobOf s .most
   unfolding openRun jobSettings
@@ -183,5 +183,5 @@ module _ (s : List ℕ) (e : jobNumber s ≡ 0) where
       finish-passes run (runCosts s) (jobOf s .width) (jobOf s .«draw_count») lent (costs-there s) (draws-fit (run .rank) (lent .draws) (sound .rank-is ∙ rank-is) ds)
       (rw (sound .size-is, sound .rank-is) fs) bs ms ws (stops .is-stopped)
       (stopped-record run (runCosts s .n) (sound .size-is ∙ size-is) (rw (sound .rank-is) rank-some) (rw (sound .rank-is) rank-few) (stops .is-stopped)
-      (rw (sound .most-is) (sound .sweeps-few)) (sound .status-few))
+      (rw (sound .most-is) (sound .sweeps-few)) (sound .status-few) (stops .total-few))
       (costs-pass s e) (rule-good run (sound .rule-is)) settings-pass

@@ -84,19 +84,20 @@ module _ (run : Run) (n : ℕ) (size : run .size ≡ n + 1) (some : 1 ≤ run .r
   same-size : not (eqb (run .size) (n + 1)) ≡ false
   same-size = ap not (eq-eqb (run .size) (n + 1) size)
 
-  pub stopped-record : isStopped (run .stage) ≡ true → run .sweeps ≤ run .most → run .status ≤ 2 → recordRefused run n ≡ false
+  pub stopped-record : isStopped (run .stage) ≡ true → run .sweeps ≤ run .most → run .status ≤ 2 → run .standing ≤ run .size * run .sweeps
+      → recordRefused run n ≡ false
   unfolding recordRefused
-  stopped-record e l s =
+  stopped-record e l s t =
       any-not _ _ same-size (any-not _ _ zero-not (any-not _ _ (le-ltb mostRank (run .rank) few) (any-not _ _ (le-ltb (run .most) (run .sweeps) l)
       (any-not _ _ (open-not (isStopped (run .stage)) (eqb (run .sweeps) (run .most)) e) (any-not _ _ (le-ltb 2 (run .status) s)
-      (any-not _ _ (open-not (isStopped (run .stage)) (not (eqb (run .status) 0)) e) any-none))))))
+      (any-not _ _ (open-not (isStopped (run .stage)) (not (eqb (run .status) 0)) e) (any-not _ _ (le-ltb (run .size * run .sweeps) (run .standing) t) any-none)))))))
 
-  pub open-record : run .sweeps < run .most → run .status ≡ 0 → recordRefused run n ≡ false
+  pub open-record : run .sweeps < run .most → run .status ≡ 0 → run .standing ≤ run .size * run .sweeps → recordRefused run n ≡ false
   unfolding recordRefused
-  open-record l s =
+  open-record l s t =
       any-not _ _ same-size (any-not _ _ zero-not (any-not _ _ (le-ltb mostRank (run .rank) few) (any-not _ _ (le-ltb (run .most) (run .sweeps) (omega arith))
       (any-not _ _ (and-right (not (isStopped (run .stage))) (eqb (run .sweeps) (run .most)) (ne-eqb (run .sweeps) (run .most) (λ e. omega (arith, e)))) (any-not _ _ (le-ltb 2 (run .status) (omega arith))
-      (any-not _ _ (and-right (not (isStopped (run .stage))) (not (eqb (run .status) 0)) (ap not (eq-eqb (run .status) 0 s))) any-none))))))
+      (any-not _ _ (and-right (not (isStopped (run .stage))) (not (eqb (run .status) 0)) (ap not (eq-eqb (run .status) 0 s))) (any-not _ _ (le-ltb (run .size * run .sweeps) (run .standing) t) any-none)))))))
 
 -- ---- sweep and finish
 

@@ -56,11 +56,15 @@ unfolding recordRefused
 agrees run n e =
     let ranks = any-rest _ _ e in
     let limits = any-rest _ _ (any-rest _ _ ranks) in
+    let total = any-rest _ _ (any-rest _ _ (any-rest _ _ (any-rest _ _ limits))) in
     record {
       size-test = any-head _ _ e;
       some-test = any-head _ _ ranks;
       few-test = any-head _ _ (any-rest _ _ ranks);
-      runs = λ open′. less (run .sweeps) (run .most) (ltb-false _ _ (any-head _ _ limits)) (eqb-false _ _ (and-left _ _ (ap not open′) (any-head _ _ (any-rest _ _ limits))));
+      runs = record {
+        sweep-left = λ open′. less (run .sweeps) (run .most) (ltb-false _ _ (any-head _ _ limits)) (eqb-false _ _ (and-left _ _ (ap not open′) (any-head _ _ (any-rest _ _ limits))));
+        standing-few = ltb-false _ _ (any-head _ _ total);
+      };
     }
 
 size-of : {run : Run} {n : ℕ} → Agrees run n → run .size ≡ n + 1

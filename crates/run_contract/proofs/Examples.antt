@@ -5,7 +5,7 @@ use mathlib.Core.List.{List, [], _∷_, map}
 use mathlib.Core.Option.{Option, some, none}
 use mathlib.Core.Path.{_≡_, refl}
 use lib.IntN.{pos, negsuc}
-use lib.Ieee.{ofBits, toBits, ofInt, add, sub, mul, div, neg, lt, le}
+use lib.Ieee.{ofBits, toBits, ofInt, add, sub, mul, div, neg, lt, le, eq}
 use Rattle.laws.specs.Sum as Sum
 use Rattle.laws.specs.Lists as Lists
 use Rattle.laws.specs.Rows as Rows
@@ -34,6 +34,8 @@ use Rattle.local_search.specs.LocalSearch as LocalSearch
 use Rattle.local_search.specs.Level as Level
 use Rattle.local_search.specs.SignSearch as SignSearch
 use Rattle.sign_search.specs.Search as Search
+use Rattle.row_gradient.specs.Gradient as Gradient
+use Rattle.coordinate_sweep.specs.Sweep as Sweep
 use Rattle.step_rules.specs.Steps as Steps
 use Rattle.step_rules.specs.Rule as Rule
 use Rattle.run_limits.specs.Rank as Rank
@@ -68,6 +70,7 @@ pub record Shown : Type 0 where
   pub sweeps : ℕ
   pub stopped : Bool
   pub status : ℕ
+  pub standing : ℕ
   pub factor : List ℕ
   pub choice : Option (List ℕ)
 
@@ -82,24 +85,25 @@ shown s =
       sweeps = s .run .sweeps;
       stopped = isStopped (s .run .stage);
       status = s .run .status;
+      standing = s .run .standing;
       factor = map bitsOf (s .factor);
       choice = choiceIn (s .given);
     }
 
-abbrev look : ℕ → ℕ → Bool → ℕ → Option (List ℕ) → Shown
-look number sweeps stopped status choice =
-    record { number = number; sweeps = sweeps; stopped = stopped; status = status; factor = 0x3FF0000000000000 ∷ 0x3FF0000000000000 ∷ []; choice = choice }
+abbrev look : ℕ → ℕ → Bool → ℕ → ℕ → Option (List ℕ) → Shown
+look number sweeps stopped status standing choice =
+    record { number = number; sweeps = sweeps; stopped = stopped; status = status; standing = standing; factor = 0x3FF0000000000000 ∷ 0x3FF0000000000000 ∷ []; choice = choice }
 
 -- finish before the stop, two sweeps, a slice too short, two sweeps of which one is left, a sweep after the stop, finish
 pub run-computed :
     map shown (plainTrace (plainOpen settings) (finishing ∷ sweeping 2 2 ∷ sweeping 2 1 ∷ sweeping 2 2 ∷ sweeping 2 2 ∷ finishing ∷ []))
-    ≡ (look 32 0 false 0 none ∷ look 0 2 false 0 none ∷ look 31 2 false 0 none ∷ look 0 3 true 1 none ∷ look 32 3 true 1 none ∷ look 0 3 true 1 (some (1 ∷ [])) ∷ [])
-unfolding plainOpen PlainRun.sweptFactor PlainRun.swept PlainRun.checked PlainRun.atMost PlainRun.plainSweeps PlainRun.recordOf PlainRun.plainNumber PlainRun.plainAfter
+    ≡ (look 32 0 false 0 0 none ∷ look 0 2 false 0 0 none ∷ look 31 2 false 0 0 none ∷ look 0 3 true 1 0 none ∷ look 32 3 true 1 0 none ∷ look 0 3 true 1 0 (some (1 ∷ [])) ∷ [])
+unfolding plainOpen PlainRun.sweptFactor PlainRun.rowsLeft PlainRun.swept PlainRun.checked PlainRun.atMost PlainRun.plainSweeps PlainRun.recordOf PlainRun.plainNumber PlainRun.plainAfter
     PlainRun.finishOf PlainRun.plainSeen Calls.startFactor Calls.finishResult Rank.rankMeant
     Refusal.orElse Refusal.first Refusal.anyOf Refusal.short Numbers.tableShort Numbers.factorRefused Numbers.factorShort Numbers.recordRefused Numbers.sweepShort
     Numbers.sweepNumber Numbers.drawsRefused Numbers.drawsShort Numbers.choiceShort Numbers.finishShort Numbers.widthRefused Numbers.finishNumber
     Check.badSize Check.before Check.badEntry Check.badOrder Check.unmirrored Check.hallNumber Check.shortTable Sum.total
-    Work.workOf Work.callWork Schedule.isDue Schedule.verdict PlainRun.objectiveAt PlainRun.lookAt Rule.stepped Steps.gradStep
+    Work.workOf Work.callWork Schedule.isDue Schedule.verdict PlainRun.objectiveAt PlainRun.lookAt Rule.stepped Rule.standingIn Steps.gradStep
     Checking.residualRow Checking.residualOf Checking.frobenius Checking.thresholdOf Objective.objOf Oracle.workObjective Initialize.startRows
     Vectors.subScaled Vectors.multiplied Vectors.projected Multiply.gradOf
     Finalize.floorEighths Finalize.floatBound Finalize.diagonalTotal Finalize.multipliersOf Finalize.roundedCost Finalize.searchedChoice Finalize.searchedCost Finalize.searchedRounds
@@ -114,3 +118,33 @@ unfolding plainOpen PlainRun.sweptFactor PlainRun.swept PlainRun.checked PlainRu
     LocalSearch.insert LocalSearch.insertAll LocalSearch.stableSort LocalSearch.best LocalSearch.concat LocalSearch.childrenOf LocalSearch.nextLevel LocalSearch.levels
     LocalSearch.foundIn LocalSearch.searched Level.flipByte Level.flipSign SignSearch.improving SignSearch.signSearch
 run-computed = refl
+
+-- two wagons, the second of which no entry names: H_00 = 2, c_0 = −3; rank 1, rule 3, at most 3 sweeps, start (1), (1), (1). Row 1 stands in every sweep
+abbrev lone : CostTable
+lone = costTable 2 1 (0 ∷ []) (0 ∷ []) (pos 2 ∷ []) (negsuc 2 ∷ pos 0 ∷ [])
+
+abbrev sweepingLone : ℕ → ℕ → Call
+sweepingLone k lent = sweep (record { table = lone; k = k; factor-length = lent })
+
+abbrev told : Seen → ℕ × ℕ × ℕ
+told s = (s .number, s .run .sweeps, s .run .standing)
+
+-- none, two sweeps, a slice too short, two of which one is left
+pub standing-computed :
+    map told (plainTrace (plainOpen (settingsOf lone 1 3 zero64 3 3 zero64 zero64 0 (one64 ∷ one64 ∷ one64 ∷ []))) (sweepingLone 0 3 ∷ sweepingLone 2 3 ∷ sweepingLone 2 2 ∷ sweepingLone 2 3 ∷ []))
+    ≡ ((0, 0, 0) ∷ (0, 2, 2) ∷ (31, 2, 2) ∷ (0, 3, 3) ∷ [])
+unfolding plainOpen PlainRun.sweptFactor PlainRun.rowsLeft PlainRun.swept PlainRun.checked PlainRun.atMost PlainRun.plainSweeps PlainRun.recordOf PlainRun.plainNumber
+    PlainRun.plainAfter PlainRun.plainSeen Calls.startFactor Rank.rankMeant
+    Refusal.orElse Refusal.first Refusal.anyOf Refusal.short Numbers.tableShort Numbers.factorRefused Numbers.factorShort Numbers.recordRefused Numbers.sweepShort Numbers.sweepNumber
+    Check.badSize Check.before Check.badEntry Check.badOrder Check.unmirrored Check.hallNumber Check.shortTable Sum.total
+    Work.workOf Work.callWork Schedule.isDue Schedule.verdict PlainRun.objectiveAt PlainRun.lookAt Rule.stepped Rule.standingIn
+    Sweep.exactRow Sweep.updateRow Sweep.gradientAt Sweep.rowTo Sweep.rowBy Sweep.sweptRow Sweep.sweepTo Sweep.standingTo Gradient.gradientTo Gradient.gradientOf
+    Norms.laneTo Norms.addSquaresTo Norms.squaredNorm
+    Checking.residualRow Checking.residualOf Checking.frobenius Checking.thresholdOf Objective.objOf Oracle.workObjective Initialize.startRows
+    Vectors.subScaled Vectors.multiplied Vectors.projected Multiply.gradOf
+    ofBits toBits ofInt add sub mul div neg lt le eq Sqrt.sqrtOf Floats.eighthOf Sum.sum Sum.sum₂ Rows.mapFirst Turns.upTo
+    Lists.anyBelow Lists.tabulate Lists.kept Table.valueAt Table.storedAt SignTable.absorbed SignTable.signValue Stored.rowPlaces Stored.places SignTable.signKept SignTable.signPlaces
+    Norms.dotTo Norms.dotOf Norms.sumTo Norms.sumOf Vectors.addScaled Vectors.added Vectors.divided Vectors.unit Multiply.productRow Multiply.productOf
+    Prepared.setsAside Prepared.workRows Prepared.workCols Prepared.workValues Prepared.rowStart Prepared.workStarts Prepared.diagonalOf Prepared.diagonalSum
+    Objective.multipliers Oracle.workProduct Oracle.dualVariables
+standing-computed = refl

@@ -13,7 +13,7 @@ use Rattle.run_sweep.specs.Work.{Work}
 use Rattle.step_rules.specs.Rule.{testsObjective}
 use Rattle.run_sweep.specs.Sweep.{State, checkDue, stopStatus, newObjective, stationary, settledAt, statusFound, lastAfter, stageAfter, statusAfter, advanced, runAfter, whileOpen, sweepsUpTo}
 use Rattle.run_contract.specs.Schedule.{isDue}
-use Rattle.run_contract.specs.PlainRun.{Plain, sweptFactor, swept, standing, stops, lookAt, foundStatus, objectiveAt, checked, atMost, ifOpen, plainSweeps, recordOf}
+use Rattle.run_contract.specs.PlainRun.{Plain, sweptFactor, rowsLeft, swept, withStop, stops, lookAt, foundStatus, objectiveAt, checked, atMost, ifOpen, plainSweeps, recordOf}
 use Rattle.run_contract.proofs.Scheduled.{due-same, momentum-none, verdict-same}
 
 -- record and factor of a plain run's state
@@ -40,12 +40,13 @@ stateMade w p due full status new =
         minimum = p .minimum;
         stage = cond (anyOf (not (eqb (cond due status 0) 0) ∷ full ∷ [])) Stopped (p .stage);
         status = cond (eqb (cond due status 0) 0) (p .status) (cond due status 0);
+        standing = p .standing + rowsLeft w p;
       };
       factor = sweptFactor w p;
     }
 
 abbrev closing : Bool → Plain → Plain
-closing full p = cond full (standing p (p .last) Stopped (p .status)) p
+closing full p = cond full (withStop p (p .last) Stopped (p .status)) p
 
 closes : (w : Work) (p : Plain) (due full : Bool) (status : ℕ) (new : Float) → stateOf (closing full (cond due (stops status new (swept w p)) (swept w p))) ≡ stateMade w p due full status new
 unfolding stateOf recordOf swept anyOf
@@ -81,7 +82,7 @@ found-same w p =
     ∙ ap (λ (tests : Bool). stopStatus tests (p .objective-tolerance) (settledAt (recordOf p) w (sweptFactor w p)) (p .last) (portObjective w p)) (momentum-none (p .rule))
 
 -- one sweep: the plain run's three steps are the record that the port makes
-pub turns : (w : Work) (p : Plain) → stateOf (turned w p) ≡ record { run = runAfter (recordOf p) w (sweptFactor w p); factor = sweptFactor w p }
+pub turns : (w : Work) (p : Plain) → stateOf (turned w p) ≡ record { run = runAfter (recordOf p) w (sweptFactor w p) (rowsLeft w p); factor = sweptFactor w p }
 unfolding checked swept runAfter advanced statusFound lastAfter stageAfter statusAfter recordOf
 turns w p =
     let full = eqb (p .sweeps + 1) (p .most) in
@@ -96,7 +97,7 @@ by-stage Stopped a next p e = refl
 
 -- up to k of them
 pub sweeps-follow : (k : ℕ) (w : Work) (p : Plain) → sweepsUpTo k w (recordOf p) (p .factor) ≡ stateOf (plainSweeps k w p)
-unfolding sweepsUpTo plainSweeps stateOf recordOf sweptFactor
+unfolding sweepsUpTo plainSweeps stateOf recordOf sweptFactor rowsLeft
 sweeps-follow zero w p = refl
 sweeps-follow (suc k) w p =
     by-stage (p .stage) _ (plainSweeps k w (turned w p)) p

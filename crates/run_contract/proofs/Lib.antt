@@ -8,6 +8,7 @@ pub mod Scheduled
 pub mod Follows
 pub mod Opening
 pub mod OnLists
+pub mod Counting
 pub mod Chains
 pub mod Tails
 pub mod Examples

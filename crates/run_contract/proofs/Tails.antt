@@ -14,7 +14,7 @@ use Rattle.run_record.specs.declared.Stage.{Stage}
 use Rattle.run_record.specs.declared.Stage.the-variants.{Open, Stopped}
 use Rattle.run_record.specs.CostTable.{CostTable, quadratic, linear}
 use Rattle.run_sweep.specs.Work.{Work, callWork}
-use Rattle.run_sweep.specs.Sweep.{State, runAfter, whileOpen, sweptOnce, sweepsUpTo}
+use Rattle.run_sweep.specs.Sweep.{State, runAfter, whileOpen, sweptOnce, standingOnce, sweepsUpTo}
 use Rattle.run_contract.specs.declared.Opened.{Opened}
 use Rattle.run_contract.specs.declared.Finished.{Finished}
 use Rattle.run_contract.specs.Calls.{Settings, openedNumber, openNumberOf, openSize, openRank, startFactor, Opens, used, Sweeps, finishedNumber, finishChoice, finishMultipliers, Finishes}
@@ -48,8 +48,8 @@ pub length-sweeps : (k : ℕ) (w : Work) (run : Run) (factor : List Float) → l
 unfolding sweepsUpTo
 length-sweeps zero w run factor = refl
 length-sweeps (suc k) w run factor =
-    go (run .stage) (sweepsUpTo k w (runAfter run w (sweptOnce w run factor)) (sweptOnce w run factor))
-    (length-sweeps k w (runAfter run w (sweptOnce w run factor)) (sweptOnce w run factor)
+    go (run .stage) (sweepsUpTo k w (runAfter run w (sweptOnce w run factor) (standingOnce w run factor)) (sweptOnce w run factor))
+    (length-sweeps k w (runAfter run w (sweptOnce w run factor) (standingOnce w run factor)) (sweptOnce w run factor)
     ∙ length-stepped (run .rule) (w .rows) (w .cols) (w .values) (w .starts) (run .size) (run .rank) factor)
   where
     go : (stage : Stage) (next : State) → length (next .factor) ≡ length factor → length (whileOpen stage next (record { run = run; factor = factor }) .factor) ≡ length factor

@@ -104,6 +104,7 @@ openRun o =
       minimum = o .minimum;
       stage = firstStage (o .most);
       status = 0;
+      standing = 0;
     }
 
 abbrev pub openNumberOf : Settings → ℕ → ℕ
@@ -134,8 +135,8 @@ abbrev pub finishLengths : List Float → List Float → List ℕ → List Float
 finishLengths draws factor b dual workspace =
     record { draws = length draws; factor = length factor; b = length b; dual = length dual; workspace = length workspace }
 
--- what a finish gives, from a factor of the record's size: the record's status, rank and sweeps, its last objective with the diagonal's sum added,
--- and the figures of rounding and search
+-- what a finish gives, from a factor of the record's size: the record's status, rank, sweeps and rows left standing, its last objective with the
+-- diagonal's sum added, and the figures of rounding and search
 unfoldable pub finishResult : Run → CostTable → ℕ → ℕ → List Float → List Float → FinishResult
 finishResult run t width drawCount draws factor =
     record {
@@ -149,6 +150,7 @@ finishResult run t width drawCount draws factor =
       «rounded_cost» = roundedCost (t .n) (quadratic t) (linear t) (run .rank) factor draws drawCount;
       cost = searchedCost (t .n) (quadratic t) (linear t) (run .rank) factor draws drawCount width;
       rounds = searchedRounds (t .n) (quadratic t) (linear t) (run .rank) factor draws drawCount width;
+      standing = run .standing;
     }
 
 -- the choice and the multipliers

@@ -1,11 +1,12 @@
 -- 01's plain run ("Run", second paragraph): sweep by sweep, on a state of its own. Definitions only.
 --
 -- What it shares with the contracts of open, sweep and finish: the table as a sweep takes it (`callWork`, and `signTableOf` for the last objective at
--- the open), one sweep of a rule (`stepped`), a check's objective, residual and threshold (`checkObjective`, `checkResidual`, `checkThreshold`),
--- 000's objective of a start (`workObjective`), the start's factor with the size and rank meant (`startFactor`, `openSize`, `openRank`), the rule
--- of a number (`ruleOf`), what an accepted finish gives of a factor (`finishResult`, `finishChoice`, `finishMultipliers`), and the numbers
--- (`sweepNumber`, `finishNumber`), which proofs/Answered.antt shows to be 01's. When a check is due, its stop tests, how sweeps done, last
--- objective, stage and status move, and what a refused call leaves are its own, here and in specs/Schedule.antt.
+-- the open), one sweep of a rule and the rows that it leaves as they were (`stepped`, `standingIn`), a check's objective, residual and threshold
+-- (`checkObjective`, `checkResidual`, `checkThreshold`), 000's objective of a start (`workObjective`), the start's factor with the size and rank meant
+-- (`startFactor`, `openSize`, `openRank`), the rule of a number (`ruleOf`), what an accepted finish gives of a factor (`finishResult`, `finishChoice`,
+-- `finishMultipliers`), and the numbers (`sweepNumber`, `finishNumber`), which proofs/Answered.antt shows to be 01's. When a check is due, its stop
+-- tests, how sweeps done, last objective, stage, status and total move, and what a refused call leaves are its own, here and in specs/Schedule.antt.
+-- That the total is the number of pairs of sweep and row that 02's Note 2 speaks of is proved in proofs/Counting.antt, by specs/Log.antt.
 use Prim.Native.Nat.{ℕ, zero, suc, _+_}
 use mathlib.Core.Bool.{cond}
 use mathlib.Core.List.{List, [], _∷_}
@@ -16,7 +17,7 @@ use lib.Ieee.{Float}
 use Rattle.maxcut_oracle.specs.Check.{checkObjective, checkResidual, checkThreshold}
 use Rattle.maxcut_oracle.specs.Table.{workObjective}
 use Rattle.step_rules.specs.declared.StepRule.{StepRule}
-use Rattle.step_rules.specs.Rule.{ruleOf, stepped}
+use Rattle.step_rules.specs.Rule.{ruleOf, stepped, standingIn}
 use Rattle.run_record.specs.declared.Stage.{Stage}
 use Rattle.run_record.specs.declared.Stage.the-variants.{Open, Stopped}
 use Rattle.run_record.specs.declared.Run.{Run}
@@ -27,7 +28,8 @@ use Rattle.run_contract.specs.declared.FinishResult.{FinishResult}
 use Rattle.run_contract.specs.Calls.{Settings, openSize, openRank, startFactor, finishResult, finishChoice, finishMultipliers}
 use Rattle.run_contract.specs.Schedule.{isDue, coordinateMomentum, Look, verdict}
 
--- "Its state: factor, size, rank, rule, tolerances, limits, sweeps done, last objective, stage, status."
+-- "Its state: factor, size, rank, rule, tolerances, limits, sweeps done, last objective, stage, status."; and the rows left standing: "01's plain run
+-- keeps it too" (02, Note 2)
 pub record Plain : Type 0 where
   pub factor : List Float
   pub size : ℕ
@@ -41,6 +43,7 @@ pub record Plain : Type 0 where
   pub last : Float
   pub stage : Stage
   pub status : ℕ
+  pub standing : ℕ
 
 -- "the arguments of .. each sweep and finish call except the contents of run record and factor; lengths of lent slices are included, and each
 -- call may bring another table"
@@ -66,7 +69,7 @@ pub data Call : Type 0 where
 -- ---- open
 
 -- "Open makes the start's factor, takes the settings, rank 0 as the number it means, sets sweeps done and status to 0, the stage as above, the
--- last objective by 000."
+-- last objective by 000."; "an accepted open, which sets it to 0"
 unfoldable pub plainOpen : Settings → Plain
 plainOpen o =
     record {
@@ -82,6 +85,7 @@ plainOpen o =
       last = workObjective (signTableOf (o .table)) (openRank o) (startFactor o);
       stage = cond (eqb (o .most) 0) Stopped Open;
       status = 0;
+      standing = 0;
     }
 
 -- ---- one sweep; the call's table has its diagonal set aside
@@ -90,7 +94,11 @@ plainOpen o =
 unfoldable pub sweptFactor : Work → Plain → List Float
 sweptFactor w p = stepped (p .rule) (w .rows) (w .cols) (w .values) (w .starts) (p .size) (p .rank) (p .factor)
 
--- "sweeps done rise by 1"
+-- of its rows those that it leaves as they were, under rules 3 and 4
+unfoldable pub rowsLeft : Work → Plain → ℕ
+rowsLeft w p = standingIn (p .rule) (w .cols) (w .values) (w .starts) (p .size) (p .rank) (p .factor)
+
+-- "sweeps done rise by 1"; the total rises by the rows left
 unfoldable pub swept : Work → Plain → Plain
 swept w p =
     record {
@@ -106,11 +114,12 @@ swept w p =
       last = p .last;
       stage = p .stage;
       status = p .status;
+      standing = p .standing + rowsLeft w p;
     }
 
 -- the state with another last objective, stage and status
-abbrev pub standing : Plain → Float → Stage → ℕ → Plain
-standing p last stage status =
+abbrev pub withStop : Plain → Float → Stage → ℕ → Plain
+withStop p last stage status =
     record {
       factor = p .factor;
       size = p .size;
@@ -124,6 +133,7 @@ standing p last stage status =
       last = last;
       stage = stage;
       status = status;
+      standing = p .standing;
     }
 
 -- what a check looks at: the objective, and the rest that its stop tests take
@@ -149,8 +159,8 @@ foundStatus w p = verdict (lookAt w p)
 
 -- a check keeps its objective; a status above 0 stops the run with it
 abbrev pub stops : ℕ → Float → Plain → Plain
-stops zero new p = standing p new (p .stage) (p .status)
-stops (suc status) new p = standing p new Stopped (suc status)
+stops zero new p = withStop p new (p .stage) (p .status)
+stops (suc status) new p = withStop p new Stopped (suc status)
 
 -- "a check that is due acts as above"
 unfoldable pub checked : Work → Plain → Plain
@@ -158,7 +168,7 @@ checked w p = cond (isDue (p .sweeps) (p .minimum) (p .most)) (stops (foundStatu
 
 -- "at the most the stage is stopped"
 unfoldable pub atMost : Plain → Plain
-atMost p = cond (eqb (p .sweeps) (p .most)) (standing p (p .last) Stopped (p .status)) p
+atMost p = cond (eqb (p .sweeps) (p .most)) (withStop p (p .last) Stopped (p .status)) p
 
 -- "Sweep, while open and fewer than k are made in this call"
 abbrev pub ifOpen : Stage → Plain → Plain → Plain
@@ -186,6 +196,7 @@ recordOf p =
       minimum = p .minimum;
       stage = p .stage;
       status = p .status;
+      standing = p .standing;
     }
 
 abbrev pub lengthsOf : FinishCall → FinishLengths
@@ -227,7 +238,8 @@ givenBy p (finish f) = some (finishOf p f)
 
 -- ---- a list of calls
 
--- what is seen of a call: its number; the run record after it, so sweeps done, stage and status, and the factor; and what an accepted finish gave
+-- what is seen of a call: its number; the run record after it, so sweeps done, stage, status and rows left standing, and the factor; and what an
+-- accepted finish gave
 pub record Seen : Type 0 where
   pub number : ℕ
   pub run : Run

@@ -13,7 +13,7 @@ pub struct Swept {
     pub number: u8,
 }
 
-// What a finish gives; the choice and the multipliers are in the slices lent for them. Floor and costs are in eighths.
+// What a finish gives; the choice and the multipliers are in the slices lent for them. Floor and costs are in eighths; standing is the record's.
 pub struct FinishResult {
     pub status: u8,
     pub rank: usize,
@@ -25,6 +25,7 @@ pub struct FinishResult {
     pub rounded_cost: i64,
     pub cost: i64,
     pub rounds: u64,
+    pub standing: u64,
 }
 
 pub enum Finished {

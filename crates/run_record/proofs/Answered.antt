@@ -26,7 +26,7 @@ use Rattle.run_record.specs.declared.Stage.the-variants.{Open, Stopped}
 use Rattle.run_record.specs.declared.Run.{Run}
 use Rattle.run_record.specs.CostTable.{CostTable, quadratic, linear}
 use Rattle.run_record.specs.Numbers.{isStopped, tableShort, factorRefused, factorShort, ownFaults, ownRefused, recordRefused, costTableNumber, badMomentum, sweepShort, sweepNumber, drawsRefused, drawsShort, choiceShort, FinishLengths, finishShort, widthRefused, finishNumber, openRankRefused, startShort, openFactorShort, openShort, ruleRefused, openNumber}
-use Rattle.run_record.specs.Conditions.{Clause, Answered, BadSize, wagons-above, entries-above, BadEntry, row-out, column-out, out-of-order, Unmirrored, TooLarge, tableClauses, BadRank, rank-high, rank-missing, Finite, Momentum, BadRule, rule-above, no-momentum, BadMomentum, BadDraws, width-above, draws-none, draws-above, OwnFault, rank-none, rank-above, sweeps-above, most-while-open, status-above, status-while-open, BadRecord, sizes-disagree, own-fault, TableTooShort, rows-short, cols-short, values-short, costs-short, FactorTooShort, DrawsTooShort, SweepTooShort, sweep-table, sweep-factor, FinishTooShort, finish-table, finish-draws, finish-factor, finish-b, finish-dual, finish-workspace, OpenTooShort, open-table, open-start, open-factor, openClauses, sweepClauses, finishClauses}
+use Rattle.run_record.specs.Conditions.{Clause, Answered, BadSize, wagons-above, entries-above, BadEntry, row-out, column-out, out-of-order, Unmirrored, TooLarge, tableClauses, BadRank, rank-high, rank-missing, Finite, Momentum, BadRule, rule-above, no-momentum, BadMomentum, BadDraws, width-above, draws-none, draws-above, OwnFault, rank-none, rank-above, sweeps-above, most-while-open, status-above, status-while-open, total-above, BadRecord, sizes-disagree, own-fault, TableTooShort, rows-short, cols-short, values-short, costs-short, FactorTooShort, DrawsTooShort, SweepTooShort, sweep-table, sweep-factor, FinishTooShort, finish-table, finish-draws, finish-factor, finish-b, finish-dual, finish-workspace, OpenTooShort, open-table, open-start, open-factor, openClauses, sweepClauses, finishClauses}
 use Rattle.run_record.proofs.Deciding.{Decides, reads, stable, less, at-most, equal, neither, both, either, or-else, and-then, none-left, DecidesAny, reads-any, one-or, some-below, too-short, Follows, ends, then-if, flat, answered, of-number}
 
 -- ---- 13 to 16
@@ -202,7 +202,7 @@ module _ (run : Run) where
   abbrev Faults : Type 0
   Faults =
       (run .rank ≡ 0) ⊎ (mostRank < run .rank) ⊎ (run .most < run .sweeps) ⊎ ((run .stage ≡ Open) × (run .sweeps ≡ run .most))
-      ⊎ (2 < run .status) ⊎ ((run .stage ≡ Open) × (run .status ≡ 0 → ⊥)) ⊎ ⊥
+      ⊎ (2 < run .status) ⊎ ((run .stage ≡ Open) × (run .status ≡ 0 → ⊥)) ⊎ (run .size * run .sweeps < run .standing) ⊎ ⊥
 
   fault-read : Faults → OwnFault run
   fault-read (inl z) = rank-none z
@@ -211,7 +211,8 @@ module _ (run : Run) where
   fault-read (inr (inr (inr (inl (o, e))))) = most-while-open o e
   fault-read (inr (inr (inr (inr (inl l))))) = status-above l
   fault-read (inr (inr (inr (inr (inr (inl (o, n))))))) = status-while-open o n
-  fault-read (inr (inr (inr (inr (inr (inr x)))))) = absurd x
+  fault-read (inr (inr (inr (inr (inr (inr (inl l))))))) = total-above l
+  fault-read (inr (inr (inr (inr (inr (inr (inr x))))))) = absurd x
 
   fault-back : OwnFault run → Faults
   fault-back (rank-none z) = inl z
@@ -220,13 +221,14 @@ module _ (run : Run) where
   fault-back (most-while-open o e) = inr (inr (inr (inl (o, e))))
   fault-back (status-above l) = inr (inr (inr (inr (inl l))))
   fault-back (status-while-open o n) = inr (inr (inr (inr (inr (inl (o, n))))))
+  fault-back (total-above l) = inr (inr (inr (inr (inr (inr (inl l))))))
 
   faults-decided : DecidesAny (ownFaults run) (OwnFault run)
   faults-decided =
       reads-any fault-read fault-back
       (one-or (equal (run .rank) 0) (one-or (less mostRank (run .rank)) (one-or (less (run .most) (run .sweeps))
       (one-or (both (open-decided (run .stage)) (equal (run .sweeps) (run .most))) (one-or (less 2 (run .status))
-      (one-or (both (open-decided (run .stage)) (neither (equal (run .status) 0))) none-left))))))
+      (one-or (both (open-decided (run .stage)) (neither (equal (run .status) 0))) (one-or (less (run .size * run .sweeps) (run .standing)) none-left)))))))
 
   -- 33 of the record alone
   pub own-decided : Decides (ownRefused run) (OwnFault run)

@@ -120,7 +120,7 @@ pub data BadDraws (width drawCount : ℕ) : Type 0 where
 -- ---- 33
 
 -- what the record alone says: "the record's rank is 0 or above 32, its sweeps done are above the most, or at the most while open, its status is
--- above 2, or not 0 while open"
+-- above 2, or not 0 while open"; and 02's Note 2: "A record whose total is above m times its sweeps done"
 pub data OwnFault (run : Run) : Type 0 where
   rank-none : run .rank ≡ 0 → OwnFault run
   rank-above : mostRank < run .rank → OwnFault run
@@ -128,6 +128,7 @@ pub data OwnFault (run : Run) : Type 0 where
   most-while-open : run .stage ≡ Open → run .sweeps ≡ run .most → OwnFault run
   status-above : 2 < run .status → OwnFault run
   status-while-open : run .stage ≡ Open → (run .status ≡ 0 → ⊥) → OwnFault run
+  total-above : run .size * run .sweeps < run .standing → OwnFault run
 
 -- "run record and table disagree in size", or that
 pub data BadRecord (run : Run) (n : ℕ) : Type 0 where

@@ -37,7 +37,7 @@ factorRefused n size rank = anyOf (ltb mostWagons n ∷ not (eqb size (n + 1)) �
 unfoldable pub factorShort : ℕ → ℕ → ℕ → ℕ → Bool
 factorShort n size rank lent = short (factorRefused n size rank) (size * rank) lent
 
--- 33 of the record alone: its rank, its sweeps done, its status
+-- 33 of the record alone: its rank, its sweeps done, its status, its rows left standing
 abbrev pub ownFaults : Run → List Bool
 ownFaults run =
     eqb (run .rank) 0
@@ -46,6 +46,7 @@ ownFaults run =
     ∷ (not (isStopped (run .stage)) && eqb (run .sweeps) (run .most))
     ∷ ltb 2 (run .status)
     ∷ (not (isStopped (run .stage)) && not (eqb (run .status) 0))
+    ∷ ltb (run .size * run .sweeps) (run .standing)
     ∷ []
 
 unfoldable pub ownRefused : Run → Bool

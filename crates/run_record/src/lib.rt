@@ -13,7 +13,8 @@ pub enum Stage {
     Stopped,
 }
 
-// The run record of 01: most and minimum are the sweep limits; status is 0 until a check stops the run with 1 or 2.
+// The run record of 01: most and minimum are the sweep limits; status is 0 until a check stops the run with 1 or 2; standing is the total, over all
+// sweeps under rules 3 and 4, of the rows that a sweep left as they were.
 pub struct Run {
     pub size: usize,
     pub rank: usize,
@@ -26,6 +27,7 @@ pub struct Run {
     pub minimum: u32,
     pub stage: Stage,
     pub status: u8,
+    pub standing: u64,
 }
 
 // What an open is asked for: rank 0 is the default rank, rule and start are 01's numbers, `number` is the rule's.

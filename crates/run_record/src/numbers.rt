@@ -1,6 +1,8 @@
 // The number that each call answers: the first in 01's order whose condition holds, 0 where none does.
 ghost use mathlib.Core.Path.{_≡_};
 ghost use mathlib.Core.Bool.{false};
+ghost use Prim.Native.Nat.{_*_};
+ghost use lib.Dec.{ltb};
 ghost use Rattle.run_record.specs.CostTable.{costTable};
 ghost use Rattle.run_record.specs.Lengths.{lengthsOf};
 ghost use Rattle.run_record.specs.Numbers.{tableShort, ownRefused, recordRefused, costTableNumber, badMomentum, sweepNumber, drawsRefused, widthRefused, finishNumber, ruleRefused, openNumber};
@@ -18,6 +20,19 @@ use limits::MOST_RANK;
 use limits::MOST_WIDTH;
 use run_limits::is_momentum;
 use step_rules::StepRule;
+
+// Whether the rows left standing are more than the size times the sweeps done; that product isn't made, since a word may not hold it.
+fn standing_above(standing: u64, size: usize, sweeps: u32) -> bool
+    ensures { λ r. ⌜ r ≡ ltb (size * sweeps) standing ⌝ }
+{
+    if standing == 0 {
+        return false;
+    }
+    if sweeps == 0 {
+        return true;
+    }
+    size as u64 <= (standing - 1) / sweeps as u64
+}
 
 // Whether no run of any size can have this record.
 fn own_refused(run: Run) -> bool
@@ -39,7 +54,10 @@ fn own_refused(run: Run) -> bool
     if 2 < run.status {
         return true;
     }
-    open_and(stage, run.status != 0)
+    if open_and(stage, run.status != 0) {
+        return true;
+    }
+    standing_above(run.standing, run.size, run.sweeps)
 }
 
 // Whether no run of n wagons can have this record.

@@ -1,8 +1,10 @@
 -- One turn of the loop over sweeps: a stopped run stays, an open one goes on with one sweep fewer. Assumes nothing.
-use Prim.Native.Nat.{ℕ, zero, suc, _+_, _-_, _<_}
+use Prim.Native.Nat.{ℕ, zero, suc, _+_, _-_, _*_, _≤_, _<_}
 use mathlib.Core.Path.{_≡_, refl, sym, ap, subst, _∙_}
 use mathlib.Core.Bool.{Bool, true, false, not, cond}
 use mathlib.Core.List.{List, [], _∷_}
+use native.Mathlib.Nat.{mul-suc}
+use native.Mathlib.Numerals.{add-one}
 use native.Mathlib.Omega.{arith}
 use lib.Dec.{eqb}
 use lib.Ieee.{Float}
@@ -13,9 +15,10 @@ use Rattle.run_record.specs.declared.Stage.the-variants.{Open, Stopped}
 use Rattle.run_record.specs.declared.Run.{Run}
 use Rattle.laws.specs.Refusal.{anyOf}
 use Rattle.factor.specs.Shapes.{Shaped}
+use Rattle.step_rules.proofs.Standing.{standing-in-few}
 use Rattle.run_record.specs.Numbers.{isStopped}
 use Rattle.run_sweep.specs.Work.{Work}
-use Rattle.run_sweep.specs.Sweep.{State, whileOpen, statusFound, stageAfter, advanced, runAfter, sweptOnce, sweepsUpTo}
+use Rattle.run_sweep.specs.Sweep.{State, whileOpen, statusFound, stageAfter, advanced, runAfter, sweptOnce, standingOnce, sweepsUpTo}
 use Rattle.run_sweep.specs.Running.{Running, Sweepable}
 
 stays : (stage : Stage) (next last : State) → isStopped stage ≡ true → whileOpen stage next last ≡ last
@@ -37,7 +40,7 @@ module _ (w : Work) (run : Run) (factor : List Float) where
   sweeps-stop (suc k) e = stays (run .stage) _ _ e
 
   pub sweeps-next : (k made : ℕ) → made < k → isStopped (run .stage) ≡ false
-      → sweepsUpTo (k - made) w run factor ≡ sweepsUpTo (k - (made + 1)) w (runAfter run w (sweptOnce w run factor)) (sweptOnce w run factor)
+      → sweepsUpTo (k - made) w run factor ≡ sweepsUpTo (k - (made + 1)) w (runAfter run w (sweptOnce w run factor) (standingOnce w run factor)) (sweptOnce w run factor)
   unfolding sweepsUpTo
   sweeps-next k made l e =
       let one : k - made ≡ suc (k - (made + 1)) = omega arith in
@@ -57,12 +60,20 @@ full-stops found true stage e = absurd (at-most (eqb found 0) stage e)
 more : (a b : ℕ) → a < b → (a + 1 ≡ b → ⊥) → a + 1 < b
 more a b h n = omega arith
 
--- so an open run has a sweep left, after each sweep too
-pub running-after : (run : Run) (w : Work) (factor : List Float) → run .sweeps < run .most → Running (runAfter run w factor)
+one-more : (standing size sweeps left : ℕ) → standing ≤ size * sweeps → left ≤ size → standing + left ≤ size * (sweeps + 1)
+one-more standing size sweeps left l m = let s : size * (sweeps + 1) ≡ size * sweeps + size = rw (add-one sweeps) (mul-suc size sweeps) in omega arith
+
+-- so an open run has a sweep left, after each sweep too, and at most all rows stand
+pub running-after : (run : Run) (w : Work) (factor : List Float) (left : ℕ) → run .sweeps < run .most → run .standing ≤ run .size * run .sweeps → left ≤ run .size
+    → Running (runAfter run w factor left)
 unfolding runAfter advanced
-running-after run w factor l open′ =
-    more (run .sweeps) (run .most) l
-    (eqb-false (run .sweeps + 1) (run .most) (full-stops (statusFound run w factor) (eqb (run .sweeps + 1) (run .most)) (run .stage) open′))
+running-after run w factor left l s m =
+    record {
+      sweep-left = λ open′.
+          more (run .sweeps) (run .most) l
+          (eqb-false (run .sweeps + 1) (run .most) (full-stops (statusFound run w factor) (eqb (run .sweeps + 1) (run .most)) (run .stage) open′));
+      standing-few = one-more (run .standing) (run .size) (run .sweeps) left s m;
+    }
 
 -- nothing made yet
 pub sweeps-all : (k : ℕ) (w : Work) (run : Run) (factor : List Float) → sweepsUpTo (k - 0) w run factor ≡ sweepsUpTo k w run factor
@@ -74,15 +85,27 @@ sweeps-made k made w run factor e = let none : k - made ≡ 0 = omega arith in a
 
 -- a turn: what is left to do from the record and the factor that it leaves is what was left
 pub turn : (w : Work) (k made : ℕ) (run run′ : Run) (factor factor′ : List Float) (whole : State)
-    → made < k → isStopped (run .stage) ≡ false → run .sweeps < run .most → factor′ ≡ sweptOnce w run factor → run′ ≡ runAfter run w factor′
+    → made < k → isStopped (run .stage) ≡ false → run .sweeps < run .most → run .standing ≤ run .size * run .sweeps
+    → factor′ ≡ sweptOnce w run factor → run′ ≡ runAfter run w factor′ (standingOnce w run factor)
     → sweepsUpTo (k - made) w run factor ≡ whole
     → (Running run′) × (sweepsUpTo (k - (made + 1)) w run′ factor′ ≡ whole)
-turn w k made run run′ factor factor′ whole l open′ left swept after inv = (
-  subst (λ (r : Run). Running r) (sym after) (running-after run w factor′ left),
+turn w k made run run′ factor factor′ whole l open′ left few swept after inv = (
+  subst (λ (r : Run). Running r) (sym after)
+      (running-after run w factor′ (standingOnce w run factor) left few (standing-in-few (run .rule) (w .cols) (w .values) (w .starts) (run .size) (run .rank) factor)),
   ap (λ (r : Run). sweepsUpTo (k - (made + 1)) w r factor′) after
-      ∙ ap (λ (v : List Float). sweepsUpTo (k - (made + 1)) w (runAfter run w v) v) swept
+      ∙ ap (λ (v : List Float). sweepsUpTo (k - (made + 1)) w (runAfter run w v (standingOnce w run factor)) v) swept
       ∙ sym (sweeps-next w run factor k made l open′) ∙ inv,
 )
+
+-- the record after a sweep, by the factor as the sweep left it
+pub after-factor : (run : Run) (w : Work) (left : ℕ) {run′ : Run} {factor factor′ : List Float} → run′ ≡ runAfter run w factor left → factor′ ≡ factor
+    → run′ ≡ runAfter run w factor′ left
+after-factor run w left e f = e ∙ ap (λ (v : List Float). runAfter run w v left) (sym f)
+
+-- and by the rows that it left
+pub after-left : (run : Run) (w : Work) (factor : List Float) {run′ : Run} {left left′ : ℕ} → run′ ≡ runAfter run w factor left → left′ ≡ left
+    → run′ ≡ runAfter run w factor left′
+after-left run w factor e f = e ∙ ap (λ (n : ℕ). runAfter run w factor n) (sym f)
 
 -- a factor of the same length is of the same shape
 pub reshaped : {cols : List ℕ} {values : List Float} {starts : List ℕ} {factor factor′ : List Float} {m rank : ℕ} → Shaped cols values starts factor m rank → length factor′ ≡ length factor
@@ -91,11 +114,11 @@ reshaped s l =
     record { paired = s .paired; started = s .started; rising = s .rising; ended = s .ended; columns = s .columns; whole = l ∙ s .whole }
 
 -- a sweep leaves size and rank, and lengths: it can go on
-pub still : {w : Work} (run : Run) {run′ : Run} {factor factor′ : List Float} {product moved dual product′ moved′ dual′ : ℕ} → run′ ≡ runAfter run w factor′
+pub still : {w : Work} (run : Run) (left : ℕ) {run′ : Run} {factor factor′ : List Float} {product moved dual product′ moved′ dual′ : ℕ} → run′ ≡ runAfter run w factor′ left
     → length factor′ ≡ length factor → product′ ≡ product → moved′ ≡ moved → dual′ ≡ dual
     → Sweepable w (run .size) (run .rank) factor product moved dual → Sweepable w (run′ .size) (run′ .rank) factor′ product′ moved′ dual′
 unfolding runAfter advanced
-still {w} run {run′} {factor} {factor′} {product} {moved} {dual} {product′} {moved′} {dual′} e l ep em ed s =
+still {w} run left {run′} {factor} {factor′} {product} {moved} {dual} {product′} {moved′} {dual′} e l ep em ed s =
     subst (λ (r : Run). Sweepable w (r .size) (r .rank) factor′ product′ moved′ dual′) (sym e)
     (record {
       shaped = reshaped (s .shaped) l;
@@ -104,4 +127,5 @@ still {w} run {run′} {factor} {factor′} {product} {moved} {dual} {product′
       moved-is = em ∙ s .moved-is;
       dual-is = ed ∙ s .dual-is;
       some = s .some;
+      few = s .few;
     })

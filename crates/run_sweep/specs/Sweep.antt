@@ -10,7 +10,7 @@ use Rattle.run_record.specs.declared.Run.{Run}
 use Rattle.laws.specs.Refusal.{first, _if_, anyOf}
 use Rattle.ieee.specs.Floats.{_-ᶠ_, zero64}
 use Rattle.maxcut_oracle.specs.Check.{checkObjective, checkResidual, checkThreshold}
-use Rattle.step_rules.specs.Rule.{testsObjective, stepped}
+use Rattle.step_rules.specs.Rule.{testsObjective, stepped, standingIn}
 use Rattle.run_sweep.specs.Work.{Work}
 
 -- a check is due at sweep 1, the minimum, the most and every 20th
@@ -61,9 +61,9 @@ stageAfter found full stage = cond (anyOf (not (eqb found 0) ∷ full ∷ [])) S
 unfoldable pub statusAfter : ℕ → ℕ → ℕ
 statusAfter found status = cond (eqb found 0) status found
 
--- the record after one more sweep, with the last objective and the status that it brings
-unfoldable pub advanced : Run → Float → ℕ → Run
-advanced run last found =
+-- the record after one more sweep, with the last objective, the status and the rows left standing that it brings
+unfoldable pub advanced : Run → Float → ℕ → ℕ → Run
+advanced run last found left =
     record {
       size = run .size;
       rank = run .rank;
@@ -76,11 +76,12 @@ advanced run last found =
       minimum = run .minimum;
       stage = stageAfter found (eqb (run .sweeps + 1) (run .most)) (run .stage);
       status = statusAfter found (run .status);
+      standing = run .standing + left;
     }
 
--- the record after one more sweep, which left this factor
-unfoldable pub runAfter : Run → Work → List Float → Run
-runAfter run w factor = advanced run (lastAfter run w factor) (statusFound run w factor)
+-- the record after one more sweep, which left this factor and so many rows as they were
+unfoldable pub runAfter : Run → Work → List Float → ℕ → Run
+runAfter run w factor left = advanced run (lastAfter run w factor) (statusFound run w factor) left
 
 -- record and factor
 pub record State : Type 0 where
@@ -95,10 +96,14 @@ whileOpen Stopped next last = last
 abbrev pub sweptOnce : Work → Run → List Float → List Float
 sweptOnce w run factor = stepped (run .rule) (w .rows) (w .cols) (w .values) (w .starts) (run .size) (run .rank) factor
 
+-- and the rows that it leaves as they were
+abbrev pub standingOnce : Work → Run → List Float → ℕ
+standingOnce w run factor = standingIn (run .rule) (w .cols) (w .values) (w .starts) (run .size) (run .rank) factor
+
 -- up to so many sweeps over the table
 unfoldable pub sweepsUpTo : ℕ → Work → Run → List Float → State
 sweepsUpTo zero w run factor = record { run = run; factor = factor }
 sweepsUpTo (suc k) w run factor =
     whileOpen (run .stage)
-    (sweepsUpTo k w (runAfter run w (sweptOnce w run factor)) (sweptOnce w run factor))
+    (sweepsUpTo k w (runAfter run w (sweptOnce w run factor) (standingOnce w run factor)) (sweptOnce w run factor))
     (record { run = run; factor = factor })

@@ -8,6 +8,7 @@ ghost use lib.ListN.{length};
 ghost use Rattle.factor.specs.Shapes.{Shaped};
 ghost use Rattle.step_rules.specs.Rule.{testsObjective};
 ghost use Rattle.run_sweep.specs.Work.{work};
+ghost use Rattle.run_sweep.specs.Running.{Countable};
 ghost use Rattle.run_sweep.specs.Sweep.{checkDue, absolute, stopStatus, stageAfter, statusAfter, advanced, runAfter};
 use run_record::Run;
 use run_record::Stage;
@@ -80,10 +81,10 @@ fn status_after(found: u8, status: u8) -> u8
     if found == 0 { status } else { found }
 }
 
-// The record after one more sweep.
-fn advanced(run: Run, last_objective: f64, found: u8) -> Run
-    requires { ⌜ run .sweeps < run .most ⌝ }
-    ensures { λ r. ⌜ r ≡ advanced run «last_objective» found ⌝ }
+// The record after one more sweep, which left so many rows as they were.
+fn advanced(run: Run, last_objective: f64, found: u8, left: usize) -> Run
+    requires { ⌜ (run .sweeps < run .most) × Countable run left ⌝ }
+    ensures { λ r. ⌜ r ≡ advanced run «last_objective» found left ⌝ }
 {
     let before = run.stage;
     let rule = run.rule;
@@ -102,13 +103,15 @@ fn advanced(run: Run, last_objective: f64, found: u8) -> Run
         minimum: run.minimum,
         stage,
         status,
+        standing: run.standing + left as u64,
     }
 }
 
-// The record after one more sweep, which left this factor; `tests` says whether the rule tests the objective.
+// The record after one more sweep, which left this factor and so many rows as they were; `tests` says whether the rule tests the objective.
 pub fn run_after(
     run: Run,
     tests: bool,
+    left: usize,
     rows: &[u16],
     cols: &[u16],
     values: &[f64],
@@ -117,8 +120,9 @@ pub fn run_after(
     product: &mut [f64],
     dual: &mut [f64],
 ) -> Run
+    requires { ⌜ Countable run left ⌝ }
     requires { ⌜ (run .sweeps < run .most) × (tests ≡ testsObjective (run .rule)) × Shaped (now cols) (now values) (now starts) (now factor) (run .size) (run .rank) × (length (now product) ≡ run .size * run .rank) × (length (now dual) ≡ run .size) ⌝ }
-    ensures { λ r. ⌜ r ≡ runAfter run (work (now (rows .entry)) (now (cols .entry)) (now (values .entry)) (now (starts .entry))) (now (factor .entry)) ⌝ }
+    ensures { λ r. ⌜ r ≡ runAfter run (work (now (rows .entry)) (now (cols .entry)) (now (values .entry)) (now (starts .entry))) (now (factor .entry)) left ⌝ }
 {
     let sweeps = run.sweeps + 1;
     if check_due(sweeps, run.minimum, run.most) {
@@ -144,7 +148,7 @@ pub fn run_after(
             run.last_objective,
             seen.objective,
         );
-        return advanced(run, seen.objective, found);
+        return advanced(run, seen.objective, found, left);
     }
-    advanced(run, run.last_objective, 0)
+    advanced(run, run.last_objective, 0, left)
 }

@@ -3,10 +3,10 @@
 pub mod check;
 
 ghost use mathlib.Core.Path.{_≡_};
-ghost use Prim.Native.Nat.{_<_};
+ghost use Prim.Native.Nat.{_*_, _≤_, _<_};
 ghost use lib.ListN.{length};
 ghost use Rattle.run_sweep.specs.Work.{work};
-ghost use Rattle.run_sweep.specs.Sweep.{sweptOnce, runAfter, sweepsUpTo};
+ghost use Rattle.run_sweep.specs.Sweep.{sweptOnce, standingOnce, runAfter, sweepsUpTo};
 ghost use Rattle.run_sweep.specs.Running.{Running, Sweepable};
 use check::run_after;
 use run_record::Run;
@@ -24,14 +24,17 @@ fn sweep_on(
     moved: &mut [f64],
     dual: &mut [f64],
 ) -> Run
-    requires { ⌜ (run .sweeps < run .most) × Sweepable (work (now rows) (now cols) (now values) (now starts)) (run .size) (run .rank) (now factor) (length (now product)) (length (now moved)) (length (now dual)) ⌝ }
-    ensures { λ r. ⌜ (r ≡ runAfter run (work (now (rows .entry)) (now (cols .entry)) (now (values .entry)) (now (starts .entry))) (sweptOnce (work (now (rows .entry)) (now (cols .entry)) (now (values .entry)) (now (starts .entry))) run (now (factor .entry))))
+    requires { ⌜ (run .sweeps < run .most) × (run .standing ≤ run .size * run .sweeps) ⌝ }
+    requires { ⌜ Sweepable (work (now rows) (now cols) (now values) (now starts)) (run .size) (run .rank) (now factor) (length (now product)) (length (now moved)) (length (now dual)) ⌝ }
+    ensures { λ r. ⌜ (r ≡ runAfter run (work (now (rows .entry)) (now (cols .entry)) (now (values .entry)) (now (starts .entry)))
+        (sweptOnce (work (now (rows .entry)) (now (cols .entry)) (now (values .entry)) (now (starts .entry))) run (now (factor .entry)))
+        (standingOnce (work (now (rows .entry)) (now (cols .entry)) (now (values .entry)) (now (starts .entry))) run (now (factor .entry))))
         × (now (factor .exit) ≡ sweptOnce (work (now (rows .entry)) (now (cols .entry)) (now (values .entry)) (now (starts .entry))) run (now (factor .entry))) ⌝ }
 {
     let rule = run.rule;
     let m = run.size;
     let rank = run.rank;
-    let tests = step_rules::step(
+    let answer = step_rules::step(
         rule,
         rows,
         cols,
@@ -45,7 +48,8 @@ fn sweep_on(
     );
     run_after(
         run,
-        tests,
+        answer.tests,
+        answer.standing,
         rows,
         cols,
         values,

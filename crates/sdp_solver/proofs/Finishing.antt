@@ -38,6 +38,7 @@ module _ (run : Run) (t : CostTable) (width drawCount : ℕ) (draws factor : Lis
         «rounded_cost» = rounded;
         cost = cost;
         rounds = rounds;
+        standing = run .standing;
       }
 
   accepted : Finishable run t width drawCount (finishLengths draws factor b dual workspace)

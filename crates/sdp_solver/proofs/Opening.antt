@@ -35,6 +35,7 @@ madeRun o rank rule last stage =
       minimum = o .minimum;
       stage = stage;
       status = 0;
+      standing = 0;
     }
 
 start-is : (o : Settings) → startBy (isSigns (o .start)) (drawsFollow (o .most) (openRank o)) (openRank o) (openSize o) (o .numbers) ≡ startFactor o

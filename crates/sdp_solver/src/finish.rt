@@ -61,6 +61,7 @@ pub fn finish_accepted(
         rounded_cost: figures.rounded_cost,
         cost: figures.cost,
         rounds: figures.rounds,
+        standing: run.standing,
     }
 }
 

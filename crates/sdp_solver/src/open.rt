@@ -112,6 +112,7 @@ pub fn open_accepted(
         minimum: asked.minimum,
         stage,
         status: 0,
+        standing: 0,
     }
 }
 

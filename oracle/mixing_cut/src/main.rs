@@ -19,6 +19,7 @@ mod reduced;
 mod refusals;
 mod run;
 mod search;
+mod standing;
 mod table;
 mod trace;
 mod words;

@@ -13,6 +13,7 @@ use crate::sdp_solver::inside_solver::{
 };
 use crate::sdp_solver::qubo_binary_from_sign_solution;
 use crate::search::search;
+use crate::standing::rows_left;
 use crate::step_rules::apply_step;
 use crate::table::{choice_bytes, eighths, Table};
 use ndarray::{Array1, Array2};
@@ -40,6 +41,8 @@ pub struct Run {
     pub most: u32,
     pub stage: Stage,
     pub status: u8,
+    /// Rows left as they were, over all sweeps under rules 3 and 4.
+    pub standing: u64,
 }
 
 /// What a due check found.
@@ -92,6 +95,7 @@ pub fn open(q: &CsMat<f64>, settings: &Settings, numbers: &[f64]) -> (Run, Array
         most: settings.most,
         stage: if settings.most == 0 { Stage::Stopped } else { Stage::Open },
         status: 0,
+        standing: 0,
     };
     (run, factor)
 }
@@ -103,8 +107,13 @@ pub fn sweep_once(
     factor: Array2<f64>,
 ) -> (Array2<f64>, Option<Check>) {
     assert_eq!(run.stage, Stage::Open, "only an open run sweeps");
-    let factor = apply_step(work, factor, step_rule(run.rule, run.number));
+    let rule = step_rule(run.rule, run.number);
+    let before = factor.clone();
+    let factor = apply_step(work, factor, rule);
     run.sweeps += 1;
+    if run.rule >= 3 {
+        run.standing += rows_left(work, &before, rule, &factor);
+    }
     let due = run.sweeps == 1
         || run.sweeps == run.minimum
         || run.sweeps == run.most

@@ -112,6 +112,7 @@ impl Script {
                 other => return Err(format!("{other} is no stage")),
             },
             status: byte(words)?,
+            standing: words.word()?,
         };
         if run.rule > 4 {
             return Err(format!("{} is no rule", run.rule));
@@ -251,6 +252,7 @@ fn number33(run: &Run, table: &Lent) -> bool {
         || (open && run.sweeps == run.most)
         || run.status > 2
         || (open && run.status != 0)
+        || u128::from(run.standing) > run.size as u128 * u128::from(run.sweeps)
 }
 
 fn sweep_number(run: &Run, table: &Lent, factor: usize) -> u8 {
@@ -315,6 +317,7 @@ fn put_run(out: &mut Out, run: &Run) {
     out.word(u64::from(run.most));
     out.word(u64::from(run.stage == Stage::Stopped));
     out.word(u64::from(run.status));
+    out.word(run.standing);
 }
 
 fn put_finish(out: &mut Out, run: &Run, finish: &Finish) {
@@ -328,6 +331,7 @@ fn put_finish(out: &mut Out, run: &Run, finish: &Finish) {
     out.whole(finish.rounded_cost);
     out.whole(finish.cost);
     out.count(finish.levels.len());
+    out.word(run.standing);
     out.bytes(&finish.choice);
     out.doubles(finish.dual_variables.iter());
 }

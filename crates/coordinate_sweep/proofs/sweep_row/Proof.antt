@@ -9,11 +9,14 @@ update-at-requires c κs = rw (c .before .before .before .before .before .before
 
 returns : tie.Need-returns
 unfolding sweptRow rowBy
-returns c = (rw (c .before .before .before .before .before .sqrt .ensures, c .before .before .before .before .before .before .squared-norm .ensures, c .before .before .before .before .before .before .before .before .before .before .gradient-at .ensures) at (c .before .before .update-at .ensures .0), (rw (c .before .before .before .before .before .before .before .before .before .before .gradient-at .kept .1 .1 .1 .1 .1 .0, c .before .before .before .before .before .sqrt .ensures, c .before .before .before .before .before .before .squared-norm .ensures, c .before .before .before .before .before .before .before .before .before .before .gradient-at .ensures) at (c .before .before .update-at .ensures .1), c .before .before .before .before .before .before .before .before .before .before .gradient-at .ensures))
+returns c = (
+  rw (c .before .before .before .before .before .before .sqrt .ensures, c .before .before .before .before .before .before .before .squared-norm .ensures, c .before .before .before .before .before .before .before .before .before .before .before .gradient-at .ensures) at (c .writes .ensures),
+  (rw (c .before .before .before .before .before .before .before .before .before .before .before .gradient-at .kept .1 .1 .1 .1 .1 .0, c .before .before .before .before .before .before .sqrt .ensures, c .before .before .before .before .before .before .before .squared-norm .ensures, c .before .before .before .before .before .before .before .before .before .before .before .gradient-at .ensures) at (c .before .before .before .update-at .ensures .1), c .before .before .before .before .before .before .before .before .before .before .before .gradient-at .ensures),
+)
 
 pub sweep-row-spec : {M : Type 1} → statement M
 sweep-row-spec =
     tie.close
     (tie.spec
-    (λ c κs. search needs) (λ c κs. search needs) (λ c κs. search needs) update-at-requires (λ c. search needs)
+    (λ c κs. search needs) (λ c κs. search needs) (λ c κs. search needs) update-at-requires (λ c κs. search needs) (λ c. search needs)
     (λ c. search needs) returns)

@@ -11,8 +11,7 @@ use Rattle.run_record.specs.declared.Run.{Run}
 use Rattle.run_sweep.specs.Work.{work}
 use Rattle.run_sweep.specs.Sweep.{State, sweepsUpTo}
 use Rattle.run_sweep.specs.Running.{Running, Sweepable}
-use Rattle.run_sweep.proofs.Loop.{sweeps-all, sweeps-made, sweeps-stop, turn, still}
-use Rattle.run_sweep.specs.Sweep.{runAfter}
+use Rattle.run_sweep.proofs.Loop.{sweeps-all, sweeps-made, sweeps-stop, after-factor, turn, still}
 
 both : (run : Run) (factor : List Float) (s : State) → _≡_ {A = State} (record { run = run; factor = factor }) s → (run ≡ s .run) × (factor ≡ s .factor)
 both run factor s e = (ap (λ (x : State). x .run) e, ap (λ (x : State). x .factor) e)
@@ -45,7 +44,8 @@ returns : tie.Need-returns Inv-loop μ-loop
 returns c = both _ _ _ (sym (sweeps-stop _ _ _ _ (sym (c .before .is-stopped .ensures) ∙ c .if1 .taken)) ∙ c .before .before .before .loop .inv .7)
 
 sweep-on-requires : tie.Need-sweep-on-requires Inv-loop μ-loop
-sweep-on-requires c κs = (c .before .before .before .before .before .before .before .loop .inv .5 (sym (c .before .before .before .before .before .is-stopped .ensures) ∙ c .before .before .before .before .if1 .left), c .before .before .before .before .before .before .before .loop .inv .6)
+sweep-on-requires c κs =
+    ((c .before .before .before .before .before .before .before .loop .inv .5 .sweep-left (sym (c .before .before .before .before .before .is-stopped .ensures) ∙ c .before .before .before .before .if1 .left), c .before .before .before .before .before .before .before .loop .inv .5 .standing-few), c .before .before .before .before .before .before .before .loop .inv .6)
 
 add-made : tie.Need-add-made Inv-loop μ-loop
 add-made c = omega (arith, c .before .before .before .before .before .before .before .before .before .before .before .before .before .before .before .loop-test .taken, c .before .before .before .before .before .before .before .before .before .before .before .before .before .before .before .before .before .before .before .before .before .before .before .before .before .fits .k)
@@ -56,13 +56,13 @@ loop-less c = omega (arith, c .before .before .before .before .before .before .b
 loop-again : tie.Need-loop-again Inv-loop μ-loop
 loop-again c =
     let open′ = sym (c .before .before .before .before .before .before .before .before .before .before .before .before .before .before .is-stopped .ensures) ∙ c .before .before .before .before .before .before .before .before .before .before .before .before .before .if1 .left in
-    let after = c .before .before .before .before .before .before .before .before .sweep-on .ensures .0 ∙ ap (runAfter _ (work _ _ _ _)) (sym (c .before .before .before .before .before .before .before .before .sweep-on .ensures .1)) in
-    let next = turn _ _ _ _ _ _ _ _ (c .before .before .before .before .before .before .before .before .before .before .before .before .before .before .before .loop-test .taken) open′ (c .before .before .before .before .before .before .before .before .before .before .before .before .before .before .before .before .loop .inv .5 open′) (c .before .before .before .before .before .before .before .before .sweep-on .ensures .1) after (c .before .before .before .before .before .before .before .before .before .before .before .before .before .before .before .before .loop .inv .7) in
+    let after = after-factor _ _ _ (c .before .before .before .before .before .before .before .before .sweep-on .ensures .0) (c .before .before .before .before .before .before .before .before .sweep-on .ensures .1) in
+    let next = turn _ _ _ _ _ _ _ _ (c .before .before .before .before .before .before .before .before .before .before .before .before .before .before .before .loop-test .taken) open′ (c .before .before .before .before .before .before .before .before .before .before .before .before .before .before .before .before .loop .inv .5 .sweep-left open′) (c .before .before .before .before .before .before .before .before .before .before .before .before .before .before .before .before .loop .inv .5 .standing-few) (c .before .before .before .before .before .before .before .before .sweep-on .ensures .1) after (c .before .before .before .before .before .before .before .before .before .before .before .before .before .before .before .before .loop .inv .7) in
     let f = c .before .before .before .before .before .before .before .before .sweep-on .kept .1 .1 .1 .1 .1 .0 in
     let p = c .before .before .before .before .before .before .before .before .sweep-on .kept .1 .1 .1 .1 .1 .1 .0 in
     let v = c .before .before .before .before .before .before .before .before .sweep-on .kept .1 .1 .1 .1 .1 .1 .1 .0 in
     let d = c .before .before .before .before .before .before .before .before .sweep-on .kept .1 .1 .1 .1 .1 .1 .1 .1 .0 in
-    (omega (arith, c .before .before .before .before .before .before .before .before .before .before .before .before .before .before .before .loop-test .taken), f ∙ c .before .before .before .before .before .before .before .before .before .before .before .before .before .before .before .before .loop .inv .1, p ∙ c .before .before .before .before .before .before .before .before .before .before .before .before .before .before .before .before .loop .inv .2, v ∙ c .before .before .before .before .before .before .before .before .before .before .before .before .before .before .before .before .loop .inv .3, d ∙ c .before .before .before .before .before .before .before .before .before .before .before .before .before .before .before .before .loop .inv .4, next .0, still _ after f p v d (c .before .before .before .before .before .before .before .before .before .before .before .before .before .before .before .before .loop .inv .6), next .1)
+    (omega (arith, c .before .before .before .before .before .before .before .before .before .before .before .before .before .before .before .loop-test .taken), f ∙ c .before .before .before .before .before .before .before .before .before .before .before .before .before .before .before .before .loop .inv .1, p ∙ c .before .before .before .before .before .before .before .before .before .before .before .before .before .before .before .before .loop .inv .2, v ∙ c .before .before .before .before .before .before .before .before .before .before .before .before .before .before .before .before .loop .inv .3, d ∙ c .before .before .before .before .before .before .before .before .before .before .before .before .before .before .before .before .loop .inv .4, next .0, still _ _ after f p v d (c .before .before .before .before .before .before .before .before .before .before .before .before .before .before .before .before .loop .inv .6), next .1)
 
 same-length-5 : tie.Need-same-length-5 Inv-loop μ-loop
 same-length-5 c = c .before .loop .inv .1

@@ -7,7 +7,7 @@ use Rattle.exports.proofs.words.run_in.Tie as tie
 
 returns : tie.Need-returns
 unfolding runIn
-returns c = rw (c .before .before .before .before .before .before .before .before .before .before .before .before .before .before .before .before .before .before .rule-in .ensures, c .before .before .before .before .before .before .before .before .before .before .before .before .before .before .before .before .before .before .before .double-of .ensures, c .before .before .before .before .before .before .before .before .before .before .before .before .before .before .before .before .stage-in .ensures, c .before .before .before .before .before .before .before .before .before .before .before .before .count-in .ensures, c .before .before .before .before .before .before .before .before .before .before .double-of2 .ensures, c .before .before .before .before .before .before .before .before .double-of3 .ensures, c .before .before .before .before .before .before .double-of4 .ensures, c .before .before .before .before .count-in2 .ensures, c .before .before .count-in3 .ensures, c .byte-in .ensures) refl
+returns c = rw (c .before .before .before .before .before .before .before .before .before .before .before .before .before .before .before .before .before .before .before .rule-in .ensures, c .before .before .before .before .before .before .before .before .before .before .before .before .before .before .before .before .before .before .before .before .double-of .ensures, c .before .before .before .before .before .before .before .before .before .before .before .before .before .before .before .before .before .stage-in .ensures, c .before .before .before .before .before .before .before .before .before .before .before .before .before .count-in .ensures, c .before .before .before .before .before .before .before .before .before .before .before .double-of2 .ensures, c .before .before .before .before .before .before .before .before .before .double-of3 .ensures, c .before .before .before .before .before .before .before .double-of4 .ensures, c .before .before .before .before .before .count-in2 .ensures, c .before .before .before .count-in3 .ensures, c .before .byte-in .ensures) refl
 
 pub run-in-spec : {M : Type 1} → statement M
 run-in-spec =
@@ -17,4 +17,4 @@ run-in-spec =
     (λ c κs. search needs) (λ c. search needs) (λ c. search needs) (λ c. search needs) (λ c κs. search needs)
     (λ c. search needs) (λ c κs. search needs) (λ c. search needs) (λ c κs. search needs) (λ c. search needs)
     (λ c κs. search needs) (λ c. search needs) (λ c κs. search needs) (λ c. search needs) (λ c κs. search needs)
-    (λ c. search needs) (λ c κs. search needs) returns)
+    (λ c. search needs) (λ c κs. search needs) (λ c. search needs) returns)

@@ -28,7 +28,11 @@ returns-5 c = sym (any-skip _ _ (ne-eqb _ _ (c .before .before .before .before .
 
 returns-6 : tie.Need-returns-6
 unfolding ownRefused
-returns-6 c = c .open-and2 .ensures ∙ sym (any-skip _ _ (ne-eqb _ _ (c .before .before .before .before .before .before .before .before .before .before .before .if1 .left)) ∙ any-skip _ _ (le-ltb _ _ (c .before .before .before .before .before .before .before .before .before .if2 .left)) ∙ any-skip _ _ (le-ltb _ _ (c .before .before .before .before .before .before .before .if3 .left)) ∙ any-skip _ _ (sym (c .before .before .before .before .before .open-and .ensures) ∙ c .before .before .before .before .if4 .left) ∙ any-skip _ _ (le-ltb _ _ (c .before .before .if5 .left)) ∙ any-last _)
+returns-6 c = sym (any-skip _ _ (ne-eqb _ _ (c .before .before .before .before .before .before .before .before .before .before .before .before .if1 .left)) ∙ any-skip _ _ (le-ltb _ _ (c .before .before .before .before .before .before .before .before .before .before .if2 .left)) ∙ any-skip _ _ (le-ltb _ _ (c .before .before .before .before .before .before .before .before .if3 .left)) ∙ any-skip _ _ (sym (c .before .before .before .before .before .before .open-and .ensures) ∙ c .before .before .before .before .before .if4 .left) ∙ any-skip _ _ (le-ltb _ _ (c .before .before .before .if5 .left)) ∙ any-here _ _ (sym (c .before .open-and2 .ensures) ∙ c .if6 .taken))
+
+returns-7 : tie.Need-returns-7
+unfolding ownRefused
+returns-7 c = c .standing-above .ensures ∙ sym (any-skip _ _ (ne-eqb _ _ (c .before .before .before .before .before .before .before .before .before .before .before .before .before .if1 .left)) ∙ any-skip _ _ (le-ltb _ _ (c .before .before .before .before .before .before .before .before .before .before .before .if2 .left)) ∙ any-skip _ _ (le-ltb _ _ (c .before .before .before .before .before .before .before .before .before .if3 .left)) ∙ any-skip _ _ (sym (c .before .before .before .before .before .before .before .open-and .ensures) ∙ c .before .before .before .before .before .before .if4 .left) ∙ any-skip _ _ (le-ltb _ _ (c .before .before .before .before .if5 .left)) ∙ any-skip _ _ (sym (c .before .before .open-and2 .ensures) ∙ c .before .if6 .left) ∙ any-last _)
 
 pub own-refused-spec : {M : Type 1} → statement M
 own-refused-spec =
@@ -41,4 +45,6 @@ own-refused-spec =
     returns-4
     returns-5
     (λ c κs. search needs)
-    returns-6)
+    returns-6
+    (λ c κs. search needs)
+    returns-7)

@@ -34,6 +34,7 @@ sweeps-up-to-requires c κs =
         moved-is = length-take-le _ _ (moved-fits (c .before .before .before .before .before));
         dual-is = length-take-le _ _ (dual-fits (c .before .before .before .before .before));
         some = omega (arith, row);
+        few = p .0 .1;
       },
     )
 
