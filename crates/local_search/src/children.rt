@@ -2,14 +2,17 @@
 use crate::level::insert_child;
 use crate::level::insert_objective;
 use crate::level::insert_row;
+ghost use mathlib.Core.Bool.{false};
 ghost use mathlib.Core.List.{[]};
+ghost use mathlib.Core.Path.{_≡_};
 ghost use Prim.Native.Nat.{suc, _≤_, _<_};
 ghost use lib.ListN.{length, take};
 ghost use Rattle.local_search.specs.Level.{levelOf, Ascending};
 ghost use Rattle.local_search.specs.SignSearch.{improvesC, flipC, childAt};
 ghost use Rattle.local_search.specs.Children.{changeOf, listedChildren, parentOf, Appended, Appends, Expands, Kept};
+ghost use Rattle.local_search.specs.Enters.{enters, entersFirst, Untouched};
 
-// Puts child `i` of the parent in, where it exists.
+// Puts child `i` of the parent in, where it enters the level; else nothing is written.
 pub fn consider_child(
     changes: &[i64],
     objective: i64,
@@ -22,6 +25,7 @@ pub fn consider_child(
 ) -> usize
     requires { ⌜ Expands (now changes) (parentOf objective (now parent)) count width (length (now objectives)) (length (now signs)) × (i < length (now parent)) × Ascending (take count (now objectives)) ⌝ }
     ensures { λ r. ⌜ Kept width (levelOf (length (now (parent .entry))) count (now (objectives .entry)) (now (signs .entry))) (childAt (improvesC (changeOf (now (changes .entry)))) (flipC (changeOf (now (changes .entry)))) (parentOf objective (now (parent .entry))) i) (levelOf (length (now (parent .entry))) r (now (objectives .exit)) (now (signs .exit))) r ⌝ }
+    ensures stays_out { λ r. ⌜ (enters width (take count (now (objectives .entry))) (now (changes .entry)) (parentOf objective (now (parent .entry))) i ≡ false → Untouched (now (objectives .entry)) (now (objectives .exit)) (now (signs .entry)) (now (signs .exit)) count r) ⌝ }
 {
     let d = changes[i];
     if d < 0 {
@@ -61,7 +65,7 @@ pub fn expand_parent(
     kept
 }
 
-// Puts child `i` of the start behind the others, where it exists.
+// Puts child `i` of the start behind the others, where it exists; else nothing is written.
 pub fn append_child(
     changes: &[i64],
     objective: i64,
@@ -73,10 +77,11 @@ pub fn append_child(
 ) -> usize
     requires { ⌜ Appends (now changes) (parentOf objective (now start)) (length (now objectives)) (length (now signs)) × (i < length (now start)) × (count ≤ i) ⌝ }
     ensures { λ r. ⌜ Appended (levelOf (length (now (start .entry))) count (now (objectives .entry)) (now (signs .entry))) (childAt (improvesC (changeOf (now (changes .entry)))) (flipC (changeOf (now (changes .entry)))) (parentOf objective (now (start .entry))) i) (levelOf (length (now (start .entry))) r (now (objectives .exit)) (now (signs .exit))) r (suc i) ⌝ }
+    ensures stays_out { λ r. ⌜ (entersFirst (now (changes .entry)) (parentOf objective (now (start .entry))) i ≡ false → Untouched (now (objectives .entry)) (now (objectives .exit)) (now (signs .entry)) (now (signs .exit)) count r) ⌝ }
 {
-    let d = changes[i];
-    if d < 0 {
-        insert_objective(objectives, count, count, objective + d);
+    let change = changes[i];
+    if change < 0 {
+        insert_objective(objectives, count, count, objective + change);
         insert_row(signs, count, count, start, i);
         return count + 1;
     }

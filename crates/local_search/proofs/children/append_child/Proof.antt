@@ -3,7 +3,8 @@ use native.Mathlib.Nat.{mul-le-mul-right}
 use native.Mathlib.Omega.{arith}
 use borrow.Author.Needs.{needs, sfits-of}
 use denote.Ref.{now}
-use mathlib.Core.Path.{_≡_, refl, ap, ap₂, _∙_}
+use mathlib.Core.Bool.{true, false≢true}
+use mathlib.Core.Path.{_≡_, refl, sym, ap, ap₂, _∙_}
 use lib.IntN.{ℤ, pos, _+ℤ_}
 use lib.ListN.{length, getD}
 use mir.Facts.{toZ-ofZ}
@@ -21,8 +22,8 @@ use Rattle.local_search.proofs.children.append_child.Lts as lts
 use Rattle.local_search.proofs.level.insert_objective.Reads as insert-objective-reads
 use Rattle.local_search.proofs.level.insert_row.Reads as insert-row-reads
 
-changed : (c : tie.After-d) → let a = c .before .before .before .args in toZ w64 (ofZ w64 (getD (now (a .changes)) (a .i) (pos 0))) ≡ getD (now (a .changes)) (a .i) (pos 0)
-changed c = toZ-ofZ (sfits-of (c .d .given))
+changed : (c : tie.After-change) → let a = c .before .before .before .args in toZ w64 (ofZ w64 (getD (now (a .changes)) (a .i) (pos 0))) ≡ getD (now (a .changes)) (a .i) (pos 0)
+changed c = toZ-ofZ (sfits-of (c .change .given))
 
 add-insert-objective : tie.Need-add-insert-objective
 add-insert-objective c =
@@ -48,21 +49,26 @@ returns c =
     let change = changeOf (now (a .changes)) in
     let h : suc (a .count) ≤ m = omega arith in
     let added = toZ-ofZ (add-insert-objective (o .before)) ∙ ap₂ _+ℤ_ (toZ-ofZ (s .fits .objective)) (changed d) in
-    child-appended _ _ (a .count) (a .i) change (improvesC change) (parentOf (a .objective) (now (a .start)))
-    (childOf _ (a .i) (now (a .start)))
-    (rw (changed d) at (o .before .before .if1 .taken))
-    (ap (λ (z : ℤ). childOf z (a .i) (now (a .start))) added)
-    (ap₂ (levelOf m (a .count + 1)) (o .insert-objective .ensures) (c .before .before .insert-row .ensures)
-    ∙ level-appended m (now (a .objectives)) (now (a .signs)) (childOf _ (a .i) (now (a .start))) (a .count) (flipped-length (a .i) (now (a .start)))
-    (omega (arith, s .pre .0 .objectives-room)) (omega (arith, mul-le-mul-right m h, s .pre .0 .signs-room)))
-    (s .pre .2)
+    let exists : improvesC change (parentOf (a .objective) (now (a .start))) (a .i) ≡ true = rw (changed d) at (o .before .before .if1 .taken) in (
+      child-appended _ _ (a .count) (a .i) change (improvesC change) (parentOf (a .objective) (now (a .start)))
+          (childOf _ (a .i) (now (a .start)))
+          exists
+          (ap (λ (z : ℤ). childOf z (a .i) (now (a .start))) added)
+          (ap₂ (levelOf m (a .count + 1)) (o .insert-objective .ensures) (c .before .before .insert-row .ensures)
+          ∙ level-appended m (now (a .objectives)) (now (a .signs)) (childOf _ (a .i) (now (a .start))) (a .count) (flipped-length (a .i) (now (a .start)))
+          (omega (arith, s .pre .0 .objectives-room)) (omega (arith, mul-le-mul-right m h, s .pre .0 .signs-room)))
+          (s .pre .2),
+      λ q. absurd (false≢true (sym q ∙ exists)),
+    )
 
 returns-2 : tie.Need-returns-2
 returns-2 c =
     let s = c .before .before .before .before in
-    let change = changeOf (now (s .args .changes)) in
-    child-skipped _ _ (s .args .count) (s .args .i) change (improvesC change) (parentOf (s .args .objective) (now (s .args .start)))
-    (rw (changed (c .before)) at (c .if1 .left)) refl (s .pre .2)
+    let change = changeOf (now (s .args .changes)) in (
+      child-skipped _ _ (s .args .count) (s .args .i) change (improvesC change) (parentOf (s .args .objective) (now (s .args .start)))
+          (rw (changed (c .before)) at (c .if1 .left)) refl (s .pre .2),
+      λ q. record { objectives-stay = refl; signs-stay = refl; count-stays = refl },
+    )
 
 pub append-child-spec : {M : Type 1} → statement M
 append-child-spec =

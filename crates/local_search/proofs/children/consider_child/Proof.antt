@@ -1,14 +1,16 @@
 use borrow.Author.Needs.{needs, sfits-of}
 use denote.Ref.{now}
+use mathlib.Core.Bool.{true}
 use mathlib.Core.Path.{_≡_, refl, ap₂, _∙_}
 use lib.IntN.{pos, _+ℤ_}
-use lib.ListN.{getD}
+use lib.ListN.{take, getD}
 use mir.Facts.{toZ-ofZ}
 use mir.Syntax.{w64}
 use mir.Val.{toZ, ofZ}
 use Rattle.local_search.specs.SignSearch.{improvesC}
 use Rattle.local_search.specs.Children.{changeOf, parentOf}
 use Rattle.local_search.proofs.ExpandLaws.{child-kept, no-child}
+use Rattle.local_search.proofs.EntersMeans.{room-missed}
 use Rattle.local_search.proofs.children.consider_child.Statement.{statement}
 use Rattle.local_search.proofs.children.consider_child.Tie as tie
 use Rattle.local_search.proofs.children.consider_child.Reads as reads
@@ -29,17 +31,23 @@ returns c =
     let k = c .before .before .before in
     let d = k .before .before .before .before in
     let s = d .before .before .before in
-    let change = changeOf (now (s .args .changes)) in
-    child-kept (s .args .width) _ _ (k .insert-child .result) (s .args .i) change (improvesC change) (parentOf (s .args .objective) (now (s .args .parent)))
-    _ (rw (changed d) at (k .before .before .before .if1 .taken))
-    (toZ-ofZ (add-insert-child (k .before)) ∙ ap₂ _+ℤ_ (toZ-ofZ (s .fits .objective)) (changed d)) (k .insert-child .ensures .0)
+    let a = s .args in
+    let change = changeOf (now (a .changes)) in
+    let parent = parentOf (a .objective) (now (a .parent)) in
+    let exists : improvesC change parent (a .i) ≡ true = rw (changed d) at (k .before .before .before .if1 .taken) in
+    let added = toZ-ofZ (add-insert-child (k .before)) ∙ ap₂ _+ℤ_ (toZ-ofZ (s .fits .objective)) (changed d) in (
+      child-kept (a .width) _ _ (k .insert-child .result) (a .i) change (improvesC change) parent _ exists added (k .insert-child .ensures .0),
+      λ q. k .insert-child .ensures .1 (room-missed (a .width) (take (a .count) (now (a .objectives))) (now (a .changes)) parent (a .i) _ exists added q),
+    )
 
 returns-2 : tie.Need-returns-2
 returns-2 c =
     let s = c .before .before .before .before in
-    let change = changeOf (now (s .args .changes)) in
-    no-child (s .args .width) _ _ (s .args .count) (s .args .i) change (improvesC change) (parentOf (s .args .objective) (now (s .args .parent)))
-    (rw (changed (c .before)) at (c .if1 .left)) refl (s .pre .0 .used)
+    let change = changeOf (now (s .args .changes)) in (
+      no-child (s .args .width) _ _ (s .args .count) (s .args .i) change (improvesC change) (parentOf (s .args .objective) (now (s .args .parent)))
+          (rw (changed (c .before)) at (c .if1 .left)) refl (s .pre .0 .used),
+      λ q. record { objectives-stay = refl; signs-stay = refl; count-stays = refl },
+    )
 
 pub consider-child-spec : {M : Type 1} → statement M
 consider-child-spec =

@@ -65,7 +65,7 @@ loop-again c =
       k .consider-child .kept .1 .1 .1 .1 .0 ∙ l .inv .1,
       k .consider-child .kept .1 .1 .1 .1 .1 .0 ∙ l .inv .2,
       children-one-more (s .args .width) _ (changeOf (now (s .args .changes))) (improvesC (changeOf (now (s .args .changes)))) (parentOf (toZ w64 (ofZ w64 (s .args .objective))) (now (s .args .parent)))
-          (l .i) _ _ (l .kept) (k .consider-child .result) (l .inv .3) (k .consider-child .ensures),
+          (l .i) _ _ (l .kept) (k .consider-child .result) (l .inv .3) (k .consider-child .ensures .0),
     )
 
 same-length : tie.Need-same-length Inv-loop μ-loop

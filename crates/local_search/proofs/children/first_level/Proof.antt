@@ -55,7 +55,7 @@ loop-again c =
       k .append-child .kept .1 .1 .1 .1 .0 ∙ l .inv .1,
       k .append-child .kept .1 .1 .1 .1 .1 .0 ∙ l .inv .2,
       append-one-more (changeOf (now (s .args .changes))) (improvesC (changeOf (now (s .args .changes)))) (parentOf (toZ w64 (ofZ w64 (s .args .objective))) (now (s .args .start)))
-          (l .i) _ _ (l .count) (k .append-child .result) (l .inv .3) (k .append-child .ensures),
+          (l .i) _ _ (l .count) (k .append-child .result) (l .inv .3) (k .append-child .ensures .0),
     )
 
 same-length : tie.Need-same-length Inv-loop μ-loop
