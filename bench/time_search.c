@@ -4,7 +4,8 @@
 
 static uint16_t rows[5000], cols[5000];
 static int64_t values[5000];
-static uint8_t start[128], out[128], workspace[WAGONPLAN_WORKSPACE];
+static uint8_t start[128], out[128];
+static uint64_t workspace[WAGONPLAN_SEARCH_WORKSPACE];
 
 int main(int argc, char **argv) {
     if (argc != 3) return 2;
@@ -15,7 +16,8 @@ int main(int argc, char **argv) {
     for (size_t i = 0; i < m; i++) start[i] = word();
     wagonplan_sign_table table = {m, count, {rows, count}, {cols, count}, {values, count}};
     wagonplan_u8 from = {start, m};
-    wagonplan_u8_mut to = {out, m}, room = {workspace, sizeof workspace};
+    wagonplan_u8_mut to = {out, m};
+    wagonplan_u64_mut room = {workspace, WAGONPLAN_SEARCH_WORKSPACE};
     uint8_t refused = 0;
     int64_t objective;
     uint64_t rounds;

@@ -1,5 +1,5 @@
 // The calls as a controller's host uses them: 01's worked example by the record call, with a refusal and slices that are too short, two wagons of which
-// one is pinned, then the first problem by open, sweep and finish, and a search from signs of its own.
+// one is pinned, then the first problem by open, sweep and finish, a search from signs of its own, and how far the choices of two answers are apart.
 #include <pthread.h>
 #include <stdio.h>
 #include <stdlib.h>
@@ -131,6 +131,8 @@ static void too_short(const char *what, size_t job_len, size_t workspace_len, si
 
 // ---- the same run by its steps
 
+static uint64_t levels[WAGONPLAN_SEARCH_WORKSPACE];
+
 static const uint16_t at_0[] = {0};
 static const int64_t h_00[] = {2}, c_0[] = {-3};
 static const wagonplan_table table = {1, 1, {at_0, 1}, {at_0, 1}, {h_00, 1}, {c_0, 1}};
@@ -145,7 +147,8 @@ static void run_steps(void) {
     uint8_t b[1];
     wagonplan_f64_mut factor = {rows, 4}, duals = {multipliers, 2};
     wagonplan_f64 factor_read = {rows, 4};
-    wagonplan_u8_mut choice = {b, 1}, room = {workspace, WAGONPLAN_WORKSPACE};
+    wagonplan_u8_mut choice = {b, 1};
+    wagonplan_u64_mut room = {levels, WAGONPLAN_SEARCH_WORKSPACE};
     wagonplan_run run;
     wagonplan_result x;
     memset(&run, 0, sizeof run), memset(&x, 0, sizeof x);
@@ -183,7 +186,8 @@ static void search_alone(void) {
     uint8_t signs[2], b[1];
     wagonplan_entries out = {{rows, 5}, {cols, 5}, {values, 5}};
     wagonplan_u8 from = {start, 2}, found = {signs, 2}, chosen = {b, 1};
-    wagonplan_u8_mut to = {signs, 2}, choice = {b, 1}, room = {workspace, WAGONPLAN_WORKSPACE};
+    wagonplan_u8_mut to = {signs, 2}, choice = {b, 1};
+    wagonplan_u64_mut room = {levels, WAGONPLAN_SEARCH_WORKSPACE};
     wagonplan_sign_table t = {2, 0, {rows, 5}, {cols, 5}, {values, 5}};
     printf("the sign table of the same, and a search from the signs + +\n");
     expect("made", said(wagonplan_qubo_sign_table(&table, out, &entries)) == 0);
@@ -194,6 +198,30 @@ static void search_alone(void) {
     expect("and their choice", wagonplan_qubo_binary_from_sign_solution(2, found, choice) == 0 && b[0] == 1);
     expect("whose cost it is", wagonplan_eval_qubo_objective(&table, chosen, &cost) == 0 && cost == -16);
     expect("above the floor", wagonplan_floor_eighths(&t, &floor) == 0 && floor <= cost);
+}
+
+// ---- two answers compared
+
+// The choice of an answer record in words. Stores are bytes as signs are; the wagons are all there is, without an anchor.
+static uint8_t choice_of(const uint8_t *record, uint64_t *words) {
+    wagonplan_u8 stores = {record + WAGONPLAN_AT_CHOICE, record[WAGONPLAN_AT_WAGONS]};
+    wagonplan_u64_mut to = {words, WAGONPLAN_SIGN_WORDS};
+    return wagonplan_pack_signs(stores.len, stores, to);
+}
+
+static void compared(void) {
+    uint8_t other[sizeof pinned_answer];
+    uint64_t x[WAGONPLAN_SIGN_WORDS], y[WAGONPLAN_SIGN_WORDS], apart = 9;
+    wagonplan_u64 one = {x, WAGONPLAN_SIGN_WORDS}, two = {y, WAGONPLAN_SIGN_WORDS}, cut = {y, WAGONPLAN_SIGN_WORDS - 1};
+    memcpy(other, pinned_answer, sizeof other);
+    other[WAGONPLAN_AT_CHOICE + 1] = 0;
+    printf("the answer with pins, and one with wagon 1 in the other store\n");
+    expect("packed", said(choice_of(pinned_answer, x)) == 0 && said(choice_of(other, y)) == 0);
+    expect("wagon 1 alone is in store 1", x[0] == 2 && x[1] == 0 && y[0] == 0 && y[1] == 0);
+    expect("one wagon differs", said(wagonplan_distance(2, one, two, &apart)) == 0 && apart == 1);
+    expect("none from itself", wagonplan_distance(2, one, one, &apart) == 0 && apart == 0);
+    expect("a choice of one word is refused by 31", said(wagonplan_distance(2, one, cut, &apart)) == 31 && apart == 0);
+    expect("a choice of no wagons by 13", said(wagonplan_distance(0, one, two, &apart)) == 13 && apart == 0);
 }
 
 // ---- on a stack of the size that the header names
@@ -209,6 +237,7 @@ static void *everything(void *unused) {
     too_short("the same with a job cut short: 31 comes first", 3, WAGONPLAN_WORKSPACE - 1, SLICE);
     run_steps();
     search_alone();
+    compared();
     return unused;
 }
 

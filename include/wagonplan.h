@@ -35,7 +35,7 @@ extern "C" {
 // ---- sizes --------------------------------------------------------------------------------------
 
 enum {
-    WAGONPLAN_VERSION = 2, // of these declarations; `wagonplan_version` answers the archive's
+    WAGONPLAN_VERSION = 3, // of these declarations; `wagonplan_version` answers the archive's
 
     WAGONPLAN_JOB_MOST = 65536,         // bytes of a job record
     WAGONPLAN_WAGONS_MOST = 127,        // n
@@ -47,10 +47,12 @@ enum {
     WAGONPLAN_DRAWS_MOST = 1000,        //
     WAGONPLAN_START_MOST = 4224,        // doubles that a start takes
     WAGONPLAN_FACTOR_MOST = 4096,       // doubles of a factor: m * rank
-    WAGONPLAN_WORKSPACE = 16384,        // bytes of workspace to lend, at least
+    WAGONPLAN_WORKSPACE = 16384,        // bytes of workspace to lend with a job record, at least
+    WAGONPLAN_SEARCH_WORKSPACE = 256,   // words of 64 bits of workspace to lend to a finish or a search, at least
     WAGONPLAN_ANSWER = 187,             // bytes of answer slice to lend, at least: a record of 127 wagons
     WAGONPLAN_REFUSAL = 6,              // bytes of a refusal: 00 00 00 02 01 and the number
     WAGONPLAN_REDUCED_MOST = 1024,      // original size of a reduced problem
+    WAGONPLAN_SIGN_WORDS = 2,           // words of a choice of signs
     WAGONPLAN_RUN_WORDS = 13,           // words of a run record, of settings and of a result, as the raw functions take them
     WAGONPLAN_SETTING_WORDS = 8,
     WAGONPLAN_RESULT_WORDS = 11,
@@ -74,7 +76,9 @@ enum wagonplan_sizes {
     WAGONPLAN_SIZE_REDUCED,
     WAGONPLAN_SIZE_RUN_WORDS,
     WAGONPLAN_SIZE_SETTING_WORDS,
-    WAGONPLAN_SIZE_RESULT_WORDS
+    WAGONPLAN_SIZE_RESULT_WORDS,
+    WAGONPLAN_SIZE_SEARCH_WORKSPACE,
+    WAGONPLAN_SIZE_SIGN_WORDS
 };
 
 // ---- slices and tables --------------------------------------------------------------------------
@@ -82,10 +86,12 @@ enum wagonplan_sizes {
 typedef struct { const uint8_t *at; size_t len; } wagonplan_u8;
 typedef struct { const uint16_t *at; size_t len; } wagonplan_u16;
 typedef struct { const int64_t *at; size_t len; } wagonplan_i64;
+typedef struct { const uint64_t *at; size_t len; } wagonplan_u64;
 typedef struct { const double *at; size_t len; } wagonplan_f64;
 typedef struct { uint8_t *at; size_t len; } wagonplan_u8_mut;
 typedef struct { uint16_t *at; size_t len; } wagonplan_u16_mut;
 typedef struct { int64_t *at; size_t len; } wagonplan_i64_mut;
+typedef struct { uint64_t *at; size_t len; } wagonplan_u64_mut;
 typedef struct { double *at; size_t len; } wagonplan_f64_mut;
 
 // (H, c): n wagons, `count` entries of H in the first places of rows, cols and values, rising by row and column, each with its mirror; c in the first n of c.
@@ -174,10 +180,10 @@ uint8_t wagonplan_raw_sweep(uint64_t *words, size_t, size_t n, size_t count, con
                             size_t, const int64_t *c, size_t, uint32_t k, double *factor, size_t);
 uint8_t wagonplan_raw_finish(const uint64_t *words, size_t, size_t n, size_t count, const uint16_t *rows, size_t, const uint16_t *cols, size_t,
                              const int64_t *values, size_t, const int64_t *c, size_t, size_t width, size_t draw_count, const double *draws, size_t,
-                             const double *factor, size_t, uint8_t *b, size_t, double *dual_variables, size_t, uint8_t *workspace, size_t, uint64_t *result,
+                             const double *factor, size_t, uint8_t *b, size_t, double *dual_variables, size_t, uint64_t *workspace, size_t, uint64_t *result,
                              size_t);
 uint8_t wagonplan_raw_beam_search(size_t m, size_t count, const uint16_t *rows, size_t, const uint16_t *cols, size_t, const int64_t *values, size_t,
-                                  size_t width, const uint8_t *start, size_t, uint8_t *out, size_t, uint8_t *workspace, size_t, int64_t *objective,
+                                  size_t width, const uint8_t *start, size_t, uint8_t *out, size_t, uint64_t *workspace, size_t, int64_t *objective,
                                   uint64_t *rounds);
 uint8_t wagonplan_raw_compute_rounded_sol(size_t m, size_t count, const uint16_t *rows, size_t, const uint16_t *cols, size_t, const int64_t *values, size_t,
                                           size_t rank, const double *factor, size_t, size_t draw_count, const double *draws, size_t, uint8_t *out, size_t,
@@ -196,6 +202,8 @@ uint8_t wagonplan_raw_qubo_sign_table(size_t n, size_t count, const uint16_t *ro
                                       const int64_t *c, size_t, uint16_t *to_rows, size_t, uint16_t *to_cols, size_t, int64_t *to_values, size_t,
                                       size_t *entries);
 uint8_t wagonplan_raw_qubo_binary_from_sign_solution(size_t m, const uint8_t *signs, size_t, uint8_t *b, size_t);
+uint8_t wagonplan_raw_distance(size_t m, const uint64_t *x, size_t, const uint64_t *y, size_t, uint64_t *signs);
+uint8_t wagonplan_raw_pack_signs(size_t m, const uint8_t *signs, size_t, uint64_t *words, size_t);
 uint8_t wagonplan_raw_from_principal_submatrix(size_t size, size_t count, const uint16_t *rows, size_t, const uint16_t *cols, size_t, const int64_t *values,
                                                size_t, const uint16_t *variable_map, size_t, const uint16_t *fixed_index, size_t, uint16_t *out_rows, size_t,
                                                uint16_t *out_cols, size_t, int64_t *out_values, size_t, size_t *entries);
@@ -237,7 +245,8 @@ static inline int wagonplan_fits(void) {
            && wagonplan_size(WAGONPLAN_SIZE_WORKSPACE) == WAGONPLAN_WORKSPACE && wagonplan_size(WAGONPLAN_SIZE_ANSWER) == WAGONPLAN_ANSWER
            && wagonplan_size(WAGONPLAN_SIZE_REDUCED) == WAGONPLAN_REDUCED_MOST && wagonplan_size(WAGONPLAN_SIZE_RUN_WORDS) == WAGONPLAN_RUN_WORDS
            && wagonplan_size(WAGONPLAN_SIZE_SETTING_WORDS) == WAGONPLAN_SETTING_WORDS
-           && wagonplan_size(WAGONPLAN_SIZE_RESULT_WORDS) == WAGONPLAN_RESULT_WORDS;
+           && wagonplan_size(WAGONPLAN_SIZE_RESULT_WORDS) == WAGONPLAN_RESULT_WORDS && wagonplan_size(WAGONPLAN_SIZE_SIGN_WORDS) == WAGONPLAN_SIGN_WORDS
+           && wagonplan_size(WAGONPLAN_SIZE_SEARCH_WORKSPACE) == WAGONPLAN_SEARCH_WORKSPACE;
 }
 
 // A job record. Numbers are big-endian, doubles are their bits; m is one more than the free wagons, which are n less the pins; r is the rank (see below).
@@ -316,9 +325,9 @@ static inline uint8_t wagonplan_sweep(wagonplan_run *run, const wagonplan_table 
 }
 
 // Rounds and searches from the factor of a stopped run, over the table given: draw_count * rank doubles of draws; n bytes of choice to b, m doubles to dual_variables.
-// It changes neither run nor factor and may be repeated.
+// The workspace is WAGONPLAN_SEARCH_WORKSPACE words, which then hold anything. It changes neither run nor factor and may be repeated.
 static inline uint8_t wagonplan_finish(const wagonplan_run *run, const wagonplan_table *t, size_t width, size_t draw_count, wagonplan_f64 draws,
-                                       wagonplan_f64 factor, wagonplan_u8_mut b, wagonplan_f64_mut dual_variables, wagonplan_u8_mut workspace,
+                                       wagonplan_f64 factor, wagonplan_u8_mut b, wagonplan_f64_mut dual_variables, wagonplan_u64_mut workspace,
                                        wagonplan_result *result) {
     uint64_t words[WAGONPLAN_RUN_WORDS], given[WAGONPLAN_RESULT_WORDS] = {0};
     unsigned mode = wagonplan_enter();
@@ -332,8 +341,8 @@ static inline uint8_t wagonplan_finish(const wagonplan_run *run, const wagonplan
 }
 
 // The local search alone, from the first m signs of `start` (0 for +, any other byte for -): the signs it ends at, as 0 and 1, their objective in eighths, and
-// its rounds.
-static inline uint8_t wagonplan_beam_search(const wagonplan_sign_table *t, size_t width, wagonplan_u8 start, wagonplan_u8_mut out, wagonplan_u8_mut workspace,
+// its rounds. The workspace is that of a finish.
+static inline uint8_t wagonplan_beam_search(const wagonplan_sign_table *t, size_t width, wagonplan_u8 start, wagonplan_u8_mut out, wagonplan_u64_mut workspace,
                                             int64_t *objective, uint64_t *rounds) {
     unsigned mode = wagonplan_enter();
     return wagonplan_leave(mode, wagonplan_raw_beam_search(t->m, t->count, t->rows.at, t->rows.len, t->cols.at, t->cols.len, t->values.at, t->values.len, width,
@@ -396,6 +405,20 @@ static inline uint8_t wagonplan_qubo_sign_table(const wagonplan_table *t, wagonp
 static inline uint8_t wagonplan_qubo_binary_from_sign_solution(size_t m, wagonplan_u8 signs, wagonplan_u8_mut b) {
     unsigned mode = wagonplan_enter();
     return wagonplan_leave(mode, wagonplan_raw_qubo_binary_from_sign_solution(m, signs.at, signs.len, b.at, b.len));
+}
+
+// The first m of `signs` (0 for +, any other byte for -) as a choice in words: WAGONPLAN_SIGN_WORDS of them, bit i % 64 of word i / 64 set where sign i is -,
+// the bits behind the last sign 0. 13 where m is 0 or above WAGONPLAN_SIGNS_MOST.
+static inline uint8_t wagonplan_pack_signs(size_t m, wagonplan_u8 signs, wagonplan_u64_mut words) {
+    unsigned mode = wagonplan_enter();
+    return wagonplan_leave(mode, wagonplan_raw_pack_signs(m, signs.at, signs.len, words.at, words.len));
+}
+
+// How many ones the exclusive or of two choices of m signs has, over the first WAGONPLAN_SIGN_WORDS words of each: of packed choices, in how many signs they
+// differ. Bits behind the last sign count as they are; words behind those are not read.
+static inline uint8_t wagonplan_distance(size_t m, wagonplan_u64 x, wagonplan_u64 y, uint64_t *signs) {
+    unsigned mode = wagonplan_enter();
+    return wagonplan_leave(mode, wagonplan_raw_distance(m, x.at, x.len, y.at, y.len, signs));
 }
 
 // The table over the mapped indices alone: t->m is the original size, `count` entries of room; how many there are goes to `entries`.

@@ -149,6 +149,28 @@ def merged(n, free, b, pins):
     return [chosen[i] for i in range(n)]
 
 
+# ---- signs in words (02, Note 4) ---------------------------------------------------------------
+
+CHOICE_WORDS = 2
+
+
+def packed(signs):
+    """Two words of 64 bits, bit i set for sign −, unused bits 0; any byte but 0 is −."""
+    digits = "".join("01"[s != 0] for s in signs).ljust(64 * CHOICE_WORDS, "0")
+    return [int(digits[k : k + 64][::-1], 2) for k in range(0, 64 * CHOICE_WORDS, 64)]
+
+
+def distance(x, y):
+    """The number of ones in the exclusive or."""
+    return sum(f"{a ^ b:b}".count("1") for a, b in zip(x[:CHOICE_WORDS], y[:CHOICE_WORDS], strict=True))
+
+
+def choice_number(m, *slices):
+    """31 of slices (needed, lent), which rests on m; 13 of m."""
+    bad = not 1 <= m <= 128
+    return first((31, lambda: not bad and any(lent < needed for needed, lent in slices)), (13, lambda: bad))
+
+
 # ---- floats over tables ---------------------------------------------------------------------
 
 

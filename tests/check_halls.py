@@ -579,6 +579,26 @@ class Commands(Case):
             self.assertEqual(sorted(os.listdir(self.folder)), sorted(map(os.path.basename, files)))
         self.assertEqual(run("hall", "job", STALLS).stdout, record.job_of(made))
 
+    def test_moves(self):
+        one, two = "wagon a -1\nwagon b -1\npair a b 3\n", "wagon b 5\nwagon a -2\n"
+        files = []
+        for name, text in (("one", one), ("two", two), ("other", "wagon a 1\nwagon c 1\n")):
+            made = self.hall(text, name + ".txt")
+            files += [self.file(name + ".txt", text), self.file(name, self.answered(made)[0])]
+        same = run("hall", "moves", *files[:2], *files[:2])
+        self.ends(same, 0)
+        self.assertEqual(same.stdout.decode().splitlines()[0], "No wagon changes its store.")
+        before, after = (self.answered(hall.read_hall(path))[1]["choice"] for path in (files[0], files[2]))
+        moved = [name for name, k, j in (("a", 0, 1), ("b", 1, 0)) if before[k] != after[j]]
+        done = run("hall", "moves", *files[:4])
+        self.ends(done, 0)
+        self.assertIn(f"{len(moved)} wagon{'' if len(moved) == 1 else 's'} of 2 change" if moved else "No wagon changes", done.stdout.decode())
+        for name in moved:
+            self.assertIn(f"{name} from the ", done.stdout.decode())
+        self.ends(run("hall", "moves", *files[:2], *files[4:]), 1, "have different wagons: b, c.")
+        self.ends(run("hall", "moves", *files[:2], files[0], files[3]), 1, "The answer is wrong")
+        self.ends(run("hall", "moves", *files[:3]), 1, "usage: hall")
+
     def test_job_on_standard_input(self):
         done = run("plan", given=record.job_of(hall.read_hall(DOORWAY)))
         self.ends(done, 0)

@@ -17,10 +17,10 @@ static _Noreturn void give_up(const char *why);
 
 // ---- arguments --------------------------------------------------------------------------------------
 
-// Kinds. In a line stand: of `n` a word; of slices that are read (b, h, i, d: bytes, 16 bits, whole numbers, doubles; j, k: bytes and 16 bits whose length is
-// part of what is asked) the slice; of those that are lent to be written (B, H, I, D, W the workspace, A the answer record) the length; of the factor (F, f where
-// it is only read) the length; of settings (S) eight words. The run (R, r) is the one that the last line left. Given back are B, H, I, D, A, F, R, the words
-// `v` and `e` (a double), and U, the result.
+// Kinds. In a line stand: of `n` a word; of slices that are read (b, h, i, d, c: bytes, 16 bits, whole numbers, doubles, words; j, k: bytes and 16 bits whose
+// length is part of what is asked) the slice; of those that are lent to be written (B, H, I, D, C, W the workspace of a job, w that of a search, A the answer record)
+// the length; of the factor (F, f where it is only read) the length; of settings (S) eight words. The run (R, r) is the one that the last line left. Given back
+// are B, H, I, D, C, A, F, R, the words `v` and `e` (a double), and U, the result.
 typedef struct {
     char kind;
     size_t length;           // elements that are lent
@@ -42,8 +42,8 @@ typedef struct {
 
 static int is_one_of(char kind, const char *kinds) { return strchr(kinds, kind) != NULL; }
 static size_t element(char kind) { return is_one_of(kind, "bjBAW") ? 1 : is_one_of(kind, "hkH") ? 2 : 8; }
-static int is_written(char kind) { return is_one_of(kind, "BHIDAFRveU"); }
-static int grows(char kind) { return is_one_of(kind, "bhidBHIDWAFfRrSU"); } // words only as raw functions take them
+static int is_written(char kind) { return is_one_of(kind, "BHIDCAFRveU"); }
+static int grows(char kind) { return is_one_of(kind, "bhidcBHIDCWwAFfRrSU"); } // words only as raw functions take them
 
 // ---- the calls --------------------------------------------------------------------------------------
 
@@ -66,6 +66,7 @@ static double double_of(const Argument *a) {
 SLICE(uint8_t, u8)
 SLICE(uint16_t, u16)
 SLICE(int64_t, i64)
+SLICE(uint64_t, u64)
 SLICE(double, f64)
 
 static wagonplan_table table(const Argument *a) {
@@ -93,7 +94,7 @@ static uint8_t sweep(Argument *a) {
 }
 static uint8_t finish(Argument *a) {
     wagonplan_table t = table(a + 1);
-    return wagonplan_finish(place(a), &t, number(a + 7), number(a + 8), f64(a + 9), f64(a + 10), u8_mut(a + 11), f64_mut(a + 12), u8_mut(a + 13), place(a + 14));
+    return wagonplan_finish(place(a), &t, number(a + 7), number(a + 8), f64(a + 9), f64(a + 10), u8_mut(a + 11), f64_mut(a + 12), u64_mut(a + 13), place(a + 14));
 }
 static uint8_t raw_open(Argument *a) {
     wagonplan_table t = table(a);
@@ -113,7 +114,7 @@ static uint8_t raw_finish(Argument *a) {
 }
 static uint8_t beam_search(Argument *a) {
     wagonplan_sign_table t = sign_table(a);
-    return wagonplan_beam_search(&t, number(a + 5), u8(a + 6), u8_mut(a + 7), u8_mut(a + 8), place(a + 9), place(a + 10));
+    return wagonplan_beam_search(&t, number(a + 5), u8(a + 6), u8_mut(a + 7), u64_mut(a + 8), place(a + 9), place(a + 10));
 }
 static uint8_t compute_rounded_sol(Argument *a) {
     wagonplan_sign_table t = sign_table(a);
@@ -144,6 +145,8 @@ static uint8_t qubo_sign_table(Argument *a) {
     return wagonplan_qubo_sign_table(&t, entries(a + 6), place(a + 9));
 }
 static uint8_t qubo_binary_from_sign_solution(Argument *a) { return wagonplan_qubo_binary_from_sign_solution(number(a), u8(a + 1), u8_mut(a + 2)); }
+static uint8_t distance(Argument *a) { return wagonplan_distance(number(a), u64(a + 1), u64(a + 2), place(a + 3)); }
+static uint8_t pack_signs(Argument *a) { return wagonplan_pack_signs(number(a), u8(a + 1), u64_mut(a + 2)); }
 static uint8_t from_principal_submatrix(Argument *a) {
     wagonplan_sign_table t = sign_table(a);
     return wagonplan_from_principal_submatrix(&t, u16(a + 5), u16(a + 6), entries(a + 7), place(a + 10));
@@ -163,8 +166,8 @@ static const Call calls[] = {
     {"answer", "jWA", answer, 0},
     {"open", "TSdFR", open_run, raw_open},
     {"sweep", "RTnF", sweep, raw_sweep},
-    {"finish", "rTnndfBDWU", finish, raw_finish},
-    {"beam_search", "QnbBWvv", beam_search, 0},
+    {"finish", "rTnndfBDwU", finish, raw_finish},
+    {"beam_search", "QnbBwvv", beam_search, 0},
     {"compute_rounded_sol", "QndndBv", compute_rounded_sol, 0},
     {"dual_variables", "QndD", dual_variables, 0},
     {"obj_rounded", "Qbv", obj_rounded, 0},
@@ -173,6 +176,8 @@ static const Call calls[] = {
     {"eval_qubo_objective", "Tbv", eval_qubo_objective, 0},
     {"qubo_sign_table", "THHIv", qubo_sign_table, 0},
     {"qubo_binary_from_sign_solution", "nbB", qubo_binary_from_sign_solution, 0},
+    {"distance", "nccv", distance, 0},
+    {"pack_signs", "nbC", pack_signs, 0},
     {"from_principal_submatrix", "QkkHHIv", from_principal_submatrix, 0},
     {"lift_solution", "nkkddD", lift_solution, 0},
     {"sqrt", "ne", root, 0},
@@ -271,7 +276,7 @@ static const uint64_t *read_slice(Words *w, char kind, size_t *count) {
 static Argument read_argument(Words *w, char kind) {
     Argument a = {.kind = kind};
     if (kind == 'n') a.words = read_words(w, 1);
-    else if (is_one_of(kind, "bjhkid")) a.words = read_slice(w, kind, &a.length), a.known = a.length;
+    else if (is_one_of(kind, "bjhkidc")) a.words = read_slice(w, kind, &a.length), a.known = a.length;
     else if (kind == 'S') a.words = read_words(w, WAGONPLAN_SETTING_WORDS), a.length = a.known = WAGONPLAN_SETTING_WORDS;
     else if (is_one_of(kind, "Rr")) a.words = run, a.length = a.known = WAGONPLAN_RUN_WORDS;
     else if (is_one_of(kind, "ve")) a.length = 1;
@@ -370,12 +375,12 @@ static int zeros_at(const Argument *a, size_t at) {
 }
 
 static const char *fault_of(Argument *a, uint8_t refused) {
-    size_t bytes = element(a->kind), written = a->count;
+    size_t bytes = element(a->kind), written = a->count, scratch = a->kind == 'W' ? WAGONPLAN_WORKSPACE : a->kind == 'w' ? WAGONPLAN_SEARCH_WORKSPACE : 0;
     for (size_t k = 0; k < a->count; k++) {
         if (a->kind == 'A' && zeros_at(a, k)) k += 7;
         else if (holds_double(a->kind, k) ? !same_double(a->kind, get(a, k), a->wanted[k]) : get(a, k) != a->wanted[k]) return "another value is written";
     }
-    if (a->kind == 'W' && !refused) written = a->lent < WAGONPLAN_WORKSPACE ? a->lent : WAGONPLAN_WORKSPACE;
+    if (scratch && !refused) written = a->lent < scratch ? a->lent : scratch;
     if (a->at) memcpy(a->before + (a->at - a->block), a->at, written * bytes);
     if (memcmp(a->block, a->before, a->size)) return "something is written that must stay";
     return 0;

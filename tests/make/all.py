@@ -24,6 +24,7 @@ import runs  # noqa: E402
 import standing  # noqa: E402
 import steps  # noqa: E402
 import tables  # noqa: E402
+import words  # noqa: E402
 from lists import PROGRAM, TOP, Lines  # noqa: E402
 
 
@@ -41,7 +42,7 @@ def add_tables(lines):
     tables.add_faults(lines)
 
 
-LISTS = {"tables": add_tables, "factors": factors.add, "steps": steps.add, "standing": standing.add, "edges": edges.add, "runs": runs.add, "jobs": jobs.add, "pins": pins.add}
+LISTS = {"tables": add_tables, "factors": factors.add, "steps": steps.add, "standing": standing.add, "edges": edges.add, "runs": runs.add, "jobs": jobs.add, "pins": pins.add, "words": words.add}
 SEEDED = {"ranks": steps.seeded, "jobs": random_jobs.seeded, "pins": random_jobs.seeded_pins, "runs": runs.seeded, "reduced": reduced.seeded}
 
 

@@ -3,7 +3,7 @@
 A case is a dictionary of a call's fields. Slices are lists of words or bytes, of any length; a slice that is lent to be written is its length.
 """
 import gen
-from lists import WORKSPACE, leaves, slices
+from lists import SEARCH_WORKSPACE, leaves, slices
 
 LIMITS = {"wagons": (0, 127, 4096, 1 << 40), "signs": (1, 128, 4478, 1 << 42)}
 
@@ -62,7 +62,7 @@ def table_number(s, kind, **needed):
 
 def beam_number(s):
     lent = Lent(s, "signs")
-    short = lambda: lent.short(start=s["m"], out=s["m"]) or s["workspace"] < WORKSPACE
+    short = lambda: lent.short(start=s["m"], out=s["m"]) or s["workspace"] < SEARCH_WORKSPACE
     return first((31, short), *lent.numbers(), (19, lambda: s["width"] > 128))
 
 

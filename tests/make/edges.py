@@ -5,7 +5,7 @@ import factors
 import gen
 import runs
 import steps
-from lists import WORKSPACE, slices
+from lists import SEARCH_WORKSPACE, slices
 
 # The steps' tables of two signs as halls of one wagon: off its diagonal the sign table is the same.
 LINK, BARE = runs.table(1, [], [-4]), runs.table(1, [], [0])
@@ -37,7 +37,7 @@ def table_cases(name, words):
         return "obj_rounded", {**table, "signs": bytes(slices(rest, None)[0])}
     if name == "beam":
         width, start = slices(rest, 1, None)
-        return "beam_search", {**table, "width": width, "start": bytes(start), "out": table["m"], "workspace": WORKSPACE}
+        return "beam_search", {**table, "width": width, "start": bytes(start), "out": table["m"], "workspace": SEARCH_WORKSPACE}
     if name == "submatrix":
         map_, fixed = slices(rest, None, None)
         return "from_principal_submatrix", {**table, "map": map_, "fixed": fixed, **dict.fromkeys(ROOM, table["count"])}

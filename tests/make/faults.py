@@ -1,6 +1,8 @@
 """Faults of a call, alone and in pairs, each with the number that 01's order gives: for every call that takes slices."""
 import itertools
 
+from lists import SEARCH_WORKSPACE
+
 ORDER = [31, 32, 33, 13, 14, 15, 16, 17, 18, 19, 20]
 LIMIT = 2**40
 
@@ -89,7 +91,7 @@ FACTOR = [0x3FF8000000000000, 0xBFE0000000000000, 0x3FE0000000000000, 0x40000000
 
 # For each call a case that is accepted, and its faults.
 CASES = {
-    "beam_search": ({"m": 2, **BASE, "width": 1, "start": b"\0\1", "out": 2, "workspace": 16384}, SIGNS + [
+    "beam_search": ({"m": 2, **BASE, "width": 1, "start": b"\0\1", "out": 2, "workspace": SEARCH_WORKSPACE}, SIGNS + [
         Fault(31, drop("start"), "m"), Fault(31, drop("out"), "m"), Fault(31, drop("workspace")), Fault(19, put(width=129)), Fault(19, put(width=2**64 - 1))]),
     "compute_rounded_sol": ({"m": 2, **BASE, "rank": 2, "factor": FACTOR, "draw_count": 2, "draws": FACTOR, "out": 2}, SIGNS + RANK + [
         Fault(31, drop("draws"), "draws rank"), Fault(19, put(draw_count=0), spoils="draws"), Fault(19, put(draw_count=1001), spoils="draws"),

@@ -14,7 +14,7 @@ import faults
 import gen
 import long_runs
 from faults import LIMIT, Fault, at_once, drop, first_number, in_pairs, put, single
-from lists import PROGRAM, WORKSPACE, oracle
+from lists import PROGRAM, SEARCH_WORKSPACE, oracle
 
 NAN, INF, MINUS_INF = 0x7FF8000000000000, 0x7FF0000000000000, 0xFFF0000000000000
 # Quiet and signalling, of both signs, with several payloads.
@@ -61,7 +61,7 @@ def record_line(r):
 
 def finish_of(rng, m, r, width=1, draws=1, more=0):
     return {"width": width, "draw_count": draws, "draws": gen.numbers(rng, draws * r + more), "factor": m * r + more,
-            "b": m - 1 + more, "dual": m + more, "workspace": WORKSPACE + more}
+            "b": m - 1 + more, "dual": m + more, "workspace": SEARCH_WORKSPACE + more}
 
 
 # ---- whole runs: one call of the Rust's solver gives the same ---------------------------------
@@ -102,7 +102,7 @@ def script_of(job, sweeps, more):
     lines += [sweep_line(t, k, m * r + longer) for k, longer in sweeps]
     lines.append(finish_line(t, {
         "width": job["width"], "draw_count": job["draw_count"], "draws": job["draws"] + [NAN] * more, "factor": m * r + more,
-        "b": n + more, "dual": m + more, "workspace": WORKSPACE + more}))
+        "b": n + more, "dual": m + more, "workspace": SEARCH_WORKSPACE + more}))
     return lines, gen.record(job).hex().upper()
 
 
@@ -189,7 +189,7 @@ def base(rng):
 
 PROBE = {
     "n": 2, **faults.BASE, "c": [-1, 4], "rank": 2, "rule": 2, "number": 0, "start": 0, "numbers": [1] * 6, "factor": 6, "size": 3, "sweeps": 3, "status": 0, "standing": 9,
-    "stage": 7, "lent": 6, "draws": [1] * 2, "draw_count": 1, "b": 2, "dual": 3, "workspace": WORKSPACE, "width": 1}
+    "stage": 7, "lent": 6, "draws": [1] * 2, "draw_count": 1, "b": 2, "dual": 3, "workspace": SEARCH_WORKSPACE, "width": 1}
 
 
 def open_faults(t, settings, kinds):
@@ -264,7 +264,7 @@ def edge_runs(rng):
     stopped = {**record, "stage": 1}
     f = finish_of(rng, 3, 2, 3, 2, more=1)
     lines = [("new", None), (record_line(stopped), None)]
-    for name, least in (("factor", 6), ("b", 2), ("dual", 3), ("workspace", WORKSPACE)):
+    for name, least in (("factor", 6), ("b", 2), ("dual", 3), ("workspace", SEARCH_WORKSPACE)):
         for length, number in ((least - 1, 31), (0, 31), (least, 0), (least + 9, 0)):
             lines.append((finish_line(t, {**f, name: length}), number))
     lines += [(finish_line(t, {**f, "draws": f["draws"][:3]}), 31), (finish_line(t, {**f, "draws": f["draws"][:4]}), 0),
@@ -326,10 +326,10 @@ def word_answers(rng):
 
 
 def roomy(rng, line):
-    """A finish of gen.py with a workspace, at times one byte too small."""
+    """A finish of gen.py with a workspace, at times one word too small."""
     name, *rest = line.split()
     if name == "finish":
-        rest[-1] = f"{WORKSPACE + rng.choice([0, 0, 0, 0, 0, 1, 77, -1]):016X}"
+        rest[-1] = f"{SEARCH_WORKSPACE + rng.choice([0, 0, 0, 0, 0, 1, 77, -1]):016X}"
     return " ".join([name, *rest])
 
 
@@ -457,7 +457,7 @@ class Answered:
             words, (number, *rest) = [int(w, 16) for w in words], [int(w, 16) for w in said.split()]
             state = rest[: 14 + rest[13]] if rest else []
             result = rest[len(state) :]
-            if name == "finish" and words[-1] < WORKSPACE:
+            if name == "finish" and words[-1] < SEARCH_WORKSPACE:
                 number, result = 31, []
             self.numbers.append(number)
             self.results.append(result)

@@ -2,7 +2,7 @@
 import calls
 import faults
 import gen
-from lists import WORKSPACE
+from lists import SEARCH_WORKSPACE
 
 
 # ---- tables: size, entries, value limits
@@ -91,7 +91,7 @@ def add(lines, rng):
     beams = []
     for m, e in sign + [(9, mirrored(rng, 9, 40, lambda: rng.randrange(-2, 3))) for _ in range(40)]:
         width = rng.choice([0, 1, 1, 2, 3, 128, 128, 129])
-        beams.append(signed(m, e, width=width, start=signs(m), out=m, workspace=WORKSPACE))
+        beams.append(signed(m, e, width=width, start=signs(m), out=m, workspace=SEARCH_WORKSPACE))
     calls.add(lines, "beam_search", beams)
 
 
@@ -110,7 +110,7 @@ def add_edges(lines, rng):
         table = signed(m, gen.sign_table(rng, m) + [(7, 7, 7)] * more)
         table["count"] -= more
         width = rng.choice([0, 1, 2, 3, 128, rng.randint(0, 128)]) if m <= 20 else rng.randint(0, 4)
-        calls.add(lines, "beam_search", [{**table, "width": width, "start": byte(m + more), "out": m + more, "workspace": WORKSPACE + more}])
+        calls.add(lines, "beam_search", [{**table, "width": width, "start": byte(m + more), "out": m + more, "workspace": SEARCH_WORKSPACE + more}])
         calls.add(lines, "obj_rounded", [{**table, "signs": byte(m + more)}])
 
 

@@ -6,7 +6,8 @@
 
 // Arrays hold as many as a job's bytes can say, so that reading can't pass them; the calls refuse what is above their own limits.
 enum { ENTRIES = WAGONPLAN_JOB_MOST / 10, NUMBERS = WAGONPLAN_JOB_MOST / 8, BYTE_MOST = 255 };
-static uint8_t job[WAGONPLAN_JOB_MOST + 1], choice[BYTE_MOST], workspace[WAGONPLAN_WORKSPACE];
+static uint8_t job[WAGONPLAN_JOB_MOST + 1], choice[BYTE_MOST];
+static uint64_t workspace[WAGONPLAN_SEARCH_WORKSPACE];
 static uint16_t rows[ENTRIES], cols[ENTRIES];
 static int64_t values[ENTRIES], costs[BYTE_MOST];
 static double start[NUMBERS], draws[NUMBERS], factor[WAGONPLAN_FACTOR_MOST], duals[WAGONPLAN_SIGNS_MOST];
@@ -93,7 +94,8 @@ static void print(const wagonplan_run *run, const wagonplan_result *x) {
 int main(void) {
     wagonplan_f64_mut rewritten = {factor, WAGONPLAN_FACTOR_MOST}, multipliers = {duals, WAGONPLAN_SIGNS_MOST};
     wagonplan_f64 swept = {factor, WAGONPLAN_FACTOR_MOST};
-    wagonplan_u8_mut chosen = {choice, BYTE_MOST}, room = {workspace, WAGONPLAN_WORKSPACE};
+    wagonplan_u8_mut chosen = {choice, BYTE_MOST};
+    wagonplan_u64_mut room = {workspace, WAGONPLAN_SEARCH_WORKSPACE};
     wagonplan_run run;
     wagonplan_result result;
     size_t width;

@@ -4,7 +4,7 @@ import math
 
 from .answer import STATUSES, STORES, eighths, pinned_cost
 from .hall import COUNTING, RULES
-from .text import counted
+from .text import Wrong, counted, shown
 
 
 def words(hall, answer):
@@ -49,6 +49,18 @@ def pinned(hall):
 def stores(hall, answer):
     """The wagons of each store."""
     return [[i for i, b in enumerate(answer["choice"]) if b == store] for store in (0, 1)]
+
+
+def moves(hall, answer, after, next_answer):
+    """Which wagons change their store from one plan to the next, by name; both answers are held against their own halls before."""
+    store = {name: next_answer["choice"][i] for i, name in enumerate(after.names)}
+    if set(store) != set(hall.names):
+        unlike = sorted(set(store) ^ set(hall.names))
+        raise Wrong(f"The halls {hall.path} and {after.path} have different wagons: {', '.join(map(shown, unlike))}.")
+    moved = [(name, answer["choice"][i]) for i, name in enumerate(hall.names) if store[name] != answer["choice"][i]]
+    told = ", ".join(f"{name} from the {STORES[side]} to the {STORES[1 - side]}" for name, side in moved)
+    yield f"{counted(len(moved), 'wagon')} of {len(hall.names)} {'changes its' if len(moved) == 1 else 'change their'} store: {told}." if moved else "No wagon changes its store."
+    yield f"The plans cost {eighths(answer['cost'])} and {eighths(next_answer['cost'])}, each by its own hall."
 
 
 def promises(hall, answer):

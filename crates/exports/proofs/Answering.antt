@@ -13,6 +13,9 @@ use Rattle.table_calls.specs.declared.Bound.the-variants as B
 use Rattle.table_calls.specs.declared.Entries.{Entries}
 use Rattle.table_calls.specs.declared.Entries.the-variants as C
 use Rattle.table_calls.specs.Answer.{answered, eighthsAnswer, boundAnswer, entriesAnswer}
+use Rattle.sign_calls.specs.declared.Apart.{Apart}
+use Rattle.sign_calls.specs.declared.Apart.the-variants as A
+use Rattle.sign_calls.specs.Answers.{distanceAnswer}
 use Rattle.sdp_local_search.specs.declared.BeamSearched.{BeamSearched}
 use Rattle.sdp_local_search.specs.declared.BeamSearched.the-variants as S
 use Rattle.sdp_local_search.specs.BeamSearch.{Limits}
@@ -20,7 +23,7 @@ use Rattle.sdp_local_search.specs.Call.{BeamSearches}
 use Rattle.reduced.specs.declared.from_principal_submatrix.Reduced.{Reduced}
 use Rattle.reduced.specs.declared.from_principal_submatrix.Reduced.the-variants as R
 use Rattle.reduced.specs.Submatrix.{Slices, Reduces}
-use Rattle.exports.specs.Answers.{eighthsBy, boundBy, entriesBy, searchedBy, reducedBy}
+use Rattle.exports.specs.Answers.{eighthsBy, boundBy, entriesBy, apartBy, searchedBy, reducedBy}
 
 -- a value, or a refusal by a number above 0
 abbrev eighths-whole : Eighths → Bool
@@ -55,6 +58,17 @@ unfolding answered
 entries-refused value v zero zero e = absurd (subst T (sym (ap entries-whole e)) tt)
 entries-refused value v (suc j) zero e = absurd (subst T (sym (ap entries-whole e)) tt)
 entries-refused value v number (suc k) e = e
+
+abbrev apart-whole : Apart → Bool
+apart-whole (A.Signs v) = true
+apart-whole (A.Refused zero) = false
+apart-whole (A.Refused (suc k)) = true
+
+pub apart-refused : (value v : ℕ) (number k : ℕ) → A.Refused k ≡ distanceAnswer number v → apartBy k value ≡ distanceAnswer number v
+unfolding answered
+apart-refused value v zero zero e = absurd (subst T (sym (ap apart-whole e)) tt)
+apart-refused value v (suc j) zero e = absurd (subst T (sym (ap apart-whole e)) tt)
+apart-refused value v number (suc k) e = e
 
 abbrev found : BeamSearched → Bool
 found (S.Found objective rounds) = true

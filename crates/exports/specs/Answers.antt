@@ -13,6 +13,8 @@ use Rattle.table_calls.specs.declared.Bound.{Bound}
 use Rattle.table_calls.specs.declared.Bound.the-variants as B
 use Rattle.table_calls.specs.declared.Entries.{Entries}
 use Rattle.table_calls.specs.declared.Entries.the-variants as T
+use Rattle.sign_calls.specs.declared.Apart.{Apart}
+use Rattle.sign_calls.specs.declared.Apart.the-variants as A
 use Rattle.sdp_local_search.specs.declared.BeamSearched.{BeamSearched}
 use Rattle.sdp_local_search.specs.declared.BeamSearched.the-variants as S
 use Rattle.reduced.specs.declared.from_principal_submatrix.Reduced.{Reduced}
@@ -40,6 +42,10 @@ boundBy (suc k) value = B.Refused (suc k)
 abbrev pub entriesBy : ℕ → ℕ → Entries
 entriesBy zero count = T.Count count
 entriesBy (suc k) count = T.Refused (suc k)
+
+abbrev pub apartBy : ℕ → ℕ → Apart
+apartBy zero signs = A.Signs signs
+apartBy (suc k) signs = A.Refused (suc k)
 
 abbrev pub searchedBy : ℕ → ℤ → ℕ → BeamSearched
 searchedBy zero objective rounds = S.Found objective rounds

@@ -2,11 +2,12 @@
 use Prim.Native.Nat.{ℕ}
 use mathlib.Core.List.{List, [], _∷_}
 use Rattle.laws.specs.Lists.{elem}
-use Rattle.limits.specs.Limits.{mostWagons, mostEntries, mostSigns, mostSignEntries, mostRank, mostWidth, mostDraws, mostStart, searchWorkspace, mostBytes, leastAnswer, mostSize}
+use Rattle.limits.specs.Limits.{mostWagons, mostEntries, mostSigns, mostSignEntries, mostRank, mostWidth, mostDraws, mostStart, searchWorkspace, recordWorkspace, mostBytes, leastAnswer, mostSize}
+use Rattle.sign_calls.specs.Size.{signWords}
 use Rattle.exports.specs.Words.{runWords, settingWords, resultWords}
 
 abbrev pub callsVersion : ℕ
-callsVersion = 2
+callsVersion = 3
 
 -- in the order of `enum wagonplan_sizes` of include/wagonplan.h
 abbrev pub sizes : List ℕ
@@ -20,12 +21,14 @@ sizes =
     ∷ mostWidth
     ∷ mostDraws
     ∷ mostStart
-    ∷ searchWorkspace
+    ∷ recordWorkspace
     ∷ leastAnswer
     ∷ mostSize
     ∷ runWords
     ∷ settingWords
     ∷ resultWords
+    ∷ searchWorkspace
+    ∷ signWords mostSigns
     ∷ []
 
 -- 0 where there is no such size

@@ -13,6 +13,8 @@ use limits::MOST_SIZE;
 use limits::MOST_START;
 use limits::MOST_WAGONS;
 use limits::MOST_WIDTH;
+use limits::MOST_WORDS;
+use limits::RECORD_WORKSPACE;
 use limits::SEARCH_WORKSPACE;
 ghost use mathlib.Core.Path.{_≡_};
 ghost use Rattle.ieee.specs.Floats.{doubleOf, bitsOf, eighthOf};
@@ -61,7 +63,7 @@ pub extern "C" fn wagonplan_raw_default_sdp_rank(m: u16) -> u16
 pub extern "C" fn wagonplan_raw_version() -> u32
     ensures { λ r. ⌜ r ≡ callsVersion ⌝ }
 {
-    2
+    3
 }
 
 // The size that is asked for, 0 where there is none.
@@ -69,7 +71,7 @@ pub extern "C" fn wagonplan_raw_version() -> u32
 pub extern "C" fn wagonplan_raw_size(which: u32) -> usize
     ensures { λ r. ⌜ r ≡ sizeOf which ⌝ }
 {
-    let sizes: [usize; 15] = [
+    let sizes: [usize; 17] = [
         MOST_BYTES,
         MOST_WAGONS,
         MOST_ENTRIES,
@@ -79,14 +81,16 @@ pub extern "C" fn wagonplan_raw_size(which: u32) -> usize
         MOST_WIDTH,
         MOST_DRAWS,
         MOST_START,
-        SEARCH_WORKSPACE,
+        RECORD_WORKSPACE,
         LEAST_ANSWER,
         MOST_SIZE,
         RUN_WORDS,
         SETTING_WORDS,
         RESULT_WORDS,
+        SEARCH_WORKSPACE,
+        MOST_WORDS,
     ];
-    if which < 15 {
+    if which < 17 {
         return sizes[which as usize];
     }
     0

@@ -125,7 +125,7 @@ pub extern "C" fn wagonplan_raw_finish(
     factor: &[f64],
     b: &mut [u8],
     dual_variables: &mut [f64],
-    workspace: &mut [u8],
+    workspace: &mut [u64],
     result: &mut [u64],
 ) -> u8
     ensures { λ r. ⌜ FinishesWords (now (words .entry)) (costTable n count (now (rows .entry)) (now (cols .entry)) (now (values .entry)) (now (c .entry)))

@@ -15,7 +15,7 @@ pub extern "C" fn wagonplan_raw_beam_search(
     width: usize,
     start: &[u8],
     out: &mut [u8],
-    workspace: &mut [u8],
+    workspace: &mut [u64],
     objective: &mut i64,
     rounds: &mut u64,
 ) -> u8

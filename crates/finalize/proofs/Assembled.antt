@@ -3,12 +3,14 @@
 --     works           all figures of a sign table
 --     finalizes       they are those of (H, c)
 --     cut             the sign table of (H, c) stands at the front of the slices that it was written to
-use Prim.Native.Nat.{ℕ, zero, suc, _+_, _*_, _≤_}
+use Prim.Native.Nat.{ℕ, zero, suc, _+_, _*_, _≤_, _<_}
 use native.Mathlib.Numerals.{add-one}
 use native.Mathlib.Omega.{arith}
+use mathlib.Core.Bool.{Bool, true, false}
 use mathlib.Core.List.{List}
 use mathlib.Core.Path.{_≡_, refl, sym, ap, subst, subst₂, _∙_}
 use lib.IntN.{ℤ}
+use lib.Ieee
 use lib.Ieee.{Float}
 use lib.ListN.{length, take, length-map}
 use lib.Seq.{sets, sets-eq, take-at, length-take-le}
@@ -16,16 +18,22 @@ use mir.Syntax.{w64}
 use mir.Val.{toZ, ofZ}
 use mir.Facts.{toZ-ofZ}
 use Rattle.laws.specs.Lists.{over, fill, tabulate}
+use Rattle.laws.specs.Rows.{rowOf}
 use Rattle.laws.proofs.MapFirst.{fill-none, fill-more}
 use Rattle.laws.proofs.Made.{tabulate-next}
-use Rattle.limits.specs.Limits.{mostWagons, mostEntries, mostMagnitude, mostSigns, mostSignEntries, mostSignMagnitude, mostWidth, searchWorkspace}
+use Rattle.limits.specs.Limits.{mostWagons, mostEntries, mostMagnitude, mostSigns, mostSignEntries, mostSignMagnitude, mostWords, mostWidth, searchWorkspace}
 use Rattle.tables.specs.Table.{Table, tableOf, Lent, floorOf}
 use Rattle.tables.specs.Check.{Hall, Accepted}
 use Rattle.tables.specs.Bound.{entrywise}
 use Rattle.tables.specs.Cost.{decodedByte}
 use Rattle.tables.specs.Stored.{rowsOf, colsOf, valuesOf, Wrote}
 use Rattle.sign_table.specs.SignTable.{signOf, signPlaces, signTable}
-use Rattle.rounding.specs.Rounding.{roundedSol, roundedObjective}
+use Rattle.ieee.specs.Floats.{zero64}
+use Rattle.factor.specs.Norms.{dotOf}
+use Rattle.factor.specs.Vectors.{unit}
+use Rattle.rounding.specs.Rounding.{plusByte, roundedSign, drawSigns, leastDraw, roundedSol, roundedObjective}
+use Rattle.sign_words.specs.Signs.{Binary}
+use Rattle.sign_words.proofs.PackedLaws.{tabulate-binary}
 use Rattle.sign_search.specs.Search.{objectiveIn, beamSearch}
 use Rattle.sign_search.specs.Contracts.{Found-by, Sound, LevelRoom}
 use Rattle.sign_search.proofs.Lawful.{objective-fits}
@@ -78,7 +86,7 @@ module _ {m : ℕ} {t : Table} (ok : Accepted mostSigns mostSignEntries mostSign
   pub sound : {len : ℕ} → len ≡ m → Sound len t
   sound e = rw e (record { mirrors = accepted-mirrors ok; climbs = rising-climbs t (ok .rising); small = ok .magnitude })
 
-  pub room : {len width space : ℕ} → len ≡ m → width ≤ mostWidth → searchWorkspace ≤ space → LevelRoom mostSigns len width space
+  pub room : {len width space : ℕ} → len ≡ m → width ≤ mostWidth → searchWorkspace ≤ space → LevelRoom mostSigns mostWords len width space
   room e w s = rw e (record { signs-few = ok .signs; width-few = omega (arith, w); level-room = s })
 
   -- an objective is an i64
@@ -203,3 +211,15 @@ module _ {n rank width drawCount draws factor b multipliers workspace : ℕ} (fi
         b-room = fits .b-room;
         space-room = fits .space-room;
       }
+
+-- ---- the rounded signs are 0 and 1
+
+plusByte-lt : (b : Bool) → plusByte b < 2
+plusByte-lt true = omega arith
+plusByte-lt false = omega arith
+
+pub rounded-binary : (factor : List Float) (rank m : ℕ) (draws : List Float) (t : Table) (count : ℕ) → Binary (roundedSol factor rank m draws t count)
+unfolding roundedSol drawSigns
+rounded-binary factor rank m draws t count =
+    let direction : List Float = unit (rowOf rank draws (leastDraw factor rank m draws t count)) in
+    tabulate-binary (roundedSign factor rank direction) m (λ i. plusByte-lt (Ieee.lt zero64 (dotOf (rowOf rank factor i) direction)))

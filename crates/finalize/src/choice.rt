@@ -34,7 +34,7 @@ fn search_from(
     signs: &mut [u8],
     best: &mut [u8],
     b: &mut [u8],
-    workspace: &mut [u8],
+    workspace: &mut [u64],
 ) -> Chosen
     requires { ⌜ Lent entries (now rows) (now cols) (now values) × Accepted mostSigns mostSignEntries mostSignMagnitude (suc n) (tableOf entries (now rows) (now cols) (now values)) ⌝ }
     requires { ⌜ ChoiceFits n rank width «draw_count» (length (now draws)) (length (now factor)) (length (now b)) (length (now workspace))
@@ -77,7 +77,7 @@ pub fn choose(
     draws: &[f64],
     factor: &[f64],
     b: &mut [u8],
-    workspace: &mut [u8],
+    workspace: &mut [u64],
 ) -> Chosen
     requires { ⌜ Lent entries (now rows) (now cols) (now values) × Accepted mostSigns mostSignEntries mostSignMagnitude (suc n) (tableOf entries (now rows) (now cols) (now values)) ⌝ }
     requires { ⌜ ChoiceFits n rank width «draw_count» (length (now draws)) (length (now factor)) (length (now b)) (length (now workspace)) × (rank ≤ mostRank) ⌝ }

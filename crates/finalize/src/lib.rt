@@ -44,7 +44,7 @@ fn finalize_signs(
     factor: &[f64],
     b: &mut [u8],
     dual_variables: &mut [f64],
-    workspace: &mut [u8],
+    workspace: &mut [u64],
 ) -> Figures
     requires { ⌜ Lent entries (now rows) (now cols) (now values) × Accepted mostSigns mostSignEntries mostSignMagnitude (suc n) (tableOf entries (now rows) (now cols) (now values)) ⌝ }
     requires { ⌜ Fits n rank width «draw_count» (length (now draws)) (length (now factor)) (length (now b)) (length (now «dual_variables»)) (length (now workspace)) × (length (now factor) ≡ suc n * rank) ⌝ }
@@ -102,7 +102,7 @@ pub fn finalize(
     factor: &[f64],
     b: &mut [u8],
     dual_variables: &mut [f64],
-    workspace: &mut [u8],
+    workspace: &mut [u64],
 ) -> Figures
     requires { ⌜ Lent count (now rows) (now cols) (now values) × (n ≤ length (now c)) × Hall mostWagons mostEntries mostMagnitude n (tableOf count (now rows) (now cols) (now values)) (elemZ (now c)) ⌝ }
     requires { ⌜ Fits n rank width «draw_count» (length (now draws)) (length (now factor)) (length (now b)) (length (now «dual_variables»)) (length (now workspace)) ⌝ }

@@ -49,9 +49,17 @@ mostFactor = mostSigns * mostRank
 abbrev pub mostStart : ℕ
 mostStart = mostSigns + mostFactor
 
--- the workspace of a search, and so of a finish and of the record call: a level, as many choices as there are signs or places, a byte a sign
+-- the words of a choice, 64 signs in each
+abbrev pub mostWords : ℕ
+mostWords = (mostSigns + 63) / 64
+
+-- the workspace of a search, and so of a finish, in words: a level, as many choices as there are signs or places
 abbrev pub searchWorkspace : ℕ
-searchWorkspace = mostSigns * mostSigns
+searchWorkspace = mostSigns * mostWords
+
+-- the workspace of the record call, in bytes
+abbrev pub recordWorkspace : ℕ
+recordWorkspace = mostSigns * mostSigns
 
 -- ---- a job record, and an answer's slice
 

@@ -31,8 +31,14 @@ pub const MOST_FACTOR: usize = MOST_SIGNS * MOST_RANK;
 
 pub const MOST_START: usize = MOST_SIGNS + MOST_FACTOR;
 
-// The workspace of a search, and so of a finish and of the record call: a level, as many choices as there are signs or places, a byte a sign.
-pub const SEARCH_WORKSPACE: usize = MOST_SIGNS * MOST_SIGNS;
+// The words of a choice, 64 signs in each.
+pub const MOST_WORDS: usize = (MOST_SIGNS + 63) / 64;
+
+// The workspace of a search, and so of a finish, in words: a level, as many choices as there are signs or places.
+pub const SEARCH_WORKSPACE: usize = MOST_SIGNS * MOST_WORDS;
+
+// The workspace of the record call, in bytes.
+pub const RECORD_WORKSPACE: usize = MOST_SIGNS * MOST_SIGNS;
 
 // A job record, and as many doubles as any job has in its draws.
 pub const MOST_BYTES: usize = 65_536;

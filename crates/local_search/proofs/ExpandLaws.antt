@@ -10,9 +10,9 @@ use lib.IntN.{ℤ, pos, _+ℤ_}
 use lib.ListN.{length, take, drop, getD, length-take, length-drop}
 use lib.Seq.{drop-drop, length-take-le}
 use Rattle.local_search.specs.LocalSearch.{All, insert, keepBest, best, childrenOf}
-use Rattle.local_search.specs.Level.{Choice, below, childOf, rows, choices, levelOf, Inserted}
-use Rattle.local_search.specs.SignSearch.{improving, flipC, childrenC, childAt}
-use Rattle.local_search.specs.Children.{Kept, Appended, better, parentOf}
+use Rattle.local_search.specs.Level.{Choice, below, wordChild, rows, choices, levelOf, Inserted}
+use Rattle.local_search.specs.SignSearch.{improving, childAt}
+use Rattle.local_search.specs.Children.{Kept, Appended, better, parentOf, changeOf, flipW}
 use Rattle.local_search.proofs.LevelLaws.{turned}
 
 keepBest-append : (w : ℕ) (l a b : List Choice) → keepBest below w l (a ++ b) ≡ keepBest below w (keepBest below w l a) b
@@ -20,41 +20,41 @@ unfolding keepBest
 keepBest-append w l [] b = refl
 keepBest-append w l (x ∷ a) b = keepBest-append w (take w (insert below x l)) a b
 
-module _ (width : ℕ) (before after : List Choice) (count i : ℕ) (change : List ℕ → ℕ → ℤ) (exists : Choice → ℕ → Bool) (parent : Choice) where
-  pub child-kept : (objective : ℤ) → exists parent i ≡ true → objective ≡ parent .objective +ℤ change (parent .signs) i
-      → Inserted before after width (childOf objective i (parent .signs)) count
-      → Kept width before (childAt exists (flipC change) parent i) after count
-  unfolding keepBest flipC
+module _ (width : ℕ) (before after : List Choice) (count i : ℕ) (changes : List ℤ) (exists : Choice → ℕ → Bool) (parent : Choice) where
+  pub child-kept : (objective : ℤ) → exists parent i ≡ true → objective ≡ parent .objective +ℤ changeOf changes (parent .signs) i
+      → Inserted before after width (wordChild objective i (parent .signs)) count
+      → Kept width before (childAt exists (flipW changes) parent i) after count
+  unfolding keepBest flipW
   child-kept objective e o p =
-      let c : Choice = childOf (parent .objective +ℤ change (parent .signs) i) i (parent .signs) in
+      let c : Choice = wordChild (parent .objective +ℤ changeOf changes (parent .signs) i) i (parent .signs) in
       let put : after ≡ take width (insert below c before) =
-      p .level ∙ ap (λ (z : ℤ). take width (insert below (childOf z i (parent .signs)) before)) o in
+      p .level ∙ ap (λ (z : ℤ). take width (insert below (wordChild z i (parent .signs)) before)) o in
       record {
         level = put ∙ ap (keepBest below width before) (sym (ap (λ (b : Bool). cond b (c ∷ []) []) e));
-        room = omega (arith, p .counted, length-take width (insert below (childOf objective i (parent .signs)) before));
+        room = omega (arith, p .counted, length-take width (insert below (wordChild objective i (parent .signs)) before));
       }
 
   pub no-child : exists parent i ≡ false → after ≡ before → count ≤ width
-      → Kept width before (childAt exists (flipC change) parent i) after count
+      → Kept width before (childAt exists (flipW changes) parent i) after count
   unfolding keepBest
   no-child e same room = record {
-    level = same ∙ ap (keepBest below width before) (sym (ap (λ (b : Bool). cond b (flipC change i parent ∷ []) []) e));
+    level = same ∙ ap (keepBest below width before) (sym (ap (λ (b : Bool). cond b (flipW changes i parent ∷ []) []) e));
     room = room;
   }
 
 -- the loop over the children
-module _ (width : ℕ) (before : List Choice) (change : List ℕ → ℕ → ℤ) (exists : Choice → ℕ → Bool) (parent : Choice) where
-  pub children-none : (count : ℕ) → count ≤ width → Kept width before (childrenC change exists 0 parent) before count
+module _ (width : ℕ) (before : List Choice) (changes : List ℤ) (exists : Choice → ℕ → Bool) (parent : Choice) where
+  pub children-none : (count : ℕ) → count ≤ width → Kept width before (improving exists (flipW changes) 0 parent) before count
   unfolding improving keepBest
   children-none count room = record { level = refl; room = room }
 
-  pub children-one-more : (i : ℕ) (now after : List Choice) (count′ count : ℕ) → Kept width before (childrenC change exists i parent) now count′
-      → Kept width now (childAt exists (flipC change) parent i) after count → Kept width before (childrenC change exists (i + 1) parent) after count
+  pub children-one-more : (i : ℕ) (now after : List Choice) (count′ count : ℕ) → Kept width before (improving exists (flipW changes) i parent) now count′
+      → Kept width now (childAt exists (flipW changes) parent i) after count → Kept width before (improving exists (flipW changes) (i + 1) parent) after count
   unfolding improving
   children-one-more i now after count′ count p q = record {
-    level = q .level ∙ ap (λ (l : List Choice). keepBest below width l (childAt exists (flipC change) parent i)) (p .level)
-        ∙ sym (keepBest-append width before (childrenC change exists i parent) (childAt exists (flipC change) parent i))
-        ∙ ap (λ (k : ℕ). keepBest below width before (childrenC change exists k parent)) (sym (add-one i));
+    level = q .level ∙ ap (λ (l : List Choice). keepBest below width l (childAt exists (flipW changes) parent i)) (p .level)
+        ∙ sym (keepBest-append width before (improving exists (flipW changes) i parent) (childAt exists (flipW changes) parent i))
+        ∙ ap (λ (k : ℕ). keepBest below width before (improving exists (flipW changes) k parent)) (sym (add-one i));
     room = q .room;
   }
 
@@ -128,32 +128,32 @@ module _ (m : ℕ) (os : List ℤ) (s : List ℕ) (k : ℕ) (room : k * m + m �
 
 -- ---- the first level: children put behind one another
 
-module _ (before after : List Choice) (count i : ℕ) (change : List ℕ → ℕ → ℤ) (exists : Choice → ℕ → Bool) (parent : Choice) where
-  pub child-appended : (y : Choice) → exists parent i ≡ true → y ≡ flipC change i parent → after ≡ before ++ (y ∷ []) → count ≤ i
-      → Appended before (childAt exists (flipC change) parent i) after (count + 1) (suc i)
+module _ (before after : List Choice) (count i : ℕ) (changes : List ℤ) (exists : Choice → ℕ → Bool) (parent : Choice) where
+  pub child-appended : (y : Choice) → exists parent i ≡ true → y ≡ flipW changes i parent → after ≡ before ++ (y ∷ []) → count ≤ i
+      → Appended before (childAt exists (flipW changes) parent i) after (count + 1) (suc i)
   child-appended y e f p room = record {
-    level = p ∙ ap (λ (x : Choice). before ++ (x ∷ [])) f ∙ ap (λ (b : Bool). before ++ cond b (flipC change i parent ∷ []) []) (sym e);
+    level = p ∙ ap (λ (x : Choice). before ++ (x ∷ [])) f ∙ ap (λ (b : Bool). before ++ cond b (flipW changes i parent ∷ []) []) (sym e);
     room = omega arith;
   }
 
   pub child-skipped : exists parent i ≡ false → after ≡ before → count ≤ i
-      → Appended before (childAt exists (flipC change) parent i) after count (suc i)
+      → Appended before (childAt exists (flipW changes) parent i) after count (suc i)
   child-skipped e p room = record {
-    level = p ∙ sym (append-nil before) ∙ ap (λ (b : Bool). before ++ cond b (flipC change i parent ∷ []) []) (sym e);
+    level = p ∙ sym (append-nil before) ∙ ap (λ (b : Bool). before ++ cond b (flipW changes i parent ∷ []) []) (sym e);
     room = omega arith;
   }
 
-module _ (change : List ℕ → ℕ → ℤ) (exists : Choice → ℕ → Bool) (parent : Choice) where
-  pub append-none : (after : List Choice) → after ≡ [] → Appended [] (childrenC change exists 0 parent) after 0 0
+module _ (changes : List ℤ) (exists : Choice → ℕ → Bool) (parent : Choice) where
+  pub append-none : (after : List Choice) → after ≡ [] → Appended [] (improving exists (flipW changes) 0 parent) after 0 0
   unfolding improving
   append-none after e = record { level = e; room = omega arith }
 
-  pub append-one-more : (i : ℕ) (now after : List Choice) (count′ count : ℕ) → Appended [] (childrenC change exists i parent) now count′ i
-      → Appended now (childAt exists (flipC change) parent i) after count (suc i) → Appended [] (childrenC change exists (i + 1) parent) after count (i + 1)
+  pub append-one-more : (i : ℕ) (now after : List Choice) (count′ count : ℕ) → Appended [] (improving exists (flipW changes) i parent) now count′ i
+      → Appended now (childAt exists (flipW changes) parent i) after count (suc i) → Appended [] (improving exists (flipW changes) (i + 1) parent) after count (i + 1)
   unfolding improving
   append-one-more i now after count′ count p q = record {
-    level = q .level ∙ ap (λ (l : List Choice). l ++ childAt exists (flipC change) parent i) (p .level)
-        ∙ ap (λ (k : ℕ). childrenC change exists k parent) (sym (add-one i));
+    level = q .level ∙ ap (λ (l : List Choice). l ++ childAt exists (flipW changes) parent i) (p .level)
+        ∙ ap (λ (k : ℕ). improving exists (flipW changes) k parent) (sym (add-one i));
     room = omega (arith, q .room);
   }
 

@@ -63,7 +63,7 @@ improving-ext {X} exists exists′ flip flip′ x (suc n) h =
     (ap₂ (λ (b : Bool) (y : X). cond b (y ∷ []) []) (h n (omega arith) .0) (h n (omega arith) .1))
 
 module _ {X Y : Type 0} (R : X → Y → Type 0) (exists : X → ℕ → Bool) (flip : ℕ → X → X) (exists′ : Y → ℕ → Bool) (flip′ : ℕ → Y → Y) (x : X) (y : Y) where
-  same-improving : (n : ℕ) → ((i : ℕ) → i < n → (exists x i ≡ exists′ y i) × R (flip i x) (flip′ i y)) → All2 R (improving exists flip n x) (improving exists′ flip′ n y)
+  pub same-improving : (n : ℕ) → ((i : ℕ) → i < n → (exists x i ≡ exists′ y i) × R (flip i x) (flip′ i y)) → All2 R (improving exists flip n x) (improving exists′ flip′ n y)
   unfolding improving
   same-improving zero h = tt
   same-improving (suc n) h =

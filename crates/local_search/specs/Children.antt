@@ -1,13 +1,15 @@
--- What the level functions ask and leave. The children of a parent are those of its `changes`, one for each sign.
-use Prim.Native.Nat.{ℕ, _*_, _≤_}
-use mathlib.Core.Bool.{cond}
+-- What the level functions ask and leave. The children of a parent in words are those of its `changes`, one for each of its m signs.
+use Prim.Native.Nat.{ℕ, _*_, _≤_, _<_}
+use mathlib.Core.Bool.{true, cond}
 use mathlib.Core.List.{List, _++_}
 use mathlib.Core.Path.{_≡_}
-use lib.IntN.{ℤ, pos}
+use lib.IntN.{ℤ, pos, _+ℤ_}
+use mir.Syntax.{w64}
+use mir.Val.{SFits}
 use lib.ListN.{length, getD}
 use Rattle.local_search.specs.LocalSearch.{keepBest}
-use Rattle.local_search.specs.Level.{Choice, below}
-use Rattle.local_search.specs.SignSearch.{improvesC, childrenC, Safe}
+use Rattle.local_search.specs.Level.{Choice, below, wordChild}
+use Rattle.local_search.specs.SignSearch.{improving, improvesC}
 
 -- the changes of one parent, read from a list
 abbrev pub changeOf : List ℤ → List ℕ → ℕ → ℤ
@@ -16,21 +18,27 @@ changeOf changes x i = getD changes i (pos 0)
 abbrev pub parentOf : ℤ → List ℕ → Choice
 parentOf objective signs = record { objective = objective; signs = signs }
 
--- the improving children of a parent with these changes
-abbrev pub listedChildren : List ℤ → Choice → List Choice
-listedChildren changes parent = childrenC (changeOf changes) (improvesC (changeOf changes)) (length (parent .signs)) parent
+-- child i of a parent in words
+unfoldable pub flipW : List ℤ → ℕ → Choice → Choice
+flipW changes i c = wordChild (c .objective +ℤ changeOf changes (c .signs) i) i (c .signs)
 
-abbrev pub ListedSafe : List ℤ → Choice → Type 0
-ListedSafe changes parent = Safe (changeOf changes) (improvesC (changeOf changes)) parent
+-- the improving children of a parent with these changes, among those of its first m signs
+abbrev pub listedChildren : List ℤ → ℕ → Choice → List Choice
+listedChildren changes m parent = improving (improvesC (changeOf changes)) (flipW changes) m parent
+
+-- their objectives fit 64 bits
+abbrev pub ListedSafe : List ℤ → ℕ → Choice → Type 0
+ListedSafe changes m parent = (i : ℕ) → i < m → improvesC (changeOf changes) parent i ≡ true → SFits w64 (parent .objective +ℤ changeOf changes (parent .signs) i)
 
 -- what it takes to put a parent's children into a level with room for `width`, of which `count` are in use
-pub record Expands (changes : List ℤ) (parent : Choice) (count width objectives signs : ℕ) : Type 0 where
+pub record Expands (changes : List ℤ) (m : ℕ) (parent : Choice) (count width objectives signs : ℕ) : Type 0 where
   pub some : 1 ≤ width
   pub used : count ≤ width
   pub objectives-room : width ≤ objectives
   pub signs-room : width * length (parent .signs) ≤ signs
-  pub changes-many : length (parent .signs) ≤ length changes
-  pub safe : ListedSafe changes parent
+  pub signs-held : m ≤ 64 * length (parent .signs)
+  pub changes-many : m ≤ length changes
+  pub safe : ListedSafe changes m parent
 
 -- the level after it has taken in the children, and its count
 pub record Kept (width : ℕ) (before children after : List Choice) (count : ℕ) : Type 0 where
@@ -38,11 +46,12 @@ pub record Kept (width : ℕ) (before children after : List Choice) (count : ℕ
   pub room : count ≤ width
 
 -- what it takes to lay down all children of the start
-pub record Appends (changes : List ℤ) (start : Choice) (objectives signs : ℕ) : Type 0 where
-  pub objectives-room : length (start .signs) ≤ objectives
-  pub signs-room : length (start .signs) * length (start .signs) ≤ signs
-  pub changes-many : length (start .signs) ≤ length changes
-  pub safe : ListedSafe changes start
+pub record Appends (changes : List ℤ) (m : ℕ) (start : Choice) (objectives signs : ℕ) : Type 0 where
+  pub objectives-room : m ≤ objectives
+  pub signs-room : m * length (start .signs) ≤ signs
+  pub signs-held : m ≤ 64 * length (start .signs)
+  pub changes-many : m ≤ length changes
+  pub safe : ListedSafe changes m start
 
 -- the level with the children behind it, and its count, at most `most`
 pub record Appended (before children after : List Choice) (count most : ℕ) : Type 0 where

@@ -5,26 +5,26 @@ use crate::level::insert_row;
 ghost use mathlib.Core.Bool.{false};
 ghost use mathlib.Core.List.{[]};
 ghost use mathlib.Core.Path.{_≡_};
-ghost use Prim.Native.Nat.{suc, _≤_, _<_};
+ghost use Prim.Native.Nat.{suc, _≤_};
 ghost use lib.ListN.{length, take};
 ghost use Rattle.local_search.specs.Level.{levelOf, Ascending};
-ghost use Rattle.local_search.specs.SignSearch.{improvesC, flipC, childAt};
-ghost use Rattle.local_search.specs.Children.{changeOf, listedChildren, parentOf, Appended, Appends, Expands, Kept};
+ghost use Rattle.local_search.specs.SignSearch.{improvesC, childAt};
+ghost use Rattle.local_search.specs.Children.{changeOf, flipW, listedChildren, parentOf, Appended, Appends, Expands, Kept};
 ghost use Rattle.local_search.specs.Enters.{enters, entersFirst, Untouched};
 
 // Puts child `i` of the parent in, where it enters the level; else nothing is written.
 pub fn consider_child(
     changes: &[i64],
     objective: i64,
-    parent: &[u8],
+    parent: &[u64],
     i: usize,
     objectives: &mut [i64],
-    signs: &mut [u8],
+    signs: &mut [u64],
     count: usize,
     width: usize,
 ) -> usize
-    requires { ⌜ Expands (now changes) (parentOf objective (now parent)) count width (length (now objectives)) (length (now signs)) × (i < length (now parent)) × Ascending (take count (now objectives)) ⌝ }
-    ensures { λ r. ⌜ Kept width (levelOf (length (now (parent .entry))) count (now (objectives .entry)) (now (signs .entry))) (childAt (improvesC (changeOf (now (changes .entry)))) (flipC (changeOf (now (changes .entry)))) (parentOf objective (now (parent .entry))) i) (levelOf (length (now (parent .entry))) r (now (objectives .exit)) (now (signs .exit))) r ⌝ }
+    requires { ⌜ Expands (now changes) (suc i) (parentOf objective (now parent)) count width (length (now objectives)) (length (now signs)) × Ascending (take count (now objectives)) ⌝ }
+    ensures { λ r. ⌜ Kept width (levelOf (length (now (parent .entry))) count (now (objectives .entry)) (now (signs .entry))) (childAt (improvesC (changeOf (now (changes .entry)))) (flipW (now (changes .entry))) (parentOf objective (now (parent .entry))) i) (levelOf (length (now (parent .entry))) r (now (objectives .exit)) (now (signs .exit))) r ⌝ }
     ensures stays_out { λ r. ⌜ (enters width (take count (now (objectives .entry))) (now (changes .entry)) (parentOf objective (now (parent .entry))) i ≡ false → Untouched (now (objectives .entry)) (now (objectives .exit)) (now (signs .entry)) (now (signs .exit)) count r) ⌝ }
 {
     let d = changes[i];
@@ -38,18 +38,19 @@ pub fn consider_child(
 pub fn expand_parent(
     changes: &[i64],
     objective: i64,
-    parent: &[u8],
+    parent: &[u64],
+    m: usize,
     objectives: &mut [i64],
-    signs: &mut [u8],
+    signs: &mut [u64],
     count: usize,
     width: usize,
 ) -> usize
-    requires { ⌜ Expands (now changes) (parentOf objective (now parent)) count width (length (now objectives)) (length (now signs)) × Ascending (take count (now objectives)) ⌝ }
-    ensures { λ r. ⌜ Kept width (levelOf (length (now (parent .entry))) count (now (objectives .entry)) (now (signs .entry))) (listedChildren (now (changes .entry)) (parentOf objective (now (parent .entry)))) (levelOf (length (now (parent .entry))) r (now (objectives .exit)) (now (signs .exit))) r ⌝ }
+    requires { ⌜ Expands (now changes) m (parentOf objective (now parent)) count width (length (now objectives)) (length (now signs)) × Ascending (take count (now objectives)) ⌝ }
+    ensures { λ r. ⌜ Kept width (levelOf (length (now (parent .entry))) count (now (objectives .entry)) (now (signs .entry))) (listedChildren (now (changes .entry)) m (parentOf objective (now (parent .entry)))) (levelOf (length (now (parent .entry))) r (now (objectives .exit)) (now (signs .exit))) r ⌝ }
 {
     let mut kept = count;
     let mut i = 0;
-    while i < parent.len() {
+    while i < m {
         kept = consider_child(
             changes,
             objective,
@@ -69,14 +70,14 @@ pub fn expand_parent(
 pub fn append_child(
     changes: &[i64],
     objective: i64,
-    start: &[u8],
+    start: &[u64],
     i: usize,
     objectives: &mut [i64],
-    signs: &mut [u8],
+    signs: &mut [u64],
     count: usize,
 ) -> usize
-    requires { ⌜ Appends (now changes) (parentOf objective (now start)) (length (now objectives)) (length (now signs)) × (i < length (now start)) × (count ≤ i) ⌝ }
-    ensures { λ r. ⌜ Appended (levelOf (length (now (start .entry))) count (now (objectives .entry)) (now (signs .entry))) (childAt (improvesC (changeOf (now (changes .entry)))) (flipC (changeOf (now (changes .entry)))) (parentOf objective (now (start .entry))) i) (levelOf (length (now (start .entry))) r (now (objectives .exit)) (now (signs .exit))) r (suc i) ⌝ }
+    requires { ⌜ Appends (now changes) (suc i) (parentOf objective (now start)) (length (now objectives)) (length (now signs)) × (count ≤ i) ⌝ }
+    ensures { λ r. ⌜ Appended (levelOf (length (now (start .entry))) count (now (objectives .entry)) (now (signs .entry))) (childAt (improvesC (changeOf (now (changes .entry)))) (flipW (now (changes .entry))) (parentOf objective (now (start .entry))) i) (levelOf (length (now (start .entry))) r (now (objectives .exit)) (now (signs .exit))) r (suc i) ⌝ }
     ensures stays_out { λ r. ⌜ (entersFirst (now (changes .entry)) (parentOf objective (now (start .entry))) i ≡ false → Untouched (now (objectives .entry)) (now (objectives .exit)) (now (signs .entry)) (now (signs .exit)) count r) ⌝ }
 {
     let change = changes[i];
@@ -92,16 +93,17 @@ pub fn append_child(
 pub fn first_level(
     changes: &[i64],
     objective: i64,
-    start: &[u8],
+    start: &[u64],
+    m: usize,
     objectives: &mut [i64],
-    signs: &mut [u8],
+    signs: &mut [u64],
 ) -> usize
-    requires { ⌜ Appends (now changes) (parentOf objective (now start)) (length (now objectives)) (length (now signs)) ⌝ }
-    ensures { λ r. ⌜ Appended [] (listedChildren (now (changes .entry)) (parentOf objective (now (start .entry)))) (levelOf (length (now (start .entry))) r (now (objectives .exit)) (now (signs .exit))) r (length (now (start .entry))) ⌝ }
+    requires { ⌜ Appends (now changes) m (parentOf objective (now start)) (length (now objectives)) (length (now signs)) ⌝ }
+    ensures { λ r. ⌜ Appended [] (listedChildren (now (changes .entry)) m (parentOf objective (now (start .entry)))) (levelOf (length (now (start .entry))) r (now (objectives .exit)) (now (signs .exit))) r m ⌝ }
 {
     let mut count = 0;
     let mut i = 0;
-    while i < start.len() {
+    while i < m {
         count = append_child(changes, objective, start, i, objectives, signs, count);
         i += 1;
     }

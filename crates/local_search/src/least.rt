@@ -1,5 +1,6 @@
 // The first of least objective.
 use crate::rows::copy_row;
+use sign_words::words::copy;
 ghost use mathlib.Core.Path.{_≡_};
 ghost use Prim.Native.Nat.{_*_, _≤_};
 ghost use lib.ListN.{length};
@@ -19,13 +20,25 @@ pub fn keep_better(least: i64, kept: &mut [u8], objective: i64, row: &[u8]) -> i
     least
 }
 
+// The same of choices in words.
+fn keep_words(held: i64, kept: &mut [u64], objective: i64, row: &[u64]) -> i64
+    requires { ⌜ length (now kept) ≡ length (now row) ⌝ }
+    ensures { λ r. ⌜ parentOf r (now (kept .exit)) ≡ better (parentOf held (now (kept .entry))) (parentOf objective (now (row .entry))) ⌝ }
+{
+    if objective < held {
+        copy(kept, row);
+        return objective;
+    }
+    held
+}
+
 // The first of least objective among the choice kept so far and the level's.
 pub fn keep_least(
     objectives: &[i64],
-    signs: &[u8],
+    signs: &[u64],
     count: usize,
     least: i64,
-    kept: &mut [u8],
+    kept: &mut [u64],
 ) -> i64
     requires { ⌜ (count ≤ length (now objectives)) × (count * length (now kept) ≤ length (now signs)) ⌝ }
     ensures { λ r. ⌜ parentOf r (now (kept .exit)) ≡ best below (parentOf least (now (kept .entry))) (levelOf (length (now (kept .entry))) count (now (objectives .entry)) (now (signs .entry))) ⌝ }
@@ -37,7 +50,7 @@ pub fn keep_least(
         let at = k * m;
         let end = at + m;
         let objective = objectives[k];
-        low = keep_better(low, kept, objective, &signs[at..end]);
+        low = keep_words(low, kept, objective, &signs[at..end]);
         k += 1;
     }
     low

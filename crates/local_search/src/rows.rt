@@ -1,8 +1,12 @@
-// A choice's row of signs, a byte for each: the only functions that know how a row is stored.
+// The rows of a level, in words (sign_words), and the signs of a choice, a byte for each.
+use sign_words::words::copy;
+use sign_words::words::flip_in;
 ghost use mathlib.Core.Path.{_≡_};
-ghost use Prim.Native.Nat.{_+_, _≤_, _<_};
+ghost use Prim.Native.Nat.{_+_, _*_, _≤_, _<_};
 ghost use lib.ListN.{length, getD};
-ghost use Rattle.local_search.specs.Level.{flipByte, flipSign, shifted};
+ghost use Rattle.sign_words.specs.Signs.{flipByte, flipSign};
+ghost use Rattle.sign_words.specs.Packed.{flipIn};
+ghost use Rattle.local_search.specs.Level.{shifted};
 
 // The byte of sign `i`.
 pub fn sign_at(row: &[u8], i: usize) -> u8
@@ -12,7 +16,7 @@ pub fn sign_at(row: &[u8], i: usize) -> u8
     row[i]
 }
 
-// The parent's signs, copied.
+// A choice's signs, copied.
 pub fn copy_row(row: &mut [u8], parent: &[u8])
     requires { ⌜ length (now row) ≡ length (now parent) ⌝ }
     ensures { λ r. ⌜ now (row .exit) ≡ now (parent .entry) ⌝ }
@@ -40,16 +44,16 @@ pub fn flip_sign(row: &mut [u8], i: usize)
 }
 
 // The parent's signs, with sign `i` flipped.
-pub fn copy_flip(row: &mut [u8], parent: &[u8], i: usize)
-    requires { ⌜ (length (now row) ≡ length (now parent)) × (i < length (now parent)) ⌝ }
-    ensures { λ r. ⌜ now (row .exit) ≡ flipSign i (now (parent .entry)) ⌝ }
+pub fn copy_flip(row: &mut [u64], parent: &[u64], i: usize)
+    requires { ⌜ (length (now row) ≡ length (now parent)) × (i < 64 * length (now parent)) ⌝ }
+    ensures { λ r. ⌜ now (row .exit) ≡ flipIn i (now (parent .entry)) ⌝ }
 {
-    copy_row(row, parent);
-    flip_sign(row, i);
+    copy(row, parent);
+    flip_in(row, i);
 }
 
-// Moves the bytes from `from` up to `to` by `m` places up.
-pub fn shift_signs(signs: &mut [u8], from: usize, to: usize, m: usize)
+// Moves the words from `from` up to `to` by `m` places up.
+pub fn shift_signs(signs: &mut [u64], from: usize, to: usize, m: usize)
     requires { ⌜ (from ≤ to) × (to + m ≤ length (now signs)) ⌝ }
     ensures { λ r. ⌜ now (signs .exit) ≡ shifted m from to (now (signs .entry)) ⌝ }
 {

@@ -17,7 +17,7 @@ use Rattle.laws.specs.Lists.{over, fill, tabulate}
 use Rattle.laws.proofs.MapFirst.{length-fill}
 use Rattle.laws.proofs.Made.{length-tabulate, tabulate-getD, over-all}
 use Rattle.ieee.specs.Floats.{zero64}
-use Rattle.limits.specs.Limits.{mostWagons, mostEntries, mostSigns, mostRank, mostFactor, mostStart, mostDrawn}
+use Rattle.limits.specs.Limits.{mostWagons, mostEntries, mostSigns, mostRank, mostFactor, mostStart, mostDrawn, searchWorkspace}
 use Rattle.run_record.specs.declared.Run.{Run}
 use Rattle.tables.specs.Stored.{Room}
 use Rattle.pinned.specs.Pinned.{freeOf, freeTable, lifted, Reducing, Shrinks}
@@ -49,7 +49,7 @@ use Rattle.job_record.specs.declared.job.Job.{Job}
 use Rattle.job_record.proofs.Same.{filled}
 use Rattle.job_record.proofs.Products.{area}
 use Rattle.job_record.proofs.Accepted.{fields, start-fits, drawn-fits}
-use Rattle.record_call.specs.Record.{jobCosts, reducedCosts, runCosts, pinnedCost, jobSettings, jobDraws, opened, stopped, jobResult, jobChoice, fieldsOf, jobFields, wholeChoice, leastWorkspace}
+use Rattle.record_call.specs.Record.{jobCosts, reducedCosts, runCosts, pinnedCost, jobSettings, jobDraws, opened, stopped, jobResult, jobChoice, fieldsOf, jobFields, wholeChoice}
 use Rattle.record_call.specs.Decoded.{Decoded, CostsRoom, CostsRead, FiguresFit}
 use Rattle.record_call.proofs.Freed.{same-costs, rows-long, cols-long, values-long, costs-long, choice-long, states-whole, job-hall, many-free, run-n, run-hall, no-pins, constant-none}
 use Rattle.record_call.proofs.Figures.{rank-low, figures-fit}
@@ -337,7 +337,7 @@ module _ {s : List ℕ} {j : Job} {count : ℕ} {rows cols : List ℕ} {values c
 
   -- nor the finish
   pub finishes-now : {run : Run} {draws factor : List Float} (b : List ℕ) (dual : List Float) (workspace : List ℕ) → run ≡ recordOf (stopped (runCosts s) s) → draws ≡ jobDraws s → factor ≡ stopped (runCosts s) s .factor
-      → mostWagons ≤ length b → mostSigns ≤ length dual → leastWorkspace ≤ length workspace
+      → mostWagons ≤ length b → mostSigns ≤ length dual → searchWorkspace ≤ length workspace
       → finishNumber run costs (j .width) (j .«draw_count») (Calls.finishLengths draws factor b dual workspace) ≡ 0
   finishes-now b dual workspace is ds made br dr wr =
       let n = few s (d .accepted) in
@@ -346,7 +346,7 @@ module _ {s : List ℕ} {j : Job} {count : ℕ} {rows cols : List ℕ} {values c
       rw (is, ds, made, d .costs-are, ap (λ (x : Job). x .width) (d .job-is), ap (λ (x : Job). x .«draw_count») (d .job-is)) none
 
   pub finished : {run : Run} {draws factor : List Float} {b b′ : List ℕ} {dual dual′ : List Float} {workspace workspace′ : List ℕ} {answer : Finished} → run ≡ recordOf (stopped (runCosts s) s) → draws ≡ jobDraws s → factor ≡ stopped (runCosts s) s .factor
-      → mostWagons ≤ length b → mostSigns ≤ length dual → leastWorkspace ≤ length workspace
+      → mostWagons ≤ length b → mostSigns ≤ length dual → searchWorkspace ≤ length workspace
       → Finishes run costs (j .width) (j .«draw_count») draws factor b dual workspace answer b′ dual′ workspace′
       → (answer ≡ F.Result (jobResult (runCosts s) s)) × (b′ ≡ over (jobChoice (runCosts s) s) b)
   finished {run} {draws} {factor} {b} {b′} {dual} {dual′} {workspace} {workspace′} {answer} is ds made br dr wr f =

@@ -8,7 +8,7 @@ use lib.Ieee.{Float}
 use lib.IntN.{ℤ, _+ℤ_}
 use Rattle.laws.specs.Lists.{over, tabulate}
 use Rattle.laws.specs.Refusal.{first, _if_, anyOf}
-use Rattle.limits.specs.Limits.{searchWorkspace, leastAnswer}
+use Rattle.limits.specs.Limits.{recordWorkspace, leastAnswer}
 use Rattle.tables.specs.Stored.{rowsOf, colsOf, valuesOf}
 use Rattle.reduced.specs.Submatrix.{valueIn, reducedPlaces}
 use Rattle.pinned.specs.Pinned.{freeOf, freeCosts, heldCost, lifted}
@@ -118,7 +118,7 @@ answerOf s = record { number = jobNumber s; bytes = bytesBy (jobNumber s) s }
 
 -- an answer slice of fewer than leastAnswer bytes is too short, and a workspace of fewer than these
 abbrev pub leastWorkspace : ℕ
-leastWorkspace = searchWorkspace
+leastWorkspace = recordWorkspace
 
 -- 31
 unfoldable pub tooShort : ℕ → ℕ → Bool

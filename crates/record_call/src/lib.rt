@@ -5,7 +5,7 @@ use answer_record::answer::write_answer;
 use answer_record::answer::write_refusal;
 use job_record::number::job_number;
 use limits::LEAST_ANSWER;
-use limits::MOST_WAGONS;
+use limits::RECORD_WORKSPACE;
 use limits::SEARCH_WORKSPACE;
 use run::job_answer;
 ghost use mathlib.Core.Path.{_≡_};
@@ -18,14 +18,14 @@ ghost use Rattle.limits.specs.Limits.{leastAnswer};
 ghost use Rattle.record_call.specs.Record.{jobFields, wholeChoice, leastWorkspace};
 ghost use Rattle.record_call.specs.Promise.{Answers};
 
-// The answer record of an accepted job.
+// The answer record of an accepted job. The search has a level of words of its own; the workspace holds the choice.
 fn answer_job(job: &[u8], workspace: &mut [u8], answer: &mut [u8])
     requires { ⌜ (jobNumber (now job) ≡ 0) × (leastWorkspace ≤ length (now workspace)) × (leastAnswer ≤ length (now answer)) ⌝ }
     ensures { λ _. ⌜ now (answer .exit) ≡ over (answerBytes (jobFields (now (job .entry))) (wholeChoice (now (job .entry)))) (now (answer .entry)) ⌝ }
 {
-    let mut b = [0u8; MOST_WAGONS];
-    let fields = job_answer(job, &mut b, workspace);
-    write_answer(answer, fields, &b);
+    let mut level = [0u64; SEARCH_WORKSPACE];
+    let fields = job_answer(job, workspace, &mut level);
+    write_answer(answer, fields, workspace);
 }
 
 // Answers a job: 0 and its answer record, or the number of its refusal and that refusal, over the front of `answer`. 31 for a short slice
@@ -37,7 +37,7 @@ pub fn answer_record(job: &[u8], workspace: &mut [u8], answer: &mut [u8]) -> u8
         return 31;
     }
     let lent = workspace.len();
-    if lent < SEARCH_WORKSPACE {
+    if lent < RECORD_WORKSPACE {
         return 31;
     }
     let number = job_number(job);
@@ -45,6 +45,6 @@ pub fn answer_record(job: &[u8], workspace: &mut [u8], answer: &mut [u8]) -> u8
         write_refusal(answer, number);
         return number;
     }
-    answer_job(job, &mut workspace[0..SEARCH_WORKSPACE], answer);
+    answer_job(job, &mut workspace[0..RECORD_WORKSPACE], answer);
     0
 }

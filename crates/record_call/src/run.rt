@@ -30,12 +30,12 @@ ghost use Prim.Native.Nat.{_+_, _*_, _≤_, _<_};
 ghost use lib.ListN.{length};
 ghost use Rattle.laws.specs.Lists.{over};
 ghost use Rattle.run_record.specs.CostTable.{costTable};
-ghost use Rattle.limits.specs.Limits.{mostWagons, mostSigns, mostDrawn};
+ghost use Rattle.limits.specs.Limits.{mostWagons, mostSigns, mostDrawn, searchWorkspace};
 ghost use Rattle.run_contract.specs.Calls.{openSize, openRank};
 ghost use Rattle.run_contract.specs.PlainRun.{recordOf};
 ghost use Rattle.job_record.specs.Number.{jobNumber};
 ghost use Rattle.job_record.specs.Values.{jobStates, jobOf, jobDrawn};
-ghost use Rattle.record_call.specs.Record.{runCosts, jobSettings, jobDraws, stopped, jobResult, jobChoice, fieldsOf, jobFields, wholeChoice, leastWorkspace};
+ghost use Rattle.record_call.specs.Record.{runCosts, jobSettings, jobDraws, stopped, jobResult, jobChoice, fieldsOf, jobFields, wholeChoice};
 ghost use Rattle.record_call.specs.Decoded.{Decoded, CostsRoom, CostsRead, FiguresFit};
 
 // The job's open and, where its most is above 0, a sweep up to the most.
@@ -93,10 +93,10 @@ fn finish_run(
     factor: &mut [f64],
     b: &mut [u8],
     dual: &mut [f64],
-    workspace: &mut [u8],
+    workspace: &mut [u64],
 ) -> FinishResult
     requires { ⌜ Decoded (now job) j count (now rows) (now cols) (now values) (now c) (now start) × (now draws ≡ jobDraws (now job)) × (length (now factor) ≡ openSize (jobSettings (runCosts (now job)) (now job)) * openRank (jobSettings (runCosts (now job)) (now job)))
-        × (mostWagons ≤ length (now b)) × (mostSigns ≤ length (now dual)) × (leastWorkspace ≤ length (now workspace)) ⌝ }
+        × (mostWagons ≤ length (now b)) × (mostSigns ≤ length (now dual)) × (searchWorkspace ≤ length (now workspace)) ⌝ }
     ensures { λ r. ⌜ (r ≡ jobResult (runCosts (now (job .entry))) (now (job .entry))) × (now (b .exit) ≡ over (jobChoice (runCosts (now (job .entry))) (now (job .entry))) (now (b .entry))) ⌝ }
 {
     let run = run_job(job, j, count, rows, cols, values, c, start, factor);
@@ -130,9 +130,9 @@ fn finish_job(
     start: &[f64],
     draws: &[f64],
     b: &mut [u8],
-    workspace: &mut [u8],
+    workspace: &mut [u64],
 ) -> FinishResult
-    requires { ⌜ Decoded (now job) j count (now rows) (now cols) (now values) (now c) (now start) × (now draws ≡ jobDraws (now job)) × (mostWagons ≤ length (now b)) × (leastWorkspace ≤ length (now workspace)) ⌝ }
+    requires { ⌜ Decoded (now job) j count (now rows) (now cols) (now values) (now c) (now start) × (now draws ≡ jobDraws (now job)) × (mostWagons ≤ length (now b)) × (searchWorkspace ≤ length (now workspace)) ⌝ }
     ensures { λ r. ⌜ (r ≡ jobResult (runCosts (now (job .entry))) (now (job .entry))) × (now (b .exit) ≡ over (jobChoice (runCosts (now (job .entry))) (now (job .entry))) (now (b .entry))) ⌝ }
 {
     let mut factor = [0.0f64; MOST_FACTOR];
@@ -263,10 +263,10 @@ fn finish_read(
     values: &[i64],
     c: &[i64],
     b: &mut [u8],
-    workspace: &mut [u8],
+    workspace: &mut [u64],
 ) -> FinishResult
     requires { ⌜ (jobNumber (now job) ≡ 0) × (j ≡ jobOf (now job)) × (costTable (j .free) count (now rows) (now cols) (now values) (now c) ≡ runCosts (now job))
-        × (mostWagons ≤ length (now b)) × (leastWorkspace ≤ length (now workspace)) ⌝ }
+        × (mostWagons ≤ length (now b)) × (searchWorkspace ≤ length (now workspace)) ⌝ }
     ensures { λ r. ⌜ (r ≡ jobResult (runCosts (now (job .entry))) (now (job .entry))) × (now (b .exit) ≡ over (jobChoice (runCosts (now (job .entry))) (now (job .entry))) (now (b .entry))) ⌝ }
 {
     let mut start = [0.0f64; MOST_START];
@@ -291,8 +291,8 @@ fn finish_read(
 }
 
 // The answer of an accepted job: its fields, and the choice of all wagons over the front of b.
-pub fn job_answer(job: &[u8], b: &mut [u8], workspace: &mut [u8]) -> Answer
-    requires { ⌜ (jobNumber (now job) ≡ 0) × (mostWagons ≤ length (now b)) × (leastWorkspace ≤ length (now workspace)) ⌝ }
+pub fn job_answer(job: &[u8], b: &mut [u8], workspace: &mut [u64]) -> Answer
+    requires { ⌜ (jobNumber (now job) ≡ 0) × (mostWagons ≤ length (now b)) × (searchWorkspace ≤ length (now workspace)) ⌝ }
     ensures { λ r. ⌜ (r ≡ jobFields (now (job .entry))) × (now (b .exit) ≡ over (wholeChoice (now (job .entry))) (now (b .entry))) ⌝ }
 {
     let mut rows = [0u16; MOST_ENTRIES];

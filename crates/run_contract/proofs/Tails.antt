@@ -1,5 +1,5 @@
 -- "a longer slice keeps its tail" (01, number 31), whatever a call answers: behind the numbers that are its own, the factor; behind a byte for each
--- wagon, b; behind a multiplier for each sign, the multipliers; behind the bytes that a finish asks, the workspace. Assumes nothing.
+-- wagon, b; behind a multiplier for each sign, the multipliers; behind the words that a finish asks, the workspace. Assumes nothing.
 use Prim.Native.Nat.{ℕ, zero, suc, _+_, _*_}
 use mathlib.Core.Path.{_≡_, refl, sym, ap, _∙_}
 use mathlib.Core.List.{List}

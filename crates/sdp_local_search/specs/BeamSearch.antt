@@ -9,7 +9,7 @@ use Rattle.limits.specs.Limits.{mostSigns, mostSignEntries, mostSignMagnitude, 
 use Rattle.tables.specs.Table.{Table}
 use Rattle.tables.specs.Check.{shortTable, tableNumber}
 
--- what a call takes at most: signs, entries, the sum of the absolute values, width; and the bytes of workspace that it asks
+-- what a call takes at most: signs, entries, the sum of the absolute values, width; and the words of workspace that it asks
 pub record Limits : Type 0 where
   pub signs : ℕ
   pub entries : ℕ

@@ -15,7 +15,7 @@ pub enum BeamSearched {
 }
 
 // 01's local search from the first m signs of `start`, of which any byte but 0 is −. The signs of the answer go to `out`, as 0 and 1.
-// The workspace is 16,384 bytes at least; a longer one keeps its tail.
+// The workspace holds a level: 256 words at least; a longer one keeps its tail.
 pub fn beam_search(
     m: usize,
     count: usize,
@@ -25,7 +25,7 @@ pub fn beam_search(
     width: usize,
     start: &[u8],
     out: &mut [u8],
-    workspace: &mut [u8],
+    workspace: &mut [u64],
 ) -> BeamSearched
     ensures { λ r. ⌜ BeamSearches baseLimits m count (now (rows .entry)) (now (cols .entry)) (now (values .entry)) width (now (start .entry)) (now (out .entry)) (now (workspace .entry)) (now (out .exit)) (now (workspace .exit)) r ⌝ }
 {

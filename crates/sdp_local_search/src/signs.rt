@@ -4,7 +4,7 @@ use sign_search::search::search_signs;
 ghost use mathlib.Core.Path.{_≡_};
 ghost use Prim.Native.Nat.{_≤_};
 ghost use lib.ListN.{length};
-ghost use Rattle.limits.specs.Limits.{mostSigns};
+ghost use Rattle.limits.specs.Limits.{mostSigns, mostWords};
 ghost use Rattle.tables.specs.Table.{tableOf, Lent};
 ghost use Rattle.sign_search.specs.Contracts.{Sound, LevelRoom, Found-by};
 ghost use Rattle.sdp_local_search.specs.BeamSearch.{signByte, signBytes};
@@ -37,9 +37,9 @@ pub fn search_from(
     width: usize,
     start: &[u8],
     kept: &mut [u8],
-    workspace: &mut [u8],
+    workspace: &mut [u64],
 ) -> Searched
-    requires { ⌜ LevelRoom mostSigns (length (now kept)) width (length (now workspace)) × Sound (length (now kept)) (tableOf count (now rows) (now cols) (now values)) × Lent count (now rows) (now cols) (now values) × (length (now kept) ≤ length (now start)) ⌝ }
+    requires { ⌜ LevelRoom mostSigns mostWords (length (now kept)) width (length (now workspace)) × Sound (length (now kept)) (tableOf count (now rows) (now cols) (now values)) × Lent count (now rows) (now cols) (now values) × (length (now kept) ≤ length (now start)) ⌝ }
     ensures { λ r. ⌜ Found-by (tableOf count (now (rows .entry)) (now (cols .entry)) (now (values .entry))) width (signBytes (length (now (kept .entry))) (now (start .entry))) (r .least) (r .rounds) (now (kept .exit)) ⌝ }
 {
     read_signs(start, kept);

@@ -7,4 +7,6 @@ pub mod Examples
 pub mod ChangeLaws
 pub mod TurnLaws
 pub mod ExpandLaws
+pub mod MoveLaws
 pub mod Searches
+pub mod PackedSearch

@@ -18,14 +18,14 @@ use Rattle.laws.specs.Sum.{sum, only}
 use Rattle.laws.proofs.Integer.{parts, differences, ring, square-one, times-one, abs-add, abs-mul, fits-abs}
 use Rattle.laws.proofs.Sums.{sum-more, sum-ext, sum-zero, sum-add, sum-scale, sum-only, sum-bounded}
 use Rattle.limits.specs.Limits.{mostSignMagnitude}
-use Rattle.tables.specs.Table.{Table, Symmetric, SignVector, Rising, magnitudeOf, valueAt, sign, signAt, sameSign}
+use Rattle.tables.specs.Table.{Table, Symmetric, SignVector, Rising, magnitudeOf, valueAt, sign, signAt}
 use Rattle.tables.specs.Flip.{flipped, flipChange, flipTerm}
 use Rattle.tables.proofs.Flips.{flip-entries}
 use Rattle.tables.proofs.Shares.{abs-sign, sign-vector}
 use Rattle.local_search.specs.Level.{flipByte, flipSign}
 use Rattle.local_search.proofs.LevelLaws.{flipped-length}
 use Rattle.sign_search.specs.Search.{changeIn, Mirrors}
-use Rattle.sign_search.specs.Contracts.{SumsFit, Sound, Changes, RowStart, Turned, turnWeight, turnTerm, Agree, Climbs}
+use Rattle.sign_search.specs.Contracts.{SumsFit, Sound, Changes, RowStart, Turned, turnWeight, turnTerm, Climbs}
 use Rattle.sign_search.proofs.Lawful.{signs-flip}
 use Rattle.sign_search.proofs.ChangeLaws.{abs-flip}
 
@@ -215,52 +215,6 @@ changes-flipped t x i before after z ok h p u is = record {
         getD-set-other after i j z (pos 0) d ∙ u .sums j l
         ∙ ap₂ _+ℤ_ (p .are j l) (weighed-all t x i j)
         ∙ sym (change-other t x ok i h j l (λ e. d (sym e)))
-
--- ---- signs that agree
-
-sign-alike : (a b : ℕ) → sameSign a b ≡ true → sign a ≡ sign b
-sign-alike zero zero e = refl
-sign-alike zero (suc b) e = cc
-sign-alike (suc a) zero e = cc
-sign-alike (suc a) (suc b) e = refl
-
-sign-turned : (a b : ℕ) → sameSign a b ≡ false → sign (flipByte a) ≡ sign b
-unfolding flipByte
-sign-turned zero zero e = cc
-sign-turned zero (suc b) e = refl
-sign-turned (suc a) zero e = refl
-sign-turned (suc a) (suc b) e = cc
-
-pub not-true : (b : Bool) → not b ≡ true → b ≡ false
-not-true true e = sym e
-not-true false e = refl
-
--- the first i signs of x are those of y
-pub agree-more : (i : ℕ) (x y : List ℕ) → Agree i x y → sameSign (getD x i 0) (getD y i 0) ≡ true → Agree (i + 1) x y
-agree-more i x y p e = record { long = p .long; same = λ j h. go j h (ℕ-discrete j i) }
-  where
-    go : (j : ℕ) → j < i + 1 → Dec (j ≡ i) → signAt x j ≡ signAt y j
-    go j h (yes d) = rw d (sign-alike (getD x i 0) (getD y i 0) e)
-    go j h (no d) = p .same j (omega arith)
-
-pub agree-flipped : (i : ℕ) (x y : List ℕ) → i < length x → Agree i x y → sameSign (getD x i 0) (getD y i 0) ≡ false → Agree (i + 1) (flipSign i x) y
-unfolding flipSign
-agree-flipped i x y l p e = record { long = flipped-length i x ∙ p .long; same = λ j h. go j h (ℕ-discrete j i) }
-  where
-    go : (j : ℕ) → j < i + 1 → Dec (j ≡ i) → signAt (flipSign i x) j ≡ signAt y j
-    go j h (yes d) = rw (d, getD-set-same x i (flipByte (getD x i 0)) 0 l) (sign-turned (getD x i 0) (getD y i 0) e)
-    go j h (no d) = rw (getD-set-other x i j (flipByte (getD x i 0)) 0 d) (p .same j (omega arith))
-
--- the changes rest on the signs alone
-pub changes-agree : (t : Table) (x y : List ℕ) (changes : List ℤ) → Agree (length y) x y → Changes t x changes → Changes t y changes
-unfolding changeIn flipChange
-changes-agree t x y changes a p = record {
-  many = omega (arith, p .many, a .long);
-  are = λ i h.
-      p .are i (omega (arith, a .long))
-      ∙ ap (λ (n : ℕ). pos 4 *ℤ valueAt t i i -ℤ pos 4 *ℤ (signAt x i *ℤ sum n (λ j. valueAt t i j *ℤ signAt x j))) (a .long)
-      ∙ ap₂ (λ (u s : ℤ). pos 4 *ℤ valueAt t i i -ℤ pos 4 *ℤ (u *ℤ s)) (a .same i h) (sum-ext (length y) _ _ (λ j l. ap (λ (z : ℤ). valueAt t i j *ℤ z) (a .same j l)));
-}
 
 -- ---- where a row starts, found by halving
 

@@ -11,8 +11,9 @@ use Rattle.laws.specs.Sum.{sum, total, only}
 use Rattle.limits.specs.Limits.{mostSignMagnitude}
 use Rattle.tables.specs.Table.{Table, InRange, magnitudeOf, signAt}
 use Rattle.tables.specs.Flip.{flipTerm}
+use Rattle.sign_words.specs.Packed.{unpacked, Tidy}
 use Rattle.local_search.specs.LocalSearch.{All, Found, nextLevel}
-use Rattle.local_search.specs.Level.{Choice, below, levelOf}
+use Rattle.local_search.specs.Level.{Choice, below, signLevel}
 use Rattle.local_search.specs.SignSearch.{improvesC, childrenC, Safe, searchedFrom}
 use Rattle.sign_search.specs.Search.{objectiveIn, changeIn, heightIn, Mirrors, beamSearch}
 
@@ -77,10 +78,22 @@ pub record Turned (t : Table) (x : List ℕ) (i k : ℕ) (before after : List �
   pub many : length after ≡ length before
   pub sums : (j : ℕ) → j < length x → getD after j (pos 0) ≡ getD before j (pos 0) +ℤ sum k (turnTerm t x i j)
 
--- as many signs, of which the first i are the same
-pub record Agree (i : ℕ) (x y : List ℕ) : Type 0 where
-  pub long : length x ≡ length y
-  pub same : (j : ℕ) → j < i → signAt x j ≡ signAt y j
+-- the choice at hand: in bytes and in words, with the changes by flipping each of its signs
+pub record AtHand (t : Table) (x row : List ℕ) (changes : List ℤ) : Type 0 where
+  pub changes-are : Changes t x changes
+  pub row-is : unpacked (length x) row ≡ x
+
+-- the start in words, twice: its unused bits are 0
+pub record StartRow (x kept row : List ℕ) : Type 0 where
+  pub signs : unpacked (length x) kept ≡ x
+  pub tidy : Tidy (length x) kept
+  pub same : row ≡ kept
+
+-- what it takes to go from a choice of m signs in n words to one in `target` words
+pub record MoveFits (m n target : ℕ) : Type 0 where
+  pub signs-held : m ≤ 64 * n
+  pub words-few : n < 65536
+  pub as-long : n ≡ target
 
 -- what it takes to add row i's entries, from `from` up to `to`, to the changes
 pub record Turns (t : Table) (x : List ℕ) (i from to : ℕ) (changes : List ℤ) : Type 0 where
@@ -97,34 +110,39 @@ tableChildren t m = childrenC (changeIn t) (improvesC (changeIn t)) m
 abbrev pub TableSafe : Table → Choice → Type 0
 TableSafe t c = Safe (changeIn t) (improvesC (changeIn t)) c
 
--- what it takes to put a parent's children into a level with room for `width`, of which `count` are in use
-pub record RowExpands (t : Table) (parent : Choice) (count width changes objectives signs : ℕ) : Type 0 where
+-- what it takes to put a parent's children into a level with room for `width` rows of n words, of which `count` are in use
+pub record RowExpands (t : Table) (n : ℕ) (parent : Choice) (count width changes objectives signs : ℕ) : Type 0 where
   pub some : 1 ≤ width
   pub used : count ≤ width
   pub changes-room : length (parent .signs) ≤ changes
   pub objectives-room : width ≤ objectives
-  pub signs-room : width * length (parent .signs) ≤ signs
+  pub signs-room : width * n ≤ signs
+  pub signs-held : length (parent .signs) ≤ 64 * n
+  pub words-few : n < 65536
   pub table : Sound (length (parent .signs)) t
   pub safe : TableSafe t parent
 
 -- what it takes to lay down all children of the start
-pub record RowAppends (t : Table) (start : Choice) (changes objectives signs : ℕ) : Type 0 where
+pub record RowAppends (t : Table) (n : ℕ) (start : Choice) (changes objectives signs : ℕ) : Type 0 where
   pub changes-room : length (start .signs) ≤ changes
   pub objectives-room : length (start .signs) ≤ objectives
-  pub signs-room : length (start .signs) * length (start .signs) ≤ signs
+  pub signs-room : length (start .signs) * n ≤ signs
+  pub signs-held : length (start .signs) ≤ 64 * n
   pub table : SumsFit (length (start .signs)) t
   pub safe : TableSafe t start
 
 -- what it takes to make a level from another one of `count` choices
-pub record LevelExpands (t : Table) (m count width : ℕ) (from-objectives : List ℤ) (from-signs : List ℕ) (changes objectives signs : ℕ) : Type 0 where
+pub record LevelExpands (t : Table) (n m count width : ℕ) (from-objectives : List ℤ) (from-signs : List ℕ) (changes objectives signs : ℕ) : Type 0 where
   pub some : 1 ≤ width
   pub from-objectives-room : count ≤ length from-objectives
-  pub from-signs-room : count * m ≤ length from-signs
+  pub from-signs-room : count * n ≤ length from-signs
   pub changes-room : m ≤ changes
   pub objectives-room : width ≤ objectives
-  pub signs-room : width * m ≤ signs
+  pub signs-room : width * n ≤ signs
+  pub signs-held : m ≤ 64 * n
+  pub words-few : n < 65536
   pub table : Sound m t
-  pub safe : All (TableSafe t) (levelOf m count from-objectives from-signs)
+  pub safe : All (TableSafe t) (signLevel n m count from-objectives from-signs)
 
 -- the next level, and its count
 pub record NextLevel (t : Table) (m width : ℕ) (before after : List Choice) (count : ℕ) : Type 0 where
@@ -132,31 +150,33 @@ pub record NextLevel (t : Table) (m width : ℕ) (before after : List Choice) (c
   pub room : count ≤ width
 
 -- what it takes to make the next level and to copy it back
-pub record AdvanceFits (t : Table) (m count width : ℕ) (objectives : List ℤ) (signs : List ℕ) (changes next-objectives next-signs : ℕ) : Type 0 where
-  pub expands : LevelExpands t m count width objectives signs changes next-objectives next-signs
+pub record AdvanceFits (t : Table) (n m count width : ℕ) (objectives : List ℤ) (signs : List ℕ) (changes next-objectives next-signs : ℕ) : Type 0 where
+  pub expands : LevelExpands t n m count width objectives signs changes next-objectives next-signs
   pub objectives-room : width ≤ length objectives
-  pub signs-room : width * m ≤ length signs
+  pub signs-room : width * n ≤ length signs
 
--- the room that a search of m signs takes: level 1 is not cut
-pub record SearchFits (m width changes objectives signs next-objectives next-signs : ℕ) : Type 0 where
+-- the room that a search of m signs in n words takes: level 1 is not cut
+pub record SearchFits (n m width changes objectives signs next-objectives next-signs : ℕ) : Type 0 where
   pub some : 1 ≤ width
   pub changes-room : m ≤ changes
   pub first-objectives : m ≤ objectives
-  pub first-signs : m * m ≤ signs
+  pub first-signs : m * n ≤ signs
+  pub signs-held : m ≤ 64 * n
+  pub words-few : n < 65536
   pub objectives-room : width ≤ objectives
-  pub signs-room : width * m ≤ signs
+  pub signs-room : width * n ≤ signs
   pub next-objectives-room : width ≤ next-objectives
-  pub next-signs-room : width * m ≤ next-signs
+  pub next-signs-room : width * n ≤ next-signs
 
 -- 01's search from a choice with its objective
 abbrev pub searchedIn : Table → ℕ → Choice → Found Choice
 searchedIn t width start = searchedFrom (changeIn t) (improvesC (changeIn t)) width (heightIn t (start .signs)) start
 
--- the room that the search takes: level 1 holds m choices of m signs, and every later one `width`
-pub record LevelRoom (most m width level : ℕ) : Type 0 where
+-- the room that the search takes, of `most` signs in n words: level 1 holds m choices, and every later one `width`
+pub record LevelRoom (most n m width level : ℕ) : Type 0 where
   pub signs-few : m ≤ most
   pub width-few : width ≤ most
-  pub level-room : most * most ≤ level
+  pub level-room : most * n ≤ level
 
 -- what the search leaves: the definition's answer with its objective, and the rounds
 pub record Found-by (t : Table) (width : ℕ) (start : List ℕ) (least : ℤ) (rounds : ℕ) (answer : List ℕ) : Type 0 where

@@ -2,12 +2,14 @@
 use Prim.Native.Nat.{ℕ}
 use mathlib.Core.Bool.{Bool}
 use mathlib.Core.List.{List}
+use mathlib.Core.Path.{_≡_}
 use lib.IntN.{ℤ, natAbs, _-ℤ_}
 use lib.ListN.{length}
 use Rattle.tables.specs.Table.{Table, InRange, Symmetric, valueAt, signAt, objectiveOf, floorOf}
 use Rattle.tables.specs.Flip.{flipChange}
-use Rattle.local_search.specs.LocalSearch.{Found}
-use Rattle.local_search.specs.SignSearch.{improves, keeping, signSearch}
+use Rattle.sign_words.specs.Packed.{unpacked, packed, flipIn}
+use Rattle.local_search.specs.LocalSearch.{Found, searched}
+use Rattle.local_search.specs.SignSearch.{lower, improving, improves, keeping, signSearch}
 
 -- the objective, in eighths
 unfoldable pub objectiveIn : Table → List ℕ → ℤ
@@ -33,6 +35,17 @@ searchOver t exists W start = signSearch (objectiveIn t) exists (length start) W
 -- 01's search: every child whose change is below 0 exists, the anchor's too
 unfoldable pub beamSearch : Table → ℕ → List ℕ → Found (List ℕ)
 beamSearch t W start = searchOver t (improves (changeIn t)) W start
+
+-- the same search with its choices of m signs in words: bit i is sign i, and a flip of sign i is one of that bit
+unfoldable pub packedSearch : Table → ℕ → ℕ → List ℕ → Found (List ℕ)
+packedSearch t m W start =
+    searched (λ a b. lower (objectiveIn t) (unpacked m a) (unpacked m b)) (improving (λ a i. improves (changeIn t) (unpacked m a) i) flipIn m) W (heightIn t (unpacked m start)) start
+
+-- "The packed search is proved equal to the byte search: same answer, same objective, same rounds" (02, Note 4), from signs x in n words
+pub record SameFound (t : Table) (n W : ℕ) (x : List ℕ) : Type 0 where
+  pub answer : packedSearch t (length x) W (packed n x) .answer ≡ packed n (beamSearch t W x .answer)
+  pub objective : objectiveIn t (unpacked (length x) (packedSearch t (length x) W (packed n x) .answer)) ≡ objectiveIn t (beamSearch t W x .answer)
+  pub rounds : packedSearch t (length x) W (packed n x) .rounds ≡ beamSearch t W x .rounds
 
 -- the same over the children that `keep` lets through
 unfoldable pub limitedSearch : Table → (List ℕ → ℕ → Bool) → ℕ → List ℕ → Found (List ℕ)

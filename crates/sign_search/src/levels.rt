@@ -4,14 +4,15 @@ use crate::moves::move_to;
 use local_search::children::expand_parent;
 use local_search::children::first_level;
 use local_search::level::copy_objectives;
-use local_search::rows::copy_row;
+use sign_words::words::copy;
 ghost use mathlib.Core.Path.{_≡_};
 ghost use mathlib.Core.List.{[]};
 ghost use lib.ListN.{length, take};
 ghost use Rattle.tables.specs.Table.{tableOf, Lent};
-ghost use Rattle.local_search.specs.Level.{levelOf, Ascending};
+ghost use Rattle.sign_words.specs.Packed.{unpacked, Tidy};
+ghost use Rattle.local_search.specs.Level.{signLevel, TidyLevel, Ascending};
 ghost use Rattle.local_search.specs.Children.{parentOf, Appended, Kept};
-ghost use Rattle.sign_search.specs.Contracts.{Changes, RowExpands, RowAppends, LevelExpands, NextLevel, AdvanceFits, tableChildren};
+ghost use Rattle.sign_search.specs.Contracts.{Changes, AtHand, RowExpands, RowAppends, LevelExpands, NextLevel, AdvanceFits, tableChildren};
 
 // Puts a parent's children in, by index.
 pub fn expand_row(
@@ -20,19 +21,41 @@ pub fn expand_row(
     cols: &[u16],
     values: &[i64],
     objective: i64,
-    parent: &[u8],
+    parent: &[u64],
     current: &mut [u8],
+    current_row: &mut [u64],
     changes: &mut [i64],
     objectives: &mut [i64],
-    signs: &mut [u8],
+    signs: &mut [u64],
     count: usize,
     width: usize,
 ) -> usize
-    requires { ⌜ RowExpands (tableOf entries (now rows) (now cols) (now values)) (parentOf objective (now parent)) count width (length (now changes)) (length (now objectives)) (length (now signs)) × (length (now current) ≡ length (now parent)) × Changes (tableOf entries (now rows) (now cols) (now values)) (now current) (now changes) × Lent entries (now rows) (now cols) (now values) × Ascending (take count (now objectives)) ⌝ }
-    ensures { λ r. ⌜ Kept width (levelOf (length (now (parent .entry))) count (now (objectives .entry)) (now (signs .entry))) (tableChildren (tableOf entries (now (rows .entry)) (now (cols .entry)) (now (values .entry))) (length (now (parent .entry))) (parentOf objective (now (parent .entry)))) (levelOf (length (now (parent .entry))) r (now (objectives .exit)) (now (signs .exit))) r × Changes (tableOf entries (now (rows .entry)) (now (cols .entry)) (now (values .entry))) (now (current .exit)) (now (changes .exit)) ⌝ }
+    requires { ⌜ RowExpands (tableOf entries (now rows) (now cols) (now values)) (length (now parent)) (parentOf objective (unpacked (length (now current)) (now parent))) count width (length (now changes)) (length (now objectives)) (length (now signs)) × (length (now «current_row») ≡ length (now parent)) × AtHand (tableOf entries (now rows) (now cols) (now values)) (now current) (now «current_row») (now changes) × Lent entries (now rows) (now cols) (now values) × Ascending (take count (now objectives)) ⌝ }
+    ensures { λ r. ⌜ Kept width (signLevel (length (now (parent .entry))) (length (now (current .entry))) count (now (objectives .entry)) (now (signs .entry))) (tableChildren (tableOf entries (now (rows .entry)) (now (cols .entry)) (now (values .entry))) (length (now (current .entry))) (parentOf objective (unpacked (length (now (current .entry))) (now (parent .entry))))) (signLevel (length (now (parent .entry))) (length (now (current .entry))) r (now (objectives .exit)) (now (signs .exit))) r ⌝ }
+    ensures at_hand { λ _. ⌜ AtHand (tableOf entries (now (rows .entry)) (now (cols .entry)) (now (values .entry))) (now (current .exit)) (now («current_row» .exit)) (now (changes .exit)) ⌝ }
+    ensures tidy { λ r. ⌜ (Tidy (length (now (current .entry))) (now (parent .entry)) → TidyLevel (length (now (parent .entry))) (length (now (current .entry))) count (now (objectives .entry)) (now (signs .entry)) → TidyLevel (length (now (parent .entry))) (length (now (current .entry))) r (now (objectives .exit)) (now (signs .exit))) ⌝ }
 {
-    move_to(entries, rows, cols, values, current, changes, parent);
-    expand_parent(changes, objective, parent, objectives, signs, count, width)
+    let m = current.len();
+    move_to(
+        entries,
+        rows,
+        cols,
+        values,
+        current,
+        current_row,
+        changes,
+        parent,
+    );
+    expand_parent(
+        changes,
+        objective,
+        parent,
+        m,
+        objectives,
+        signs,
+        count,
+        width,
+    )
 }
 
 // Level 1: all children of the start, by index.
@@ -43,15 +66,25 @@ pub fn append_row(
     values: &[i64],
     objective: i64,
     start: &[u8],
+    start_row: &[u64],
     changes: &mut [i64],
     objectives: &mut [i64],
-    signs: &mut [u8],
+    signs: &mut [u64],
 ) -> usize
-    requires { ⌜ RowAppends (tableOf entries (now rows) (now cols) (now values)) (parentOf objective (now start)) (length (now changes)) (length (now objectives)) (length (now signs)) × Lent entries (now rows) (now cols) (now values) ⌝ }
-    ensures { λ r. ⌜ Appended [] (tableChildren (tableOf entries (now (rows .entry)) (now (cols .entry)) (now (values .entry))) (length (now (start .entry))) (parentOf objective (now (start .entry)))) (levelOf (length (now (start .entry))) r (now (objectives .exit)) (now (signs .exit))) r (length (now (start .entry))) × Changes (tableOf entries (now (rows .entry)) (now (cols .entry)) (now (values .entry))) (now (start .entry)) (now (changes .exit)) ⌝ }
+    requires { ⌜ RowAppends (tableOf entries (now rows) (now cols) (now values)) (length (now «start_row»)) (parentOf objective (now start)) (length (now changes)) (length (now objectives)) (length (now signs)) × (unpacked (length (now start)) (now «start_row») ≡ now start) × Lent entries (now rows) (now cols) (now values) ⌝ }
+    ensures { λ r. ⌜ Appended [] (tableChildren (tableOf entries (now (rows .entry)) (now (cols .entry)) (now (values .entry))) (length (now (start .entry))) (parentOf objective (now (start .entry)))) (signLevel (length (now («start_row» .entry))) (length (now (start .entry))) r (now (objectives .exit)) (now (signs .exit))) r (length (now (start .entry))) ⌝ }
+    ensures changes { λ _. ⌜ Changes (tableOf entries (now (rows .entry)) (now (cols .entry)) (now (values .entry))) (now (start .entry)) (now (changes .exit)) ⌝ }
+    ensures tidy { λ r. ⌜ (Tidy (length (now (start .entry))) (now («start_row» .entry)) → TidyLevel (length (now («start_row» .entry))) (length (now (start .entry))) r (now (objectives .exit)) (now (signs .exit))) ⌝ }
 {
     changes_of(entries, rows, cols, values, start, changes);
-    first_level(changes, objective, start, objectives, signs)
+    first_level(
+        changes,
+        objective,
+        start_row,
+        start.len(),
+        objectives,
+        signs,
+    )
 }
 
 // Level k + 1 from level k: the children by parent, then index, the first `width` of them in order.
@@ -60,24 +93,27 @@ pub fn expand_level(
     rows: &[u16],
     cols: &[u16],
     values: &[i64],
-    m: usize,
+    words: usize,
     from_objectives: &[i64],
-    from_signs: &[u8],
+    from_signs: &[u64],
     from_count: usize,
     current: &mut [u8],
+    current_row: &mut [u64],
     changes: &mut [i64],
     objectives: &mut [i64],
-    signs: &mut [u8],
+    signs: &mut [u64],
     width: usize,
 ) -> usize
-    requires { ⌜ LevelExpands (tableOf entries (now rows) (now cols) (now values)) m «from_count» width (now «from_objectives») (now «from_signs») (length (now changes)) (length (now objectives)) (length (now signs)) × (length (now current) ≡ m) × Changes (tableOf entries (now rows) (now cols) (now values)) (now current) (now changes) × Lent entries (now rows) (now cols) (now values) ⌝ }
-    ensures { λ r. ⌜ NextLevel (tableOf entries (now (rows .entry)) (now (cols .entry)) (now (values .entry))) m width (levelOf m «from_count» (now («from_objectives» .entry)) (now («from_signs» .entry))) (levelOf m r (now (objectives .exit)) (now (signs .exit))) r × Changes (tableOf entries (now (rows .entry)) (now (cols .entry)) (now (values .entry))) (now (current .exit)) (now (changes .exit)) ⌝ }
+    requires { ⌜ LevelExpands (tableOf entries (now rows) (now cols) (now values)) words (length (now current)) «from_count» width (now «from_objectives») (now «from_signs») (length (now changes)) (length (now objectives)) (length (now signs)) × (length (now «current_row») ≡ words) × AtHand (tableOf entries (now rows) (now cols) (now values)) (now current) (now «current_row») (now changes) × Lent entries (now rows) (now cols) (now values) ⌝ }
+    ensures { λ r. ⌜ NextLevel (tableOf entries (now (rows .entry)) (now (cols .entry)) (now (values .entry))) (length (now (current .entry))) width (signLevel words (length (now (current .entry))) «from_count» (now («from_objectives» .entry)) (now («from_signs» .entry))) (signLevel words (length (now (current .entry))) r (now (objectives .exit)) (now (signs .exit))) r ⌝ }
+    ensures at_hand { λ _. ⌜ AtHand (tableOf entries (now (rows .entry)) (now (cols .entry)) (now (values .entry))) (now (current .exit)) (now («current_row» .exit)) (now (changes .exit)) ⌝ }
+    ensures tidy { λ r. ⌜ (TidyLevel words (length (now (current .entry))) «from_count» (now («from_objectives» .entry)) (now («from_signs» .entry)) → TidyLevel words (length (now (current .entry))) r (now (objectives .exit)) (now (signs .exit))) ⌝ }
 {
     let mut kept = 0;
     let mut k = 0;
     while k < from_count {
-        let at = k * m;
-        let end = at + m;
+        let at = k * words;
+        let end = at + words;
         let objective = from_objectives[k];
         kept = expand_row(
             entries,
@@ -87,6 +123,7 @@ pub fn expand_level(
             objective,
             &from_signs[at..end],
             current,
+            current_row,
             changes,
             objectives,
             signs,
@@ -104,36 +141,40 @@ pub fn advance(
     rows: &[u16],
     cols: &[u16],
     values: &[i64],
-    m: usize,
+    words: usize,
     current: &mut [u8],
+    current_row: &mut [u64],
     changes: &mut [i64],
     objectives: &mut [i64],
-    signs: &mut [u8],
+    signs: &mut [u64],
     count: usize,
     next_objectives: &mut [i64],
-    next_signs: &mut [u8],
+    next_signs: &mut [u64],
     width: usize,
 ) -> usize
-    requires { ⌜ AdvanceFits (tableOf entries (now rows) (now cols) (now values)) m count width (now objectives) (now signs) (length (now changes)) (length (now «next_objectives»)) (length (now «next_signs»)) × (length (now current) ≡ m) × Changes (tableOf entries (now rows) (now cols) (now values)) (now current) (now changes) × Lent entries (now rows) (now cols) (now values) ⌝ }
-    ensures { λ r. ⌜ NextLevel (tableOf entries (now (rows .entry)) (now (cols .entry)) (now (values .entry))) m width (levelOf m count (now (objectives .entry)) (now (signs .entry))) (levelOf m r (now (objectives .exit)) (now (signs .exit))) r × Changes (tableOf entries (now (rows .entry)) (now (cols .entry)) (now (values .entry))) (now (current .exit)) (now (changes .exit)) ⌝ }
+    requires { ⌜ AdvanceFits (tableOf entries (now rows) (now cols) (now values)) words (length (now current)) count width (now objectives) (now signs) (length (now changes)) (length (now «next_objectives»)) (length (now «next_signs»)) × (length (now «current_row») ≡ words) × AtHand (tableOf entries (now rows) (now cols) (now values)) (now current) (now «current_row») (now changes) × Lent entries (now rows) (now cols) (now values) ⌝ }
+    ensures { λ r. ⌜ NextLevel (tableOf entries (now (rows .entry)) (now (cols .entry)) (now (values .entry))) (length (now (current .entry))) width (signLevel words (length (now (current .entry))) count (now (objectives .entry)) (now (signs .entry))) (signLevel words (length (now (current .entry))) r (now (objectives .exit)) (now (signs .exit))) r ⌝ }
+    ensures at_hand { λ _. ⌜ AtHand (tableOf entries (now (rows .entry)) (now (cols .entry)) (now (values .entry))) (now (current .exit)) (now («current_row» .exit)) (now (changes .exit)) ⌝ }
+    ensures tidy { λ r. ⌜ (TidyLevel words (length (now (current .entry))) count (now (objectives .entry)) (now (signs .entry)) → TidyLevel words (length (now (current .entry))) r (now (objectives .exit)) (now (signs .exit))) ⌝ }
 {
     let kept = expand_level(
         entries,
         rows,
         cols,
         values,
-        m,
+        words,
         objectives,
         signs,
         count,
         current,
+        current_row,
         changes,
         next_objectives,
         next_signs,
         width,
     );
-    let bytes = kept * m;
+    let taken = kept * words;
     copy_objectives(objectives, next_objectives, kept);
-    copy_row(&mut signs[0..bytes], &next_signs[0..bytes]);
+    copy(&mut signs[0..taken], &next_signs[0..taken]);
     kept
 }

@@ -2,17 +2,19 @@
 use crate::changes::signed;
 use local_search::rows::flip_sign;
 use local_search::rows::sign_at;
+use sign_words::distance::sign_apart;
+use sign_words::words::flip_in;
 use tables::check::wide;
 ghost use mathlib.Core.Path.{_≡_};
-ghost use mathlib.Core.Bool.{not};
-ghost use Prim.Native.Nat.{_+_, _≤_, _<_};
+ghost use Prim.Native.Nat.{_*_, _≤_, _<_};
 ghost use lib.ListN.{length};
 ghost use lib.IntN.{pos, natAbs, _*ℤ_};
 ghost use Rattle.laws.specs.Lists.{elem};
 ghost use Rattle.limits.specs.Limits.{mostSignMagnitude};
-ghost use Rattle.tables.specs.Table.{tableOf, Lent, sign, sameSign};
-ghost use Rattle.local_search.specs.Level.{flipSign};
-ghost use Rattle.sign_search.specs.Contracts.{Sound, Changes, Climbs, RowStart, Turned, Turns, Agree};
+ghost use Rattle.tables.specs.Table.{tableOf, Lent, sign};
+ghost use Rattle.sign_words.specs.Signs.{flipSign};
+ghost use Rattle.sign_words.specs.Packed.{unpacked, flipIn};
+ghost use Rattle.sign_search.specs.Contracts.{Sound, Changes, AtHand, MoveFits, Climbs, RowStart, Turned, Turns};
 
 // The first entry of row i or of a later row.
 fn row_start(entries: usize, rows: &[u16], i: usize) -> usize
@@ -84,52 +86,53 @@ fn flip_current(
     flip_sign(current, i);
 }
 
-// Whether two signs differ.
-fn unlike(x: u8, y: u8) -> bool
-    ensures { λ r. ⌜ r ≡ not (sameSign x y) ⌝ }
-{
-    if x == 0 {
-        return y != 0;
-    }
-    y == 0
-}
-
-// Flips sign i where it is not the target's, and takes the changes along.
-fn fit_sign(
+// Flips sign i of the choice at hand, in bytes and in words, and takes the changes along.
+fn flip_at_hand(
     entries: usize,
     rows: &[u16],
     cols: &[u16],
     values: &[i64],
     i: usize,
     current: &mut [u8],
+    current_row: &mut [u64],
     changes: &mut [i64],
-    target: &[u8],
 )
-    requires { ⌜ Sound (length (now target)) (tableOf entries (now rows) (now cols) (now values)) × (i < length (now target)) × Agree i (now current) (now target) × Changes (tableOf entries (now rows) (now cols) (now values)) (now current) (now changes) × Lent entries (now rows) (now cols) (now values) ⌝ }
-    ensures { λ _. ⌜ Agree (i + 1) (now (current .exit)) (now (target .entry)) × Changes (tableOf entries (now (rows .entry)) (now (cols .entry)) (now (values .entry))) (now (current .exit)) (now (changes .exit)) ⌝ }
+    requires { ⌜ Sound (length (now current)) (tableOf entries (now rows) (now cols) (now values)) × (i < length (now current)) × (length (now current) ≤ 64 * length (now «current_row»)) × AtHand (tableOf entries (now rows) (now cols) (now values)) (now current) (now «current_row») (now changes) × Lent entries (now rows) (now cols) (now values) ⌝ }
+    ensures { λ _. ⌜ now («current_row» .exit) ≡ flipIn i (now («current_row» .entry)) ⌝ }
+    ensures at_hand { λ _. ⌜ AtHand (tableOf entries (now (rows .entry)) (now (cols .entry)) (now (values .entry))) (now (current .exit)) (now («current_row» .exit)) (now (changes .exit)) ⌝ }
 {
-    if unlike(sign_at(current, i), sign_at(target, i)) {
-        flip_current(entries, rows, cols, values, i, current, changes);
-        return;
-    }
+    flip_current(entries, rows, cols, values, i, current, changes);
+    flip_in(current_row, i);
 }
 
-// Goes from the current choice to another one, sign by sign, and takes the changes along.
+// Goes from the choice at hand to another one, by the signs in which they differ, and takes the changes along.
 pub fn move_to(
     entries: usize,
     rows: &[u16],
     cols: &[u16],
     values: &[i64],
     current: &mut [u8],
+    current_row: &mut [u64],
     changes: &mut [i64],
-    target: &[u8],
+    target: &[u64],
 )
-    requires { ⌜ Sound (length (now target)) (tableOf entries (now rows) (now cols) (now values)) × (length (now current) ≡ length (now target)) × Changes (tableOf entries (now rows) (now cols) (now values)) (now current) (now changes) × Lent entries (now rows) (now cols) (now values) ⌝ }
-    ensures { λ _. ⌜ Agree (length (now (target .entry))) (now (current .exit)) (now (target .entry)) × Changes (tableOf entries (now (rows .entry)) (now (cols .entry)) (now (values .entry))) (now (current .exit)) (now (changes .exit)) × Changes (tableOf entries (now (rows .entry)) (now (cols .entry)) (now (values .entry))) (now (target .entry)) (now (changes .exit)) ⌝ }
+    requires { ⌜ Sound (length (now current)) (tableOf entries (now rows) (now cols) (now values)) × MoveFits (length (now current)) (length (now «current_row»)) (length (now target)) × AtHand (tableOf entries (now rows) (now cols) (now values)) (now current) (now «current_row») (now changes) × Lent entries (now rows) (now cols) (now values) ⌝ }
+    ensures { λ _. ⌜ now (current .exit) ≡ unpacked (length (now (current .entry))) (now (target .entry)) ⌝ }
+    ensures at_hand { λ _. ⌜ AtHand (tableOf entries (now (rows .entry)) (now (cols .entry)) (now (values .entry))) (now (current .exit)) (now («current_row» .exit)) (now (changes .exit)) ⌝ }
 {
-    let mut i = 0;
-    while i < target.len() {
-        fit_sign(entries, rows, cols, values, i, current, changes, target);
-        i += 1;
+    let m = current.len();
+    let mut i = sign_apart(current_row, target, 0);
+    while i < m {
+        flip_at_hand(
+            entries,
+            rows,
+            cols,
+            values,
+            i,
+            current,
+            current_row,
+            changes,
+        );
+        i = sign_apart(current_row, target, i + 1);
     }
 }

@@ -2,18 +2,23 @@
 use crate::levels::advance;
 use crate::levels::append_row;
 use limits::MOST_SIGNS;
+use limits::MOST_WORDS;
 use limits::SEARCH_WORKSPACE;
 use local_search::least::keep_least;
-use local_search::rows::copy_row;
+use sign_words::pack::pack;
+use sign_words::pack::unpack;
+use sign_words::words::copy;
 use tables::objective::obj_rounded;
 ghost use mathlib.Core.Path.{_≡_};
 ghost use Prim.Native.Nat.{_≤_};
 ghost use lib.ListN.{length};
-ghost use Rattle.limits.specs.Limits.{mostSigns};
+ghost use Rattle.limits.specs.Limits.{mostSigns, mostWords};
 ghost use Rattle.tables.specs.Table.{tableOf, Lent};
+ghost use Rattle.sign_words.specs.Signs.{Binary};
+ghost use Rattle.sign_words.specs.Packed.{unpacked, Tidy};
 ghost use Rattle.local_search.specs.Children.{parentOf};
 ghost use Rattle.sign_search.specs.Search.{objectiveIn};
-ghost use Rattle.sign_search.specs.Contracts.{Sound, SearchFits, LevelRoom, Found-by, searchedIn};
+ghost use Rattle.sign_search.specs.Contracts.{Sound, StartRow, SearchFits, LevelRoom, Found-by, searchedIn};
 
 // What the search found: its objective and the rounds it took; the signs are in the slice lent for them.
 pub struct Searched {
@@ -21,7 +26,8 @@ pub struct Searched {
     pub rounds: u64,
 }
 
-// The search from the signs in `kept`, of this objective, at least one choice wide, level by level. `kept` takes the answer.
+// The search from the signs in `current`, of this objective, at least one choice wide, level by level. `kept` and `current_row` have them in
+// words; `kept` takes the answer.
 pub fn search_levels(
     entries: usize,
     rows: &[u16],
@@ -29,18 +35,20 @@ pub fn search_levels(
     values: &[i64],
     width: usize,
     objective: i64,
-    kept: &mut [u8],
+    kept: &mut [u64],
     current: &mut [u8],
+    current_row: &mut [u64],
     changes: &mut [i64],
     objectives: &mut [i64],
-    signs: &mut [u8],
+    signs: &mut [u64],
     next_objectives: &mut [i64],
-    next_signs: &mut [u8],
+    next_signs: &mut [u64],
 ) -> Searched
-    requires { ⌜ SearchFits (length (now kept)) width (length (now changes)) (length (now objectives)) (length (now signs)) (length (now «next_objectives»)) (length (now «next_signs»)) × Sound (length (now kept)) (tableOf entries (now rows) (now cols) (now values)) × (objective ≡ objectiveIn (tableOf entries (now rows) (now cols) (now values)) (now kept)) × (length (now current) ≡ length (now kept)) × Lent entries (now rows) (now cols) (now values) ⌝ }
-    ensures { λ r. ⌜ (parentOf (r .least) (now (kept .exit)) ≡ searchedIn (tableOf entries (now (rows .entry)) (now (cols .entry)) (now (values .entry))) width (parentOf objective (now (kept .entry))) .answer) × (r .rounds ≡ searchedIn (tableOf entries (now (rows .entry)) (now (cols .entry)) (now (values .entry))) width (parentOf objective (now (kept .entry))) .rounds) ⌝ }
+    requires { ⌜ SearchFits (length (now kept)) (length (now current)) width (length (now changes)) (length (now objectives)) (length (now signs)) (length (now «next_objectives»)) (length (now «next_signs»)) × Sound (length (now current)) (tableOf entries (now rows) (now cols) (now values)) × (objective ≡ objectiveIn (tableOf entries (now rows) (now cols) (now values)) (now current)) × StartRow (now current) (now kept) (now «current_row») × Lent entries (now rows) (now cols) (now values) ⌝ }
+    ensures { λ r. ⌜ (parentOf (r .least) (unpacked (length (now (current .entry))) (now (kept .exit))) ≡ searchedIn (tableOf entries (now (rows .entry)) (now (cols .entry)) (now (values .entry))) width (parentOf objective (now (current .entry))) .answer) × (r .rounds ≡ searchedIn (tableOf entries (now (rows .entry)) (now (cols .entry)) (now (values .entry))) width (parentOf objective (now (current .entry))) .rounds) ⌝ }
+    ensures tidy { λ _. ⌜ Tidy (length (now (current .entry))) (now (kept .exit)) ⌝ }
 {
-    let m = kept.len();
+    let words = kept.len();
     let mut least = objective;
     let mut rounds: u64 = 0;
     let mut count = append_row(
@@ -49,12 +57,12 @@ pub fn search_levels(
         cols,
         values,
         objective,
+        current,
         kept,
         changes,
         objectives,
         signs,
     );
-    copy_row(current, kept);
     while 0 < count {
         least = keep_least(objectives, signs, count, least, kept);
         count = advance(
@@ -62,8 +70,9 @@ pub fn search_levels(
             rows,
             cols,
             values,
-            m,
+            words,
             current,
+            current_row,
             changes,
             objectives,
             signs,
@@ -77,26 +86,27 @@ pub fn search_levels(
     Searched { least, rounds }
 }
 
-// The same with the room that the search takes; the first signs of `scratch` are the current choice.
-fn search_room(
+// The same with the room that the search takes besides the level.
+fn search_packed(
     entries: usize,
     rows: &[u16],
     cols: &[u16],
     values: &[i64],
     width: usize,
     objective: i64,
-    kept: &mut [u8],
-    scratch: &mut [u8],
-    level: &mut [u8],
-    next_level: &mut [u8],
+    kept: &mut [u64],
+    current: &mut [u8],
+    current_row: &mut [u64],
+    level: &mut [u64],
 ) -> Searched
-    requires { ⌜ LevelRoom mostSigns (length (now kept)) width (length (now level)) × LevelRoom mostSigns (length (now kept)) width (length (now «next_level»)) × (1 ≤ width) × (mostSigns ≤ length (now scratch)) × Sound (length (now kept)) (tableOf entries (now rows) (now cols) (now values)) × (objective ≡ objectiveIn (tableOf entries (now rows) (now cols) (now values)) (now kept)) × Lent entries (now rows) (now cols) (now values) ⌝ }
-    ensures { λ r. ⌜ (parentOf (r .least) (now (kept .exit)) ≡ searchedIn (tableOf entries (now (rows .entry)) (now (cols .entry)) (now (values .entry))) width (parentOf objective (now (kept .entry))) .answer) × (r .rounds ≡ searchedIn (tableOf entries (now (rows .entry)) (now (cols .entry)) (now (values .entry))) width (parentOf objective (now (kept .entry))) .rounds) ⌝ }
+    requires { ⌜ LevelRoom mostSigns mostWords (length (now current)) width (length (now level)) × (1 ≤ width) × (length (now kept) ≡ mostWords) × Sound (length (now current)) (tableOf entries (now rows) (now cols) (now values)) × (objective ≡ objectiveIn (tableOf entries (now rows) (now cols) (now values)) (now current)) × StartRow (now current) (now kept) (now «current_row») × Lent entries (now rows) (now cols) (now values) ⌝ }
+    ensures { λ r. ⌜ (parentOf (r .least) (unpacked (length (now (current .entry))) (now (kept .exit))) ≡ searchedIn (tableOf entries (now (rows .entry)) (now (cols .entry)) (now (values .entry))) width (parentOf objective (now (current .entry))) .answer) × (r .rounds ≡ searchedIn (tableOf entries (now (rows .entry)) (now (cols .entry)) (now (values .entry))) width (parentOf objective (now (current .entry))) .rounds) ⌝ }
+    ensures tidy { λ _. ⌜ Tidy (length (now (current .entry))) (now (kept .exit)) ⌝ }
 {
-    let m = kept.len();
     let mut changes: [i64; MOST_SIGNS] = [0; MOST_SIGNS];
     let mut objectives: [i64; MOST_SIGNS] = [0; MOST_SIGNS];
     let mut next_objectives: [i64; MOST_SIGNS] = [0; MOST_SIGNS];
+    let mut next_level: [u64; SEARCH_WORKSPACE] = [0; SEARCH_WORKSPACE];
     search_levels(
         entries,
         rows,
@@ -105,16 +115,51 @@ fn search_room(
         width,
         objective,
         kept,
-        &mut scratch[0..m],
+        current,
+        current_row,
         &mut changes,
         &mut objectives,
         level,
         &mut next_objectives,
-        next_level,
+        &mut next_level,
     )
 }
 
-// 01's local search from the signs in `kept`, which takes the answer; with width 0 the start stands. The rows of a level go to `level`.
+// The same from the signs in `current`, which takes the answer: packed at the start, unpacked at the end.
+fn search_room(
+    entries: usize,
+    rows: &[u16],
+    cols: &[u16],
+    values: &[i64],
+    width: usize,
+    objective: i64,
+    current: &mut [u8],
+    level: &mut [u64],
+) -> Searched
+    requires { ⌜ LevelRoom mostSigns mostWords (length (now current)) width (length (now level)) × (1 ≤ width) × Binary (now current) × Sound (length (now current)) (tableOf entries (now rows) (now cols) (now values)) × (objective ≡ objectiveIn (tableOf entries (now rows) (now cols) (now values)) (now current)) × Lent entries (now rows) (now cols) (now values) ⌝ }
+    ensures { λ r. ⌜ (parentOf (r .least) (now (current .exit)) ≡ searchedIn (tableOf entries (now (rows .entry)) (now (cols .entry)) (now (values .entry))) width (parentOf objective (now (current .entry))) .answer) × (r .rounds ≡ searchedIn (tableOf entries (now (rows .entry)) (now (cols .entry)) (now (values .entry))) width (parentOf objective (now (current .entry))) .rounds) ⌝ }
+{
+    let mut kept: [u64; MOST_WORDS] = [0; MOST_WORDS];
+    let mut current_row: [u64; MOST_WORDS] = [0; MOST_WORDS];
+    pack(current, &mut kept);
+    copy(&mut current_row, &kept);
+    let found = search_packed(
+        entries,
+        rows,
+        cols,
+        values,
+        width,
+        objective,
+        &mut kept,
+        current,
+        &mut current_row,
+        level,
+    );
+    unpack(&kept, current);
+    found
+}
+
+// 01's local search from the signs in `kept`, each 0 or 1, which takes the answer; with width 0 the start stands. The rows of a level go to `level`.
 pub fn search_signs(
     entries: usize,
     rows: &[u16],
@@ -122,9 +167,9 @@ pub fn search_signs(
     values: &[i64],
     width: usize,
     kept: &mut [u8],
-    level: &mut [u8],
+    level: &mut [u64],
 ) -> Searched
-    requires { ⌜ LevelRoom mostSigns (length (now kept)) width (length (now level)) × Sound (length (now kept)) (tableOf entries (now rows) (now cols) (now values)) × Lent entries (now rows) (now cols) (now values) ⌝ }
+    requires { ⌜ LevelRoom mostSigns mostWords (length (now kept)) width (length (now level)) × Binary (now kept) × Sound (length (now kept)) (tableOf entries (now rows) (now cols) (now values)) × Lent entries (now rows) (now cols) (now values) ⌝ }
     ensures { λ r. ⌜ Found-by (tableOf entries (now (rows .entry)) (now (cols .entry)) (now (values .entry))) width (now (kept .entry)) (r .least) (r .rounds) (now (kept .exit)) ⌝ }
 {
     let start = obj_rounded(entries, rows, cols, values, kept);
@@ -134,18 +179,5 @@ pub fn search_signs(
             rounds: 0,
         };
     }
-    let mut current: [u8; MOST_SIGNS] = [0; MOST_SIGNS];
-    let mut next_level: [u8; SEARCH_WORKSPACE] = [0; SEARCH_WORKSPACE];
-    search_room(
-        entries,
-        rows,
-        cols,
-        values,
-        width,
-        start,
-        kept,
-        &mut current,
-        level,
-        &mut next_level,
-    )
+    search_room(entries, rows, cols, values, width, start, kept, level)
 }

@@ -15,11 +15,11 @@ slice-aggregate-job-answer c = search needs
 job-answer-requires : tie.Need-job-answer-requires
 job-answer-requires c κs = search needs
 
-slice-aggregate-write-answer : tie.Need-slice-aggregate-write-answer
-slice-aggregate-write-answer c = search needs
-
 write-answer-requires : tie.Need-write-answer-requires
-write-answer-requires c κs = let n = n-fits (now (c .before .before .before .before .before .before .before .before .before .before .before .args .job)) (c .before .before .before .before .before .before .before .before .before .before .before .pre .0) (c .before .before .before .before .before .job-answer .result) (c .before .before .before .before .before .job-answer .ensures .0) in (omega (arith, n, c .before .before .before .before .before .before .before .before .before .before .before .pre .2), omega (arith, n, c .before .before .before .before .before .job-answer .kept .1 .0))
+write-answer-requires c κs =
+    let x = c .before .before .before .before .before .job-answer in
+    let n = n-fits (now (c .before .before .before .before .before .before .before .before .before .before .before .args .job)) (c .before .before .before .before .before .before .before .before .before .before .before .pre .0) (x .result) (x .ensures .0) in
+    (omega (arith, n, c .before .before .before .before .before .before .before .before .before .before .before .pre .2), omega (arith, n, x .kept .1 .0, c .before .before .before .before .before .before .before .before .before .before .before .pre .1))
 
 same-length : tie.Need-same-length
 same-length c = search needs
@@ -28,7 +28,11 @@ same-length-2 : tie.Need-same-length-2
 same-length-2 c = search needs
 
 returns : tie.Need-returns
-returns c = c .before .before .write-answer .ensures ∙ ap (λ (x : List ℕ). over x (now (c .before .before .before .before .before .before .before .before .before .before .before .before .before .before .args .answer))) (written-bytes (now (c .before .before .before .before .before .before .before .before .before .before .before .before .before .before .args .job)) (c .before .before .before .before .before .before .before .before .before .before .before .before .before .before .pre .0) (c .before .before .before .before .before .before .before .before .job-answer .result) _ _ (c .before .before .before .before .before .before .before .before .job-answer .ensures .0) (c .before .before .before .before .before .before .before .before .job-answer .ensures .1))
+returns c =
+    let a = c .before .before .before .before .before .before .before .before .before .before .before .before .before .before .args in
+    let x = c .before .before .before .before .before .before .before .before .job-answer in
+    c .before .before .write-answer .ensures
+    ∙ ap (λ (y : List ℕ). over y (now (a .answer))) (written-bytes (now (a .job)) (c .before .before .before .before .before .before .before .before .before .before .before .before .before .before .pre .0) (x .result) _ _ (x .ensures .0) (x .ensures .1))
 
 pub answer-job-spec : {M : Type 1} → statement M
 answer-job-spec =
@@ -36,7 +40,6 @@ answer-job-spec =
     (tie.spec
     slice-aggregate-job-answer
     job-answer-requires
-    slice-aggregate-write-answer
     write-answer-requires
     same-length
     same-length-2

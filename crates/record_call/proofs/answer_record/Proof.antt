@@ -4,7 +4,7 @@ use Rattle.record_call.proofs.answer_record.Tie as tie
 use mathlib.Core.Path.{sym, _∙_}
 use lib.Seq.{drop-at, length-take-le}
 use native.Mathlib.Omega.{arith}
-use Rattle.limits.specs.Limits.{searchWorkspace}
+use Rattle.limits.specs.Limits.{recordWorkspace}
 use Rattle.record_call.proofs.Answering.{short-answer, short-workspace, roomy, answers-short, answers-refused, answers-accepted}
 
 returns : tie.Need-returns
@@ -24,7 +24,7 @@ returns-4 c =
     let a = c .before .before .before .before .before .before .before .before .before .before .before .before .before .before .args in
     let long = c .before .before .before .before .before .before .before .before .before .if2 .left in
     answers-accepted (a .job .now) (a .workspace .now) (a .answer .now) (λ i. omega (arith, c .before .before .before .before .before .before .before .before .before .before .before .before .before .shared-slice-known .given i)) _ _
-    (drop-at (c .before .before .before .before .answer-job .last .1 .0) _ searchWorkspace (omega (arith, c .before .before .before .before .answer-job .kept, length-take-le searchWorkspace (a .workspace .now) long)))
+    (drop-at (c .before .before .before .before .answer-job .last .1 .0) _ recordWorkspace (omega (arith, c .before .before .before .before .answer-job .kept, length-take-le recordWorkspace (a .workspace .now) long)))
     (roomy (a .job .now) (a .workspace .now) (a .answer .now) (c .before .before .before .before .before .before .before .before .before .before .if1 .left) long)
     (sym (c .before .before .before .before .before .before .before .before .job-number .ensures) ∙ c .before .before .before .before .before .before .before .if3 .left) (c .before .before .before .before .answer-job .ensures)
 

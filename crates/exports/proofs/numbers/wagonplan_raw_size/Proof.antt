@@ -1,13 +1,14 @@
 -- `exports::numbers::wagonplan_raw_size` meets its contract. Assumes nothing.
 use borrow.Author.Needs.{needs}
 use mathlib.Core.Path.{refl}
+use Rattle.sign_calls.specs.Size.{signWords}
 use Rattle.exports.specs.Sizes.{sizeOf}
 use Rattle.exports.proofs.Asked.{not-listed}
 use Rattle.exports.proofs.numbers.wagonplan_raw_size.Statement.{statement}
 use Rattle.exports.proofs.numbers.wagonplan_raw_size.Tie as tie
 
 returns : tie.Need-returns
-unfolding sizeOf
+unfolding sizeOf signWords
 returns c = refl
 
 returns-2 : tie.Need-returns-2

@@ -1,14 +1,14 @@
 -- `finalize::choice::search_from` meets its contract. By what its callees ensure. Assumes nothing.
 use borrow.Author.Needs.{needs}
 use mathlib.Core.Path.{_≡_, _∙_}
-use Prim.Native.Nat.{suc}
+use Prim.Native.Nat.{suc, _+_}
 use native.Mathlib.Numerals.{add-one}
 use native.Mathlib.Omega.{arith}
 use denote.Ref.{now}
 use lib.ListN.{length}
 use Rattle.laws.proofs.Integer.{held}
 use Rattle.tables.specs.Table.{tableOf}
-use Rattle.finalize.proofs.Assembled.{chooses, sound, room, objective-held}
+use Rattle.finalize.proofs.Assembled.{chooses, sound, room, objective-held, rounded-binary}
 use Rattle.finalize.proofs.choice.search_from.Statement.{statement}
 use Rattle.finalize.proofs.choice.search_from.Tie as tie
 
@@ -24,8 +24,17 @@ rounded-long c = c .compute-rounded-sol .kept .1 .1 .1 .1 .1 .1 .1 .1 .1 .1 .1 .
 
 search-signs-requires : tie.Need-search-signs-requires
 search-signs-requires c κs =
-    let table = c .before .before .before .before .before .before .before .before .before .before .before .before .before .before .before .before .before .before .before .before .before .pre .0 in let fits = c .before .before .before .before .before .before .before .before .before .before .before .before .before .before .before .before .before .before .before .before .before .pre .1 .0 in
-    (room (table .1) (rounded-long (c .before .before .before .before .before .before .before .before)) (fits .width-few) (fits .space-room), sound (table .1) (rounded-long (c .before .before .before .before .before .before .before .before)), table .0)
+    let s = c .before .before .before .before .before .before .before .before .before .before .before .before .before .before .before .before .before .before .before .before .before in
+    let table = s .pre .0 in
+    let fits = s .pre .1 .0 in
+    let a = s .args in
+    let r = c .before .before .before .before .before .before .before .before in (
+      room (table .1) (rounded-long r) (fits .width-few) (fits .space-room),
+      rw (r .compute-rounded-sol .ensures .1)
+          (rounded-binary (now (a .factor)) (a .rank) (a .n + 1) (now (a .draws)) (tableOf (a .entries) (now (a .rows)) (now (a .cols)) (now (a .values))) (a .draw-count)),
+      sound (table .1) (rounded-long r),
+      table .0,
+    )
 
 decoding-requires : tie.Need-qubo-binary-from-sign-solution-requires
 decoding-requires c κs = (omega (arith, c .before .before .before .before .before .before .search-signs .kept .1 .1 .1 .1 .1 .0, rounded-long (c .before .before .before .before .before .before .before .before .before .before .before .before .before .before .before)), c .before .before .before .before .before .before .before .before .before .before .before .before .before .before .before .before .before .before .before .before .before .before .before .before .before .before .before .before .pre .1 .0 .b-room)

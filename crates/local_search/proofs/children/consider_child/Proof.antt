@@ -1,4 +1,5 @@
 use borrow.Author.Needs.{needs, sfits-of}
+use native.Mathlib.Omega.{arith}
 use denote.Ref.{now}
 use mathlib.Core.Bool.{true}
 use mathlib.Core.Path.{_≡_, refl, ap₂, _∙_}
@@ -24,7 +25,7 @@ add-insert-child : tie.Need-add-insert-child
 add-insert-child c =
     let d = c .before .before .before in
     let s = d .before .before .before in
-    rw (toZ-ofZ (s .fits .objective), changed d) (s .pre .0 .safe (s .args .i) (s .pre .1) (rw (changed d) at (c .before .before .if1 .taken)))
+    rw (toZ-ofZ (s .fits .objective), changed d) (s .pre .0 .safe (s .args .i) (omega arith) (rw (changed d) at (c .before .before .if1 .taken)))
 
 returns : tie.Need-returns
 returns c =
@@ -36,7 +37,7 @@ returns c =
     let parent = parentOf (a .objective) (now (a .parent)) in
     let exists : improvesC change parent (a .i) ≡ true = rw (changed d) at (k .before .before .before .if1 .taken) in
     let added = toZ-ofZ (add-insert-child (k .before)) ∙ ap₂ _+ℤ_ (toZ-ofZ (s .fits .objective)) (changed d) in (
-      child-kept (a .width) _ _ (k .insert-child .result) (a .i) change (improvesC change) parent _ exists added (k .insert-child .ensures .0),
+      child-kept (a .width) _ _ (k .insert-child .result) (a .i) (now (a .changes)) (improvesC change) parent _ exists added (k .insert-child .ensures .0),
       λ q. k .insert-child .ensures .1 (room-missed (a .width) (take (a .count) (now (a .objectives))) (now (a .changes)) parent (a .i) _ exists added q),
     )
 
@@ -44,7 +45,7 @@ returns-2 : tie.Need-returns-2
 returns-2 c =
     let s = c .before .before .before .before in
     let change = changeOf (now (s .args .changes)) in (
-      no-child (s .args .width) _ _ (s .args .count) (s .args .i) change (improvesC change) (parentOf (s .args .objective) (now (s .args .parent)))
+      no-child (s .args .width) _ _ (s .args .count) (s .args .i) (now (s .args .changes)) (improvesC change) (parentOf (s .args .objective) (now (s .args .parent)))
           (rw (changed (c .before)) at (c .if1 .left)) refl (s .pre .0 .used),
       λ q. record { objectives-stay = refl; signs-stay = refl; count-stays = refl },
     )

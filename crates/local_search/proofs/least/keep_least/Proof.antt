@@ -17,7 +17,7 @@ use Rattle.local_search.proofs.least.keep_least.Statement.{statement}
 use Rattle.local_search.proofs.least.keep_least.Tie as tie
 use Rattle.local_search.proofs.least.keep_least.Reads as reads
 use Rattle.local_search.proofs.least.keep_least.Lts as lts
-use Rattle.local_search.proofs.least.keep_better.Reads as keep-better-reads
+use Rattle.local_search.proofs.least.keep_words.Reads as keep-words-reads
 
 abbrev Inv-loop : tie.InvT-loop
 Inv-loop objectives signs count least kept₀ m low₀ k₀ kept low k =
@@ -45,11 +45,11 @@ mul-at c = omega (arith, room c)
 add-end : tie.Need-add-end Inv-loop μ-loop
 add-end c = omega (arith, room c)
 
-part-keep-better-end : tie.Need-part-keep-better-end Inv-loop μ-loop
-part-keep-better-end c = room (c .before .before)
+part-keep-words-end : tie.Need-part-keep-words-end Inv-loop μ-loop
+part-keep-words-end c = room (c .before .before)
 
-keep-better-requires : tie.Need-keep-better-requires Inv-loop μ-loop
-keep-better-requires c κs =
+keep-words-requires : tie.Need-keep-words-requires Inv-loop μ-loop
+keep-words-requires c κs =
     let i = c .before .before .before in
     let l = i .before .loop in
     let a = i .before .before .before .before .args in
@@ -64,9 +64,9 @@ loop-again c =
     let a = i .before .before .before .before .args in
     let m = length (now (a .kept)) in (
       omega arith,
-      b .keep-better .kept .1 .0 ∙ l .inv .1,
-      ap (λ (z : ℤ). parentOf z (b .keep-better .last .1 .0)) (toZ-ofZ (sfits-of (b .keep-better .ok)))
-          ∙ least-one-more m (now (a .objectives)) (now (a .signs)) (parentOf (toZ w64 (ofZ w64 (a .least))) (now (a .kept))) (l .k) _ _ _ (omega arith) (l .inv .2) (b .keep-better .ensures)
+      b .keep-words .kept .1 .0 ∙ l .inv .1,
+      ap (λ (z : ℤ). parentOf z (b .keep-words .last .1 .0)) (toZ-ofZ (sfits-of (b .keep-words .ok)))
+          ∙ least-one-more m (now (a .objectives)) (now (a .signs)) (parentOf (toZ w64 (ofZ w64 (a .least))) (now (a .kept))) (l .k) _ _ _ (omega arith) (l .inv .2) (b .keep-words .ensures)
           (parent-is m (now (a .objectives)) (now (a .signs)) (l .k) (room i) _ (toZ-ofZ (sfits-of (o .objective .given)))),
     )
 
@@ -91,10 +91,11 @@ keep-least-spec =
     add-end
     (λ c. omega arith)
     (λ c. omega arith)
+    (λ c. omega (arith, room (c .before .before)))
     (λ c. omega arith)
     (λ c. omega arith)
-    part-keep-better-end
-    keep-better-requires
+    part-keep-words-end
+    keep-words-requires
     (λ c. omega arith)
     (λ c. omega arith)
     loop-again

@@ -31,6 +31,12 @@ slice-read-signs c = omega (arith, long (c .before .before))
 add-signs : tie.Need-add-signs Inv-loop μ-loop
 add-signs c = omega (arith, long (c .before .before))
 
+mul-signs : tie.Need-mul-signs Inv-loop μ-loop
+mul-signs c = omega (arith, long (c .before))
+
+mul-signs-2 : tie.Need-mul-signs-2 Inv-loop μ-loop
+mul-signs-2 c = omega (arith, long (c .before .before))
+
 slice-write-signs : tie.Need-slice-write-signs Inv-loop μ-loop
 slice-write-signs c = omega (arith, long (c .before .before))
 
@@ -57,8 +63,10 @@ shift-signs-spec =
     μ-loop
     loop-holds
     (λ c. omega arith)
+    mul-signs
     slice-read-signs
     add-signs
+    mul-signs-2
     slice-write-signs
     (λ c. omega arith)
     loop-again

@@ -1,5 +1,4 @@
 use borrow.Author.Needs.{needs}
-use borrow.Author.Needs.{needs}
 use Rattle.sign_search.proofs.search.search_signs.Statement.{statement}
 use Rattle.sign_search.proofs.search.search_signs.Tie as tie
 use native.Mathlib.Omega.{arith}
@@ -18,7 +17,10 @@ unfolding objectiveIn
 started c = held _ (c .obj-rounded .ok) ∙ c .obj-rounded .ensures
 
 obj-rounded-requires : tie.Need-obj-rounded-requires
-obj-rounded-requires c κs = (c .before .before .before .before .before .pre .2, c .before .before .before .before .before .pre .1 .mirrors .in-range, c .before .before .before .before .before .pre .1 .small)
+obj-rounded-requires c κs = (c .before .before .before .before .before .pre .3, c .before .before .before .before .before .pre .2 .mirrors .in-range, c .before .before .before .before .before .pre .2 .small)
+
+same-length : tie.Need-same-length
+same-length c = search needs
 
 returns : tie.Need-returns
 returns c =
@@ -26,31 +28,27 @@ returns c =
     found-none (tableOf (a .entries) (now (a .rows)) (now (a .cols)) (now (a .values))) (a .width) (now (a .kept)) _ (c .if1 .taken) (started (c .before))
 
 search-room-requires : tie.Need-search-room-requires
-search-room-requires c κs =
-    let r = c .before .before .before .before .before .before .before .before .before .before .before .pre .0 in
-    (r, record { signs-few = r .signs-few; width-few = r .width-few; level-room = omega arith }, omega arith, omega arith, c .before .before .before .before .before .before .before .before .before .before .before .pre .1, started (c .before .before .before .before .before), c .before .before .before .before .before .before .before .before .before .before .before .pre .2)
+search-room-requires c κs = (c .before .before .before .before .before .before .before .before .before .pre .0, omega arith, c .before .before .before .before .before .before .before .before .before .pre .1, c .before .before .before .before .before .before .before .before .before .pre .2, started (c .before .before .before), c .before .before .before .before .before .before .before .before .before .pre .3)
 
 same-length-2 : tie.Need-same-length-2
-same-length-2 c = c .before .before .before .before .before .before .search-room .kept .1 .1 .1 .1 .1 .1 .0
+same-length-2 c = c .before .before .before .before .search-room .kept .1 .1 .1 .1 .1 .1 .0
 
 same-length-3 : tie.Need-same-length-3
-same-length-3 c = c .before .before .before .before .before .before .search-room .kept .1 .1 .1 .1 .1 .1 .1 .1 .0
+same-length-3 c = c .before .before .before .before .search-room .kept .1 .1 .1 .1 .1 .1 .1 .0
 
 returns-2 : tie.Need-returns-2
 returns-2 c =
-    let v = c .before .before .before .before .before .before .search-room in
-    let a = c .before .before .before .before .before .before .before .before .before .before .before .before .before .before .before .before .before .before .args in
-    found-by (tableOf (a .entries) (now (a .rows)) (now (a .cols)) (now (a .values))) (a .width) (now (a .kept)) _ (parentOf (v .result .least) (v .last .1 .1 .1 .1 .1 .1 .0)) (v .result .rounds) (c .before .before .before .before .before .before .before .before .before .before .before .before .before .before .before .before .before .before .pre .1) (started (c .before .before .before .before .before .before .before .before .before .before .before .before)) (v .ensures .0) (v .ensures .1)
+    let v = c .before .before .before .before .search-room in
+    let a = c .before .before .before .before .before .before .before .before .before .before .before .before .before .before .args in
+    found-by (tableOf (a .entries) (now (a .rows)) (now (a .cols)) (now (a .values))) (a .width) (now (a .kept)) _ (parentOf (v .result .least) (v .last .1 .1 .1 .1 .1 .1 .0)) (v .result .rounds) (c .before .before .before .before .before .before .before .before .before .before .before .before .before .before .pre .2) (started (c .before .before .before .before .before .before .before .before)) (v .ensures .0) (v .ensures .1)
 
 pub search-signs-spec : {M : Type 1} → statement M
 search-signs-spec =
     tie.close
     (tie.spec
     obj-rounded-requires
-    (λ c. search needs)
+    same-length
     returns
-    (λ c. search needs)
-    (λ c. search needs)
     search-room-requires
     same-length-2
     same-length-3

@@ -1,0 +1,23 @@
+-- `sign_calls::numbers::pack_short` meets its contract. Assumes nothing.
+use borrow.Author.Needs.{needs}
+use mathlib.Core.Path.{sym, _∙_}
+use Rattle.laws.proofs.Any.{any-here, any-skip, any-last}
+use Rattle.sign_calls.specs.Numbers.{packShort}
+use Rattle.sign_calls.proofs.numbers.pack_short.Statement.{statement}
+use Rattle.sign_calls.proofs.numbers.pack_short.Tie as tie
+
+returns : tie.Need-returns
+unfolding packShort
+returns c =
+    let first = rw (c .before .before .bad-signs .ensures) at (c .before .too-short .ensures) in sym (any-here _ _ (sym first ∙ c .if1 .taken))
+
+returns-2 : tie.Need-returns-2
+unfolding packShort
+returns-2 c =
+    let first = rw (c .before .before .before .before .bad-signs .ensures) at (c .before .before .before .too-short .ensures) in
+    let second = rw (c .before .before .before .before .bad-signs .ensures, c .before .sign-words .ensures) at (c .too-short2 .ensures) in
+    second ∙ sym (any-skip _ _ (sym first ∙ c .before .before .if1 .left) ∙ any-last _)
+
+pub pack-short-spec : {M : Type 1} → statement M
+pack-short-spec =
+    tie.close (tie.spec (λ c κs. search needs) (λ c κs. search needs) returns (λ c κs. search needs) (λ c κs. search needs) returns-2)

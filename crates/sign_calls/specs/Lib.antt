@@ -1,0 +1,3 @@
+pub mod Size
+pub mod Numbers
+pub mod Answers

@@ -1,0 +1,4 @@
+pub mod Digits
+pub mod PackedLaws
+pub mod DistanceLaws
+pub mod ApartLaws

@@ -1,0 +1,5 @@
+// A choice of signs in words of 64 bits: bit i of the choice is set for the sign −, and unused bits are 0. These are the only functions that know
+// of bits; how many words a choice takes is the caller's.
+pub mod distance;
+pub mod pack;
+pub mod words;
