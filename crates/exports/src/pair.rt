@@ -54,7 +54,8 @@ pub extern "C" fn wagonplan_raw_lift_solution(
     reduced_solution: &[f64],
     lifted: &mut [f64],
 ) -> u8
-    ensures { λ r. ⌜ Lifts size (now («variable_map» .entry)) (now («fixed_index» .entry)) (now («fixed_value» .entry)) (now («reduced_solution» .entry)) (now (lifted .entry)) r (now (lifted .exit)) ⌝ }
+    ensures { λ r. ⌜ Lifts size (now («variable_map» .entry)) (now («fixed_index» .entry)) (now («fixed_value» .entry)) (now («reduced_solution» .entry))
+        (now (lifted .entry)) r (now (lifted .exit)) ⌝ }
 {
     lift_solution(
         size,

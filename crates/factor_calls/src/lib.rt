@@ -53,7 +53,8 @@ fn round(
         × (magnitudeOf (tableOf count (now rows) (now cols) (now values)) ≤ mostSignMagnitude) ⌝ }
     requires { ⌜ (m * rank ≤ length (now factor)) × («draw_count» * rank ≤ length (now draws)) × (1 ≤ «draw_count») × (m ≤ length (now out)) × (m ≤ mostSigns) × (rank ≤ mostRank) ⌝ }
     ensures { λ r. ⌜ r ≡ roundedObjective (now (factor .entry)) rank m (now (draws .entry)) (tableOf count (now (rows .entry)) (now (cols .entry)) (now (values .entry))) «draw_count» ⌝ }
-    ensures { λ _. ⌜ now (out .exit) ≡ over (roundedSol (now (factor .entry)) rank m (now (draws .entry)) (tableOf count (now (rows .entry)) (now (cols .entry)) (now (values .entry))) «draw_count») (now (out .entry)) ⌝ }
+    ensures { λ _. ⌜ now (out .exit) ≡ over (roundedSol (now (factor .entry)) rank m (now (draws .entry))
+        (tableOf count (now (rows .entry)) (now (cols .entry)) (now (values .entry))) «draw_count») (now (out .entry)) ⌝ }
 {
     let mut direction = direction_room();
     let mut signs = signs_room();

@@ -39,7 +39,8 @@ fn search_from(
     requires { ⌜ Lent entries (now rows) (now cols) (now values) × Accepted mostSigns mostSignEntries mostSignMagnitude (suc n) (tableOf entries (now rows) (now cols) (now values)) ⌝ }
     requires { ⌜ ChoiceFits n rank width «draw_count» (length (now draws)) (length (now factor)) (length (now b)) (length (now workspace))
         × (length (now direction) ≡ rank) × (length (now signs) ≡ suc n) × (length (now best) ≡ suc n) ⌝ }
-    ensures { λ r. ⌜ Chooses (tableOf entries (now (rows .entry)) (now (cols .entry)) (now (values .entry))) n rank width «draw_count» (now (draws .entry)) (now (factor .entry)) (now (b .entry)) (now (b .exit)) (r .«rounded_cost») (r .cost) (r .rounds) ⌝ }
+    ensures { λ r. ⌜ Chooses (tableOf entries (now (rows .entry)) (now (cols .entry)) (now (values .entry))) n rank width «draw_count» (now (draws .entry))
+        (now (factor .entry)) (now (b .entry)) (now (b .exit)) (r .«rounded_cost») (r .cost) (r .rounds) ⌝ }
 {
     let rounded_cost = compute_rounded_sol(
         entries,
@@ -81,7 +82,8 @@ pub fn choose(
 ) -> Chosen
     requires { ⌜ Lent entries (now rows) (now cols) (now values) × Accepted mostSigns mostSignEntries mostSignMagnitude (suc n) (tableOf entries (now rows) (now cols) (now values)) ⌝ }
     requires { ⌜ ChoiceFits n rank width «draw_count» (length (now draws)) (length (now factor)) (length (now b)) (length (now workspace)) × (rank ≤ mostRank) ⌝ }
-    ensures { λ r. ⌜ Chooses (tableOf entries (now (rows .entry)) (now (cols .entry)) (now (values .entry))) n rank width «draw_count» (now (draws .entry)) (now (factor .entry)) (now (b .entry)) (now (b .exit)) (r .«rounded_cost») (r .cost) (r .rounds) ⌝ }
+    ensures { λ r. ⌜ Chooses (tableOf entries (now (rows .entry)) (now (cols .entry)) (now (values .entry))) n rank width «draw_count» (now (draws .entry))
+        (now (factor .entry)) (now (b .entry)) (now (b .exit)) (r .«rounded_cost») (r .cost) (r .rounds) ⌝ }
 {
     let mut direction = room::direction();
     let mut signs = room::signs();

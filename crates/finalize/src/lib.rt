@@ -47,7 +47,8 @@ fn finalize_signs(
     workspace: &mut [u64],
 ) -> Figures
     requires { ⌜ Lent entries (now rows) (now cols) (now values) × Accepted mostSigns mostSignEntries mostSignMagnitude (suc n) (tableOf entries (now rows) (now cols) (now values)) ⌝ }
-    requires { ⌜ Fits n rank width «draw_count» (length (now draws)) (length (now factor)) (length (now b)) (length (now «dual_variables»)) (length (now workspace)) × (length (now factor) ≡ suc n * rank) ⌝ }
+    requires { ⌜ Fits n rank width «draw_count» (length (now draws)) (length (now factor)) (length (now b)) (length (now «dual_variables»)) (length (now workspace))
+        × (length (now factor) ≡ suc n * rank) ⌝ }
     ensures { λ r. ⌜ Works (tableOf entries (now (rows .entry)) (now (cols .entry)) (now (values .entry))) n rank width «draw_count» (now (draws .entry)) (now (factor .entry))
         (now (b .entry)) (now (b .exit)) (now («dual_variables» .entry)) (now («dual_variables» .exit)) (r .«diagonal_sum») (r .«float_bound») (r .floor) (r .«rounded_cost») (r .cost) (r .rounds) ⌝ }
 {
@@ -104,7 +105,8 @@ pub fn finalize(
     dual_variables: &mut [f64],
     workspace: &mut [u64],
 ) -> Figures
-    requires { ⌜ Lent count (now rows) (now cols) (now values) × (n ≤ length (now c)) × Hall mostWagons mostEntries mostMagnitude n (tableOf count (now rows) (now cols) (now values)) (elemZ (now c)) ⌝ }
+    requires { ⌜ Lent count (now rows) (now cols) (now values)
+        × (n ≤ length (now c)) × Hall mostWagons mostEntries mostMagnitude n (tableOf count (now rows) (now cols) (now values)) (elemZ (now c)) ⌝ }
     requires { ⌜ Fits n rank width «draw_count» (length (now draws)) (length (now factor)) (length (now b)) (length (now «dual_variables»)) (length (now workspace)) ⌝ }
     ensures { λ r. ⌜ Finalizes n (tableOf count (now (rows .entry)) (now (cols .entry)) (now (values .entry))) (elemZ (now (c .entry))) rank width «draw_count»
         (now (draws .entry)) (take (suc n * rank) (now (factor .entry))) (now (b .entry)) (now (b .exit)) (now («dual_variables» .entry)) (now («dual_variables» .exit)) (r .«diagonal_sum») (r .«float_bound») (r .floor) (r .«rounded_cost») (r .cost) (r .rounds) ⌝ }

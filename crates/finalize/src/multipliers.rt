@@ -31,7 +31,9 @@ fn multiply_out(
     dual: &mut [f64],
 )
     requires { ⌜ Lent entries (now rows) (now cols) (now values) × InRange m (tableOf entries (now rows) (now cols) (now values)) × (length (now factor) ≡ m * rank) ⌝ }
-    requires { ⌜ (now diagonal ≡ diagonalOf (tableOf entries (now rows) (now cols) (now values)) m) × Rooms entries m rank (length (now «work_rows»)) (length (now «work_cols»)) (length (now «work_values»)) (length (now starts)) (length (now sums)) (length (now dual)) ⌝ }
+    requires { ⌜ (now diagonal ≡ diagonalOf (tableOf entries (now rows) (now cols) (now values)) m)
+        × Rooms entries m rank (length (now «work_rows»)) (length (now «work_cols»)) (length (now «work_values»)) (length (now starts)) (length (now sums))
+        (length (now dual)) ⌝ }
     ensures { λ _. ⌜ now (dual .exit) ≡ dualVariables (tableOf entries (now (rows .entry)) (now (cols .entry)) (now (values .entry))) m rank (now (factor .entry)) ⌝ }
 {
     let stay = separate_diagonal(

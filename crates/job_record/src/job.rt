@@ -86,7 +86,9 @@ struct Parts {
 
 fn parts_of(job: &[u8]) -> Parts
     requires { ⌜ jobNumber (now job) ≡ 0 ⌝ }
-    ensures { λ r. ⌜ (r .rank ≡ jobRank (now (job .entry))) × (r .start ≡ settingsPlace (now (job .entry)) + 36) × (r .count ≡ jobStartCount (now (job .entry))) × (r .draws ≡ drawsPlace (now (job .entry))) × (r .rank ≤ mostRank) × (r .count ≤ mostStart) ⌝ }
+    ensures { λ r. ⌜ (r .rank ≡ jobRank (now (job .entry))) × (r .start ≡ settingsPlace (now (job .entry)) + 36)
+        × (r .count ≡ jobStartCount (now (job .entry))) × (r .draws ≡ drawsPlace (now (job .entry)))
+        × (r .rank ≤ mostRank) × (r .count ≤ mostStart) ⌝ }
 {
     let b = accepted_pins(job);
     let f = accepted_settings(job, b.settings);

@@ -24,8 +24,11 @@ pub fn consider_child(
     width: usize,
 ) -> usize
     requires { ⌜ Expands (now changes) (suc i) (parentOf objective (now parent)) count width (length (now objectives)) (length (now signs)) × Ascending (take count (now objectives)) ⌝ }
-    ensures { λ r. ⌜ Kept width (levelOf (length (now (parent .entry))) count (now (objectives .entry)) (now (signs .entry))) (childAt (improvesC (changeOf (now (changes .entry)))) (flipW (now (changes .entry))) (parentOf objective (now (parent .entry))) i) (levelOf (length (now (parent .entry))) r (now (objectives .exit)) (now (signs .exit))) r ⌝ }
-    ensures stays_out { λ r. ⌜ (enters width (take count (now (objectives .entry))) (now (changes .entry)) (parentOf objective (now (parent .entry))) i ≡ false → Untouched (now (objectives .entry)) (now (objectives .exit)) (now (signs .entry)) (now (signs .exit)) count r) ⌝ }
+    ensures { λ r. ⌜ Kept width (levelOf (length (now (parent .entry))) count (now (objectives .entry)) (now (signs .entry)))
+        (childAt (improvesC (changeOf (now (changes .entry)))) (flipW (now (changes .entry))) (parentOf objective (now (parent .entry))) i)
+        (levelOf (length (now (parent .entry))) r (now (objectives .exit)) (now (signs .exit))) r ⌝ }
+    ensures stays_out { λ r. ⌜ (enters width (take count (now (objectives .entry))) (now (changes .entry)) (parentOf objective (now (parent .entry))) i ≡ false
+        → Untouched (now (objectives .entry)) (now (objectives .exit)) (now (signs .entry)) (now (signs .exit)) count r) ⌝ }
 {
     let d = changes[i];
     if d < 0 {
@@ -46,7 +49,9 @@ pub fn expand_parent(
     width: usize,
 ) -> usize
     requires { ⌜ Expands (now changes) m (parentOf objective (now parent)) count width (length (now objectives)) (length (now signs)) × Ascending (take count (now objectives)) ⌝ }
-    ensures { λ r. ⌜ Kept width (levelOf (length (now (parent .entry))) count (now (objectives .entry)) (now (signs .entry))) (listedChildren (now (changes .entry)) m (parentOf objective (now (parent .entry)))) (levelOf (length (now (parent .entry))) r (now (objectives .exit)) (now (signs .exit))) r ⌝ }
+    ensures { λ r. ⌜ Kept width (levelOf (length (now (parent .entry))) count (now (objectives .entry)) (now (signs .entry)))
+        (listedChildren (now (changes .entry)) m (parentOf objective (now (parent .entry))))
+        (levelOf (length (now (parent .entry))) r (now (objectives .exit)) (now (signs .exit))) r ⌝ }
 {
     let mut kept = count;
     let mut i = 0;
@@ -77,8 +82,11 @@ pub fn append_child(
     count: usize,
 ) -> usize
     requires { ⌜ Appends (now changes) (suc i) (parentOf objective (now start)) (length (now objectives)) (length (now signs)) × (count ≤ i) ⌝ }
-    ensures { λ r. ⌜ Appended (levelOf (length (now (start .entry))) count (now (objectives .entry)) (now (signs .entry))) (childAt (improvesC (changeOf (now (changes .entry)))) (flipW (now (changes .entry))) (parentOf objective (now (start .entry))) i) (levelOf (length (now (start .entry))) r (now (objectives .exit)) (now (signs .exit))) r (suc i) ⌝ }
-    ensures stays_out { λ r. ⌜ (entersFirst (now (changes .entry)) (parentOf objective (now (start .entry))) i ≡ false → Untouched (now (objectives .entry)) (now (objectives .exit)) (now (signs .entry)) (now (signs .exit)) count r) ⌝ }
+    ensures { λ r. ⌜ Appended (levelOf (length (now (start .entry))) count (now (objectives .entry)) (now (signs .entry)))
+        (childAt (improvesC (changeOf (now (changes .entry)))) (flipW (now (changes .entry))) (parentOf objective (now (start .entry))) i)
+        (levelOf (length (now (start .entry))) r (now (objectives .exit)) (now (signs .exit))) r (suc i) ⌝ }
+    ensures stays_out { λ r. ⌜ (entersFirst (now (changes .entry)) (parentOf objective (now (start .entry))) i ≡ false
+        → Untouched (now (objectives .entry)) (now (objectives .exit)) (now (signs .entry)) (now (signs .exit)) count r) ⌝ }
 {
     let change = changes[i];
     if change < 0 {
@@ -99,7 +107,8 @@ pub fn first_level(
     signs: &mut [u64],
 ) -> usize
     requires { ⌜ Appends (now changes) m (parentOf objective (now start)) (length (now objectives)) (length (now signs)) ⌝ }
-    ensures { λ r. ⌜ Appended [] (listedChildren (now (changes .entry)) m (parentOf objective (now (start .entry)))) (levelOf (length (now (start .entry))) r (now (objectives .exit)) (now (signs .exit))) r m ⌝ }
+    ensures { λ r. ⌜ Appended [] (listedChildren (now (changes .entry)) m (parentOf objective (now (start .entry))))
+        (levelOf (length (now (start .entry))) r (now (objectives .exit)) (now (signs .exit))) r m ⌝ }
 {
     let mut count = 0;
     let mut i = 0;

@@ -133,7 +133,9 @@ fn beside_held(c: &[i64], sums: &[i64; MOST_WAGONS], i: usize) -> i64
 // The linear costs of the free wagons.
 fn put_costs(c: &[i64], sums: &[i64; MOST_WAGONS], free: &[u16], to_c: &mut [i64])
     requires { ⌜ ((k : ℕ) → k < length (now free) → BesideFits (now c) (now sums) (elem (now free) k)) × (length (now free) ≤ length (now «to_c»)) ⌝ }
-    ensures { λ _. ⌜ now («to_c» .exit) ≡ over (tabulate (λ k. elemZ (now (c .entry)) (elem (now (free .entry)) k) +ℤ elemZ (now (sums .entry)) (elem (now (free .entry)) k)) (length (now (free .entry)))) (now («to_c» .entry)) ⌝ }
+    ensures { λ _. ⌜ now («to_c» .exit) ≡ over (tabulate
+        (λ k. elemZ (now (c .entry)) (elem (now (free .entry)) k) +ℤ elemZ (now (sums .entry)) (elem (now (free .entry)) k)) (length (now (free .entry))))
+        (now («to_c» .entry)) ⌝ }
 {
     let mut k = 0;
     while k < free.len() {

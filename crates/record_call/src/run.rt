@@ -50,7 +50,8 @@ fn run_job(
     start: &[f64],
     factor: &mut [f64],
 ) -> Run
-    requires { ⌜ Decoded (now job) j count (now rows) (now cols) (now values) (now c) (now start) × (length (now factor) ≡ openSize (jobSettings (runCosts (now job)) (now job)) * openRank (jobSettings (runCosts (now job)) (now job))) ⌝ }
+    requires { ⌜ Decoded (now job) j count (now rows) (now cols) (now values) (now c) (now start)
+        × (length (now factor) ≡ openSize (jobSettings (runCosts (now job)) (now job)) * openRank (jobSettings (runCosts (now job)) (now job))) ⌝ }
     ensures { λ r. ⌜ (r ≡ recordOf (stopped (runCosts (now (job .entry))) (now (job .entry)))) × (now (factor .exit) ≡ stopped (runCosts (now (job .entry))) (now (job .entry)) .factor) ⌝ }
 {
     let run = open_accepted(
@@ -132,7 +133,9 @@ fn finish_job(
     b: &mut [u8],
     workspace: &mut [u64],
 ) -> FinishResult
-    requires { ⌜ Decoded (now job) j count (now rows) (now cols) (now values) (now c) (now start) × (now draws ≡ jobDraws (now job)) × (mostWagons ≤ length (now b)) × (searchWorkspace ≤ length (now workspace)) ⌝ }
+    requires { ⌜ Decoded (now job) j count (now rows) (now cols) (now values) (now c) (now start)
+        × (now draws ≡ jobDraws (now job)) × (mostWagons ≤ length (now b))
+        × (searchWorkspace ≤ length (now workspace)) ⌝ }
     ensures { λ r. ⌜ (r ≡ jobResult (runCosts (now (job .entry))) (now (job .entry))) × (now (b .exit) ≡ over (jobChoice (runCosts (now (job .entry))) (now (job .entry))) (now (b .entry))) ⌝ }
 {
     let mut factor = [0.0f64; MOST_FACTOR];

@@ -47,7 +47,8 @@ fn put_lifted(
 )
     requires { ⌜ LiftLent mostSize size (now «variable_map») (now «fixed_index») (length (now «fixed_value»)) (length (now «reduced_solution»)) (length (now lifted)) ⌝ }
     requires { ⌜ Mapped mostSize size (now «variable_map») (now «fixed_index») ⌝ }
-    ensures { λ _. ⌜ now (lifted .exit) ≡ liftedOf size (now («variable_map» .entry)) (now («fixed_index» .entry)) (now («fixed_value» .entry)) (now («reduced_solution» .entry)) (now (lifted .entry)) ⌝ }
+    ensures { λ _. ⌜ now (lifted .exit) ≡ liftedOf size (now («variable_map» .entry)) (now («fixed_index» .entry)) (now («fixed_value» .entry))
+        (now («reduced_solution» .entry)) (now (lifted .entry)) ⌝ }
 {
     clear(size, lifted);
     put_each(fixed_index, fixed_value, lifted);
@@ -86,7 +87,8 @@ pub fn lift_solution(
     reduced_solution: &[f64],
     lifted: &mut [f64],
 ) -> u8
-    ensures { λ r. ⌜ Lifts size (now («variable_map» .entry)) (now («fixed_index» .entry)) (now («fixed_value» .entry)) (now («reduced_solution» .entry)) (now (lifted .entry)) r (now (lifted .exit)) ⌝ }
+    ensures { λ r. ⌜ Lifts size (now («variable_map» .entry)) (now («fixed_index» .entry)) (now («fixed_value» .entry)) (now («reduced_solution» .entry))
+        (now (lifted .entry)) r (now (lifted .exit)) ⌝ }
 {
     if lift_short(
         size,

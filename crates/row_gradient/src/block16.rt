@@ -84,7 +84,8 @@ pub fn put_block(
 )
     requires { ⌜ (offset + 16 ≤ length (now g)) × (length (now cols) ≡ length (now values)) × (rank ≡ length (now g)) ⌝ }
     requires { ⌜ ColumnsWithin (now cols) (length (now g)) (now factor) ⌝ }
-    ensures { λ _. ⌜ now (g .exit) ≡ putBlock 16 offset (blockTo (now (cols .entry)) (now (values .entry)) (now (factor .entry)) vertex rank offset 16 (length (now (cols .entry)))) (now (g .entry)) ⌝ }
+    ensures { λ _. ⌜ now (g .exit) ≡ putBlock 16 offset
+        (blockTo (now (cols .entry)) (now (values .entry)) (now (factor .entry)) vertex rank offset 16 (length (now (cols .entry)))) (now (g .entry)) ⌝ }
 {
     let end = offset + 16;
     gradient_block(

@@ -224,7 +224,8 @@ pub fn open_number(
     numbers: usize,
     factor: usize,
 ) -> u8
-    ensures { λ r. ⌜ r ≡ openNumber (costTable n count (now (rows .entry)) (now (cols .entry)) (now (values .entry)) (now (c .entry))) (asked .rank) (asked .rule) (asked .number) (asked .most) (asked .start) numbers factor ⌝ }
+    ensures { λ r. ⌜ r ≡ openNumber (costTable n count (now (rows .entry)) (now (cols .entry)) (now (values .entry)) (now (c .entry))) (asked .rank) (asked .rule)
+        (asked .number) (asked .most) (asked .start) numbers factor ⌝ }
 {
     if open_short(
         n,

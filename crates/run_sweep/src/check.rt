@@ -121,7 +121,9 @@ pub fn run_after(
     dual: &mut [f64],
 ) -> Run
     requires { ⌜ Countable run left ⌝ }
-    requires { ⌜ (run .sweeps < run .most) × (tests ≡ testsObjective (run .rule)) × Shaped (now cols) (now values) (now starts) (now factor) (run .size) (run .rank) × (length (now product) ≡ run .size * run .rank) × (length (now dual) ≡ run .size) ⌝ }
+    requires { ⌜ (run .sweeps < run .most) × (tests ≡ testsObjective (run .rule))
+        × Shaped (now cols) (now values) (now starts) (now factor) (run .size) (run .rank)
+        × (length (now product) ≡ run .size * run .rank) × (length (now dual) ≡ run .size) ⌝ }
     ensures { λ r. ⌜ r ≡ runAfter run (work (now (rows .entry)) (now (cols .entry)) (now (values .entry)) (now (starts .entry))) (now (factor .entry)) left ⌝ }
 {
     let sweeps = run.sweeps + 1;

@@ -49,7 +49,9 @@ pub fn search_refusal(
     out: usize,
     workspace: usize,
 ) -> u8
-    ensures { λ r. ⌜ r ≡ searchRefusal baseLimits m width (searchShort baseLimits m count (length (now (rows .entry))) (length (now (cols .entry))) (length (now (values .entry))) start out workspace) (tableOf count (now (rows .entry)) (now (cols .entry)) (now (values .entry))) ⌝ }
+    ensures { λ r. ⌜ r ≡ searchRefusal baseLimits m width
+        (searchShort baseLimits m count (length (now (rows .entry))) (length (now (cols .entry))) (length (now (values .entry))) start out workspace)
+        (tableOf count (now (rows .entry)) (now (cols .entry)) (now (values .entry))) ⌝ }
 {
     if search_short(m, count, rows, cols, values, start, out, workspace) {
         return 31;

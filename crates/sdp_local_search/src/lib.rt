@@ -27,7 +27,8 @@ pub fn beam_search(
     out: &mut [u8],
     workspace: &mut [u64],
 ) -> BeamSearched
-    ensures { λ r. ⌜ BeamSearches baseLimits m count (now (rows .entry)) (now (cols .entry)) (now (values .entry)) width (now (start .entry)) (now (out .entry)) (now (workspace .entry)) (now (out .exit)) (now (workspace .exit)) r ⌝ }
+    ensures { λ r. ⌜ BeamSearches baseLimits m count (now (rows .entry)) (now (cols .entry)) (now (values .entry)) width (now (start .entry)) (now (out .entry))
+        (now (workspace .entry)) (now (out .exit)) (now (workspace .exit)) r ⌝ }
 {
     let refusal = search_refusal(
         m,

@@ -39,8 +39,11 @@ pub fn search_from(
     kept: &mut [u8],
     workspace: &mut [u64],
 ) -> Searched
-    requires { ⌜ LevelRoom mostSigns mostWords (length (now kept)) width (length (now workspace)) × Sound (length (now kept)) (tableOf count (now rows) (now cols) (now values)) × Lent count (now rows) (now cols) (now values) × (length (now kept) ≤ length (now start)) ⌝ }
-    ensures { λ r. ⌜ Found-by (tableOf count (now (rows .entry)) (now (cols .entry)) (now (values .entry))) width (signBytes (length (now (kept .entry))) (now (start .entry))) (r .least) (r .rounds) (now (kept .exit)) ⌝ }
+    requires { ⌜ LevelRoom mostSigns mostWords (length (now kept)) width (length (now workspace))
+        × Sound (length (now kept)) (tableOf count (now rows) (now cols) (now values))
+        × Lent count (now rows) (now cols) (now values) × (length (now kept) ≤ length (now start)) ⌝ }
+    ensures { λ r. ⌜ Found-by (tableOf count (now (rows .entry)) (now (cols .entry)) (now (values .entry))) width
+        (signBytes (length (now (kept .entry))) (now (start .entry))) (r .least) (r .rounds) (now (kept .exit)) ⌝ }
 {
     read_signs(start, kept);
     search_signs(count, rows, cols, values, width, kept, workspace)

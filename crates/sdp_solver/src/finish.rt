@@ -29,7 +29,8 @@ pub fn finish_accepted(
     dual_variables: &mut [f64],
     workspace: &mut [u64],
 ) -> FinishResult
-    requires { ⌜ finishNumber run (costTable n count (now rows) (now cols) (now values) (now c)) width «draw_count» (finishLengths (now draws) (now factor) (now b) (now «dual_variables») (now workspace)) ≡ 0 ⌝ }
+    requires { ⌜ finishNumber run (costTable n count (now rows) (now cols) (now values) (now c)) width «draw_count»
+        (finishLengths (now draws) (now factor) (now b) (now «dual_variables») (now workspace)) ≡ 0 ⌝ }
     ensures { λ r. ⌜ Finishes run (costTable n count (now (rows .entry)) (now (cols .entry)) (now (values .entry)) (now (c .entry))) width «draw_count» (now (draws .entry)) (now (factor .entry)) (now (b .entry)) (now («dual_variables» .entry)) (now (workspace .entry))
         (Result r) (now (b .exit)) (now («dual_variables» .exit)) (now (workspace .exit)) ⌝ }
 {

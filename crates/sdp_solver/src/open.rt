@@ -84,7 +84,8 @@ pub fn open_accepted(
     factor: &mut [f64],
 ) -> Run
     requires { ⌜ openNumberOf (askedOf (costTable n count (now rows) (now cols) (now values) (now c)) asked (now numbers)) (length (now factor)) ≡ 0 ⌝ }
-    ensures { λ r. ⌜ Opens (askedOf (costTable n count (now (rows .entry)) (now (cols .entry)) (now (values .entry)) (now (c .entry))) asked (now (numbers .entry))) (now (factor .entry)) (Started r) (now (factor .exit)) ⌝ }
+    ensures { λ r. ⌜ Opens (askedOf (costTable n count (now (rows .entry)) (now (cols .entry)) (now (values .entry)) (now (c .entry))) asked (now (numbers .entry)))
+        (now (factor .entry)) (Started r) (now (factor .exit)) ⌝ }
 {
     let size = n + 1;
     let meant = rank_meant(size, asked.rank);
@@ -128,7 +129,8 @@ pub fn open(
     numbers: &[f64],
     factor: &mut [f64],
 ) -> Opened
-    ensures { λ r. ⌜ Opens (askedOf (costTable n count (now (rows .entry)) (now (cols .entry)) (now (values .entry)) (now (c .entry))) asked (now (numbers .entry))) (now (factor .entry)) r (now (factor .exit)) ⌝ }
+    ensures { λ r. ⌜ Opens (askedOf (costTable n count (now (rows .entry)) (now (cols .entry)) (now (values .entry)) (now (c .entry))) asked (now (numbers .entry)))
+        (now (factor .entry)) r (now (factor .exit)) ⌝ }
 {
     let refusal = open_number(
         n,

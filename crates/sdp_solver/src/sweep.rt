@@ -133,7 +133,8 @@ pub fn sweep(
     k: u32,
     factor: &mut [f64],
 ) -> u8
-    ensures { λ r. ⌜ Sweeps (now (run .entry)) (costTable n count (now (rows .entry)) (now (cols .entry)) (now (values .entry)) (now (c .entry))) k (now (factor .entry)) r (now (run .exit)) (now (factor .exit)) ⌝ }
+    ensures { λ r. ⌜ Sweeps (now (run .entry)) (costTable n count (now (rows .entry)) (now (cols .entry)) (now (values .entry)) (now (c .entry))) k (now (factor .entry))
+        r (now (run .exit)) (now (factor .exit)) ⌝ }
 {
     let swept = sweep_run(*run, n, count, rows, cols, values, c, k, &mut *factor);
     *run = swept.run;

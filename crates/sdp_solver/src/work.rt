@@ -30,7 +30,8 @@ pub fn call_work(
     ensures { λ r. ⌜ r ≡ length (callWork (costTable n count (now (rows .entry)) (now (cols .entry)) (now (values .entry)) (now (c .entry))) .rows) ⌝ }
     ensures { λ _. ⌜ now («work_rows» .exit) ≡ over (callWork (costTable n count (now (rows .entry)) (now (cols .entry)) (now (values .entry)) (now (c .entry))) .rows) (now («work_rows» .entry)) ⌝ }
     ensures { λ _. ⌜ now («work_cols» .exit) ≡ over (callWork (costTable n count (now (rows .entry)) (now (cols .entry)) (now (values .entry)) (now (c .entry))) .cols) (now («work_cols» .entry)) ⌝ }
-    ensures { λ _. ⌜ now («work_values» .exit) ≡ over (callWork (costTable n count (now (rows .entry)) (now (cols .entry)) (now (values .entry)) (now (c .entry))) .values) (now («work_values» .entry)) ⌝ }
+    ensures { λ _. ⌜ now («work_values» .exit) ≡ over
+        (callWork (costTable n count (now (rows .entry)) (now (cols .entry)) (now (values .entry)) (now (c .entry))) .values) (now («work_values» .entry)) ⌝ }
     ensures { λ _. ⌜ now (starts .exit) ≡ over (callWork (costTable n count (now (rows .entry)) (now (cols .entry)) (now (values .entry)) (now (c .entry))) .starts) (now (starts .entry)) ⌝ }
 {
     let mut sign_rows = indices();

@@ -88,7 +88,9 @@ fn sum_rows(
     signs: &[u8],
     changes: &mut [i64],
 )
-    requires { ⌜ SumsFit (length (now signs)) (tableOf entries (now rows) (now cols) (now values)) × (length (now signs) ≤ length (now changes)) × (0 < entries) × Cleared (length (now signs)) (now changes) × Lent entries (now rows) (now cols) (now values) ⌝ }
+    requires { ⌜ SumsFit (length (now signs)) (tableOf entries (now rows) (now cols) (now values))
+        × (length (now signs) ≤ length (now changes)) × (0 < entries)
+        × Cleared (length (now signs)) (now changes) × Lent entries (now rows) (now cols) (now values) ⌝ }
     ensures { λ r. ⌜ now (changes .exit) ≡ changesOver (tableOf entries (now (rows .entry)) (now (cols .entry)) (now (values .entry))) (now (signs .entry)) (now (changes .entry)) ⌝ }
 {
     let mut row = wide(rows[0]);

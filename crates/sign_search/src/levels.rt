@@ -30,10 +30,18 @@ pub fn expand_row(
     count: usize,
     width: usize,
 ) -> usize
-    requires { ⌜ RowExpands (tableOf entries (now rows) (now cols) (now values)) (length (now parent)) (parentOf objective (unpacked (length (now current)) (now parent))) count width (length (now changes)) (length (now objectives)) (length (now signs)) × (length (now «current_row») ≡ length (now parent)) × AtHand (tableOf entries (now rows) (now cols) (now values)) (now current) (now «current_row») (now changes) × Lent entries (now rows) (now cols) (now values) × Ascending (take count (now objectives)) ⌝ }
-    ensures { λ r. ⌜ Kept width (signLevel (length (now (parent .entry))) (length (now (current .entry))) count (now (objectives .entry)) (now (signs .entry))) (tableChildren (tableOf entries (now (rows .entry)) (now (cols .entry)) (now (values .entry))) (length (now (current .entry))) (parentOf objective (unpacked (length (now (current .entry))) (now (parent .entry))))) (signLevel (length (now (parent .entry))) (length (now (current .entry))) r (now (objectives .exit)) (now (signs .exit))) r ⌝ }
+    requires { ⌜ RowExpands (tableOf entries (now rows) (now cols) (now values)) (length (now parent)) (parentOf objective (unpacked (length (now current)) (now parent)))
+        count width (length (now changes)) (length (now objectives)) (length (now signs))
+        × (length (now «current_row») ≡ length (now parent)) × AtHand (tableOf entries (now rows) (now cols) (now values)) (now current) (now «current_row») (now changes)
+        × Lent entries (now rows) (now cols) (now values) × Ascending (take count (now objectives)) ⌝ }
+    ensures { λ r. ⌜ Kept width (signLevel (length (now (parent .entry))) (length (now (current .entry))) count (now (objectives .entry)) (now (signs .entry)))
+        (tableChildren (tableOf entries (now (rows .entry)) (now (cols .entry)) (now (values .entry))) (length (now (current .entry)))
+        (parentOf objective (unpacked (length (now (current .entry))) (now (parent .entry)))))
+        (signLevel (length (now (parent .entry))) (length (now (current .entry))) r (now (objectives .exit)) (now (signs .exit))) r ⌝ }
     ensures at_hand { λ _. ⌜ AtHand (tableOf entries (now (rows .entry)) (now (cols .entry)) (now (values .entry))) (now (current .exit)) (now («current_row» .exit)) (now (changes .exit)) ⌝ }
-    ensures tidy { λ r. ⌜ (Tidy (length (now (current .entry))) (now (parent .entry)) → TidyLevel (length (now (parent .entry))) (length (now (current .entry))) count (now (objectives .entry)) (now (signs .entry)) → TidyLevel (length (now (parent .entry))) (length (now (current .entry))) r (now (objectives .exit)) (now (signs .exit))) ⌝ }
+    ensures tidy { λ r. ⌜ (Tidy (length (now (current .entry))) (now (parent .entry))
+        → TidyLevel (length (now (parent .entry))) (length (now (current .entry))) count (now (objectives .entry)) (now (signs .entry))
+        → TidyLevel (length (now (parent .entry))) (length (now (current .entry))) r (now (objectives .exit)) (now (signs .exit))) ⌝ }
 {
     let m = current.len();
     move_to(
@@ -71,10 +79,15 @@ pub fn append_row(
     objectives: &mut [i64],
     signs: &mut [u64],
 ) -> usize
-    requires { ⌜ RowAppends (tableOf entries (now rows) (now cols) (now values)) (length (now «start_row»)) (parentOf objective (now start)) (length (now changes)) (length (now objectives)) (length (now signs)) × (unpacked (length (now start)) (now «start_row») ≡ now start) × Lent entries (now rows) (now cols) (now values) ⌝ }
-    ensures { λ r. ⌜ Appended [] (tableChildren (tableOf entries (now (rows .entry)) (now (cols .entry)) (now (values .entry))) (length (now (start .entry))) (parentOf objective (now (start .entry)))) (signLevel (length (now («start_row» .entry))) (length (now (start .entry))) r (now (objectives .exit)) (now (signs .exit))) r (length (now (start .entry))) ⌝ }
+    requires { ⌜ RowAppends (tableOf entries (now rows) (now cols) (now values)) (length (now «start_row»)) (parentOf objective (now start)) (length (now changes))
+        (length (now objectives)) (length (now signs)) × (unpacked (length (now start)) (now «start_row») ≡ now start)
+        × Lent entries (now rows) (now cols) (now values) ⌝ }
+    ensures { λ r. ⌜ Appended [] (tableChildren (tableOf entries (now (rows .entry)) (now (cols .entry)) (now (values .entry))) (length (now (start .entry)))
+        (parentOf objective (now (start .entry))))
+        (signLevel (length (now («start_row» .entry))) (length (now (start .entry))) r (now (objectives .exit)) (now (signs .exit))) r (length (now (start .entry))) ⌝ }
     ensures changes { λ _. ⌜ Changes (tableOf entries (now (rows .entry)) (now (cols .entry)) (now (values .entry))) (now (start .entry)) (now (changes .exit)) ⌝ }
-    ensures tidy { λ r. ⌜ (Tidy (length (now (start .entry))) (now («start_row» .entry)) → TidyLevel (length (now («start_row» .entry))) (length (now (start .entry))) r (now (objectives .exit)) (now (signs .exit))) ⌝ }
+    ensures tidy { λ r. ⌜ (Tidy (length (now (start .entry))) (now («start_row» .entry))
+        → TidyLevel (length (now («start_row» .entry))) (length (now (start .entry))) r (now (objectives .exit)) (now (signs .exit))) ⌝ }
 {
     changes_of(entries, rows, cols, values, start, changes);
     first_level(
@@ -104,10 +117,16 @@ pub fn expand_level(
     signs: &mut [u64],
     width: usize,
 ) -> usize
-    requires { ⌜ LevelExpands (tableOf entries (now rows) (now cols) (now values)) words (length (now current)) «from_count» width (now «from_objectives») (now «from_signs») (length (now changes)) (length (now objectives)) (length (now signs)) × (length (now «current_row») ≡ words) × AtHand (tableOf entries (now rows) (now cols) (now values)) (now current) (now «current_row») (now changes) × Lent entries (now rows) (now cols) (now values) ⌝ }
-    ensures { λ r. ⌜ NextLevel (tableOf entries (now (rows .entry)) (now (cols .entry)) (now (values .entry))) (length (now (current .entry))) width (signLevel words (length (now (current .entry))) «from_count» (now («from_objectives» .entry)) (now («from_signs» .entry))) (signLevel words (length (now (current .entry))) r (now (objectives .exit)) (now (signs .exit))) r ⌝ }
+    requires { ⌜ LevelExpands (tableOf entries (now rows) (now cols) (now values)) words (length (now current)) «from_count» width (now «from_objectives»)
+        (now «from_signs») (length (now changes)) (length (now objectives)) (length (now signs))
+        × (length (now «current_row») ≡ words) × AtHand (tableOf entries (now rows) (now cols) (now values)) (now current) (now «current_row») (now changes)
+        × Lent entries (now rows) (now cols) (now values) ⌝ }
+    ensures { λ r. ⌜ NextLevel (tableOf entries (now (rows .entry)) (now (cols .entry)) (now (values .entry))) (length (now (current .entry))) width
+        (signLevel words (length (now (current .entry))) «from_count» (now («from_objectives» .entry)) (now («from_signs» .entry)))
+        (signLevel words (length (now (current .entry))) r (now (objectives .exit)) (now (signs .exit))) r ⌝ }
     ensures at_hand { λ _. ⌜ AtHand (tableOf entries (now (rows .entry)) (now (cols .entry)) (now (values .entry))) (now (current .exit)) (now («current_row» .exit)) (now (changes .exit)) ⌝ }
-    ensures tidy { λ r. ⌜ (TidyLevel words (length (now (current .entry))) «from_count» (now («from_objectives» .entry)) (now («from_signs» .entry)) → TidyLevel words (length (now (current .entry))) r (now (objectives .exit)) (now (signs .exit))) ⌝ }
+    ensures tidy { λ r. ⌜ (TidyLevel words (length (now (current .entry))) «from_count» (now («from_objectives» .entry)) (now («from_signs» .entry))
+        → TidyLevel words (length (now (current .entry))) r (now (objectives .exit)) (now (signs .exit))) ⌝ }
 {
     let mut kept = 0;
     let mut k = 0;
@@ -152,10 +171,16 @@ pub fn advance(
     next_signs: &mut [u64],
     width: usize,
 ) -> usize
-    requires { ⌜ AdvanceFits (tableOf entries (now rows) (now cols) (now values)) words (length (now current)) count width (now objectives) (now signs) (length (now changes)) (length (now «next_objectives»)) (length (now «next_signs»)) × (length (now «current_row») ≡ words) × AtHand (tableOf entries (now rows) (now cols) (now values)) (now current) (now «current_row») (now changes) × Lent entries (now rows) (now cols) (now values) ⌝ }
-    ensures { λ r. ⌜ NextLevel (tableOf entries (now (rows .entry)) (now (cols .entry)) (now (values .entry))) (length (now (current .entry))) width (signLevel words (length (now (current .entry))) count (now (objectives .entry)) (now (signs .entry))) (signLevel words (length (now (current .entry))) r (now (objectives .exit)) (now (signs .exit))) r ⌝ }
+    requires { ⌜ AdvanceFits (tableOf entries (now rows) (now cols) (now values)) words (length (now current)) count width (now objectives) (now signs)
+        (length (now changes)) (length (now «next_objectives»)) (length (now «next_signs»))
+        × (length (now «current_row») ≡ words) × AtHand (tableOf entries (now rows) (now cols) (now values)) (now current) (now «current_row») (now changes)
+        × Lent entries (now rows) (now cols) (now values) ⌝ }
+    ensures { λ r. ⌜ NextLevel (tableOf entries (now (rows .entry)) (now (cols .entry)) (now (values .entry))) (length (now (current .entry))) width
+        (signLevel words (length (now (current .entry))) count (now (objectives .entry)) (now (signs .entry)))
+        (signLevel words (length (now (current .entry))) r (now (objectives .exit)) (now (signs .exit))) r ⌝ }
     ensures at_hand { λ _. ⌜ AtHand (tableOf entries (now (rows .entry)) (now (cols .entry)) (now (values .entry))) (now (current .exit)) (now («current_row» .exit)) (now (changes .exit)) ⌝ }
-    ensures tidy { λ r. ⌜ (TidyLevel words (length (now (current .entry))) count (now (objectives .entry)) (now (signs .entry)) → TidyLevel words (length (now (current .entry))) r (now (objectives .exit)) (now (signs .exit))) ⌝ }
+    ensures tidy { λ r. ⌜ (TidyLevel words (length (now (current .entry))) count (now (objectives .entry)) (now (signs .entry))
+        → TidyLevel words (length (now (current .entry))) r (now (objectives .exit)) (now (signs .exit))) ⌝ }
 {
     let kept = expand_level(
         entries,

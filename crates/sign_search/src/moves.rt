@@ -75,8 +75,11 @@ fn flip_current(
     current: &mut [u8],
     changes: &mut [i64],
 )
-    requires { ⌜ Sound (length (now current)) (tableOf entries (now rows) (now cols) (now values)) × (i < length (now current)) × Changes (tableOf entries (now rows) (now cols) (now values)) (now current) (now changes) × Lent entries (now rows) (now cols) (now values) ⌝ }
-    ensures { λ _. ⌜ (now (current .exit) ≡ flipSign i (now (current .entry))) × Changes (tableOf entries (now (rows .entry)) (now (cols .entry)) (now (values .entry))) (now (current .exit)) (now (changes .exit)) ⌝ }
+    requires { ⌜ Sound (length (now current)) (tableOf entries (now rows) (now cols) (now values))
+        × (i < length (now current)) × Changes (tableOf entries (now rows) (now cols) (now values)) (now current) (now changes)
+        × Lent entries (now rows) (now cols) (now values) ⌝ }
+    ensures { λ _. ⌜ (now (current .exit) ≡ flipSign i (now (current .entry)))
+        × Changes (tableOf entries (now (rows .entry)) (now (cols .entry)) (now (values .entry))) (now (current .exit)) (now (changes .exit)) ⌝ }
 {
     let own = changes[i];
     let from = row_start(entries, rows, i);
@@ -97,7 +100,10 @@ fn flip_at_hand(
     current_row: &mut [u64],
     changes: &mut [i64],
 )
-    requires { ⌜ Sound (length (now current)) (tableOf entries (now rows) (now cols) (now values)) × (i < length (now current)) × (length (now current) ≤ 64 * length (now «current_row»)) × AtHand (tableOf entries (now rows) (now cols) (now values)) (now current) (now «current_row») (now changes) × Lent entries (now rows) (now cols) (now values) ⌝ }
+    requires { ⌜ Sound (length (now current)) (tableOf entries (now rows) (now cols) (now values))
+        × (i < length (now current)) × (length (now current) ≤ 64 * length (now «current_row»))
+        × AtHand (tableOf entries (now rows) (now cols) (now values)) (now current) (now «current_row») (now changes)
+        × Lent entries (now rows) (now cols) (now values) ⌝ }
     ensures { λ _. ⌜ now («current_row» .exit) ≡ flipIn i (now («current_row» .entry)) ⌝ }
     ensures at_hand { λ _. ⌜ AtHand (tableOf entries (now (rows .entry)) (now (cols .entry)) (now (values .entry))) (now (current .exit)) (now («current_row» .exit)) (now (changes .exit)) ⌝ }
 {
@@ -116,7 +122,10 @@ pub fn move_to(
     changes: &mut [i64],
     target: &[u64],
 )
-    requires { ⌜ Sound (length (now current)) (tableOf entries (now rows) (now cols) (now values)) × MoveFits (length (now current)) (length (now «current_row»)) (length (now target)) × AtHand (tableOf entries (now rows) (now cols) (now values)) (now current) (now «current_row») (now changes) × Lent entries (now rows) (now cols) (now values) ⌝ }
+    requires { ⌜ Sound (length (now current)) (tableOf entries (now rows) (now cols) (now values))
+        × MoveFits (length (now current)) (length (now «current_row»)) (length (now target))
+        × AtHand (tableOf entries (now rows) (now cols) (now values)) (now current) (now «current_row») (now changes)
+        × Lent entries (now rows) (now cols) (now values) ⌝ }
     ensures { λ _. ⌜ now (current .exit) ≡ unpacked (length (now (current .entry))) (now (target .entry)) ⌝ }
     ensures at_hand { λ _. ⌜ AtHand (tableOf entries (now (rows .entry)) (now (cols .entry)) (now (values .entry))) (now (current .exit)) (now («current_row» .exit)) (now (changes .exit)) ⌝ }
 {

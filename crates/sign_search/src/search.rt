@@ -44,8 +44,16 @@ pub fn search_levels(
     next_objectives: &mut [i64],
     next_signs: &mut [u64],
 ) -> Searched
-    requires { ⌜ SearchFits (length (now kept)) (length (now current)) width (length (now changes)) (length (now objectives)) (length (now signs)) (length (now «next_objectives»)) (length (now «next_signs»)) × Sound (length (now current)) (tableOf entries (now rows) (now cols) (now values)) × (objective ≡ objectiveIn (tableOf entries (now rows) (now cols) (now values)) (now current)) × StartRow (now current) (now kept) (now «current_row») × Lent entries (now rows) (now cols) (now values) ⌝ }
-    ensures { λ r. ⌜ (parentOf (r .least) (unpacked (length (now (current .entry))) (now (kept .exit))) ≡ searchedIn (tableOf entries (now (rows .entry)) (now (cols .entry)) (now (values .entry))) width (parentOf objective (now (current .entry))) .answer) × (r .rounds ≡ searchedIn (tableOf entries (now (rows .entry)) (now (cols .entry)) (now (values .entry))) width (parentOf objective (now (current .entry))) .rounds) ⌝ }
+    requires { ⌜ SearchFits (length (now kept)) (length (now current)) width (length (now changes)) (length (now objectives)) (length (now signs))
+        (length (now «next_objectives»)) (length (now «next_signs»))
+        × Sound (length (now current)) (tableOf entries (now rows) (now cols) (now values))
+        × (objective ≡ objectiveIn (tableOf entries (now rows) (now cols) (now values)) (now current))
+        × StartRow (now current) (now kept) (now «current_row»)
+        × Lent entries (now rows) (now cols) (now values) ⌝ }
+    ensures { λ r. ⌜ (parentOf (r .least) (unpacked (length (now (current .entry))) (now (kept .exit))) ≡ searchedIn
+        (tableOf entries (now (rows .entry)) (now (cols .entry)) (now (values .entry))) width (parentOf objective (now (current .entry))) .answer)
+        × (r .rounds ≡ searchedIn (tableOf entries (now (rows .entry)) (now (cols .entry)) (now (values .entry))) width (parentOf objective (now (current .entry)))
+        .rounds) ⌝ }
     ensures tidy { λ _. ⌜ Tidy (length (now (current .entry))) (now (kept .exit)) ⌝ }
 {
     let words = kept.len();
@@ -99,8 +107,15 @@ fn search_packed(
     current_row: &mut [u64],
     level: &mut [u64],
 ) -> Searched
-    requires { ⌜ LevelRoom mostSigns mostWords (length (now current)) width (length (now level)) × (1 ≤ width) × (length (now kept) ≡ mostWords) × Sound (length (now current)) (tableOf entries (now rows) (now cols) (now values)) × (objective ≡ objectiveIn (tableOf entries (now rows) (now cols) (now values)) (now current)) × StartRow (now current) (now kept) (now «current_row») × Lent entries (now rows) (now cols) (now values) ⌝ }
-    ensures { λ r. ⌜ (parentOf (r .least) (unpacked (length (now (current .entry))) (now (kept .exit))) ≡ searchedIn (tableOf entries (now (rows .entry)) (now (cols .entry)) (now (values .entry))) width (parentOf objective (now (current .entry))) .answer) × (r .rounds ≡ searchedIn (tableOf entries (now (rows .entry)) (now (cols .entry)) (now (values .entry))) width (parentOf objective (now (current .entry))) .rounds) ⌝ }
+    requires { ⌜ LevelRoom mostSigns mostWords (length (now current)) width (length (now level))
+        × (1 ≤ width) × (length (now kept) ≡ mostWords) × Sound (length (now current)) (tableOf entries (now rows) (now cols) (now values))
+        × (objective ≡ objectiveIn (tableOf entries (now rows) (now cols) (now values)) (now current))
+        × StartRow (now current) (now kept) (now «current_row»)
+        × Lent entries (now rows) (now cols) (now values) ⌝ }
+    ensures { λ r. ⌜ (parentOf (r .least) (unpacked (length (now (current .entry))) (now (kept .exit))) ≡ searchedIn
+        (tableOf entries (now (rows .entry)) (now (cols .entry)) (now (values .entry))) width (parentOf objective (now (current .entry))) .answer)
+        × (r .rounds ≡ searchedIn (tableOf entries (now (rows .entry)) (now (cols .entry)) (now (values .entry))) width (parentOf objective (now (current .entry)))
+        .rounds) ⌝ }
     ensures tidy { λ _. ⌜ Tidy (length (now (current .entry))) (now (kept .exit)) ⌝ }
 {
     let mut changes: [i64; MOST_SIGNS] = [0; MOST_SIGNS];
@@ -136,8 +151,13 @@ fn search_room(
     current: &mut [u8],
     level: &mut [u64],
 ) -> Searched
-    requires { ⌜ LevelRoom mostSigns mostWords (length (now current)) width (length (now level)) × (1 ≤ width) × Binary (now current) × Sound (length (now current)) (tableOf entries (now rows) (now cols) (now values)) × (objective ≡ objectiveIn (tableOf entries (now rows) (now cols) (now values)) (now current)) × Lent entries (now rows) (now cols) (now values) ⌝ }
-    ensures { λ r. ⌜ (parentOf (r .least) (now (current .exit)) ≡ searchedIn (tableOf entries (now (rows .entry)) (now (cols .entry)) (now (values .entry))) width (parentOf objective (now (current .entry))) .answer) × (r .rounds ≡ searchedIn (tableOf entries (now (rows .entry)) (now (cols .entry)) (now (values .entry))) width (parentOf objective (now (current .entry))) .rounds) ⌝ }
+    requires { ⌜ LevelRoom mostSigns mostWords (length (now current)) width (length (now level))
+        × (1 ≤ width) × Binary (now current) × Sound (length (now current)) (tableOf entries (now rows) (now cols) (now values))
+        × (objective ≡ objectiveIn (tableOf entries (now rows) (now cols) (now values)) (now current))
+        × Lent entries (now rows) (now cols) (now values) ⌝ }
+    ensures { λ r. ⌜ (parentOf (r .least) (now (current .exit)) ≡ searchedIn (tableOf entries (now (rows .entry)) (now (cols .entry)) (now (values .entry))) width
+        (parentOf objective (now (current .entry))) .answer) × (r .rounds ≡ searchedIn (tableOf entries (now (rows .entry)) (now (cols .entry)) (now (values .entry)))
+        width (parentOf objective (now (current .entry))) .rounds) ⌝ }
 {
     let mut kept: [u64; MOST_WORDS] = [0; MOST_WORDS];
     let mut current_row: [u64; MOST_WORDS] = [0; MOST_WORDS];
@@ -169,7 +189,9 @@ pub fn search_signs(
     kept: &mut [u8],
     level: &mut [u64],
 ) -> Searched
-    requires { ⌜ LevelRoom mostSigns mostWords (length (now kept)) width (length (now level)) × Binary (now kept) × Sound (length (now kept)) (tableOf entries (now rows) (now cols) (now values)) × Lent entries (now rows) (now cols) (now values) ⌝ }
+    requires { ⌜ LevelRoom mostSigns mostWords (length (now kept)) width (length (now level))
+        × Binary (now kept) × Sound (length (now kept)) (tableOf entries (now rows) (now cols) (now values))
+        × Lent entries (now rows) (now cols) (now values) ⌝ }
     ensures { λ r. ⌜ Found-by (tableOf entries (now (rows .entry)) (now (cols .entry)) (now (values .entry))) width (now (kept .entry)) (r .least) (r .rounds) (now (kept .exit)) ⌝ }
 {
     let start = obj_rounded(entries, rows, cols, values, kept);

@@ -137,7 +137,9 @@ pub fn here_value(
     j: usize,
     k: usize,
 ) -> i64
-    requires { ⌜ Lent count (now rows) (now cols) (now values) × (i < length (now c)) × (natAbs (elemZ (now c) i) ≤ 2 ^ 59) × (magnitudeOf (tableOf count (now rows) (now cols) (now values)) ≤ 2 ^ 60) ⌝ }
+    requires { ⌜ Lent count (now rows) (now cols) (now values)
+        × (i < length (now c)) × (natAbs (elemZ (now c) i) ≤ 2 ^ 59)
+        × (magnitudeOf (tableOf count (now rows) (now cols) (now values)) ≤ 2 ^ 60) ⌝ }
     ensures { λ r. ⌜ r ≡ hereValue (tableOf count (now (rows .entry)) (now (cols .entry)) (now (values .entry))) (elemZ (now (c .entry))) i j k ⌝ }
 {
     let stored = stored_value(count, rows, cols, values, i, j, k);

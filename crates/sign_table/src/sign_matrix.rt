@@ -145,7 +145,8 @@ fn put_rows(
     to_cols: &mut [u16],
     to_values: &mut [i64],
 ) -> usize
-    requires { ⌜ Fits n count (now rows) (now cols) (now values) (now c) 0 (length (wagonRows n (tableOf count (now rows) (now cols) (now values)) (elemZ (now c)))) (now «to_rows») (now «to_cols») (now «to_values») ⌝ }
+    requires { ⌜ Fits n count (now rows) (now cols) (now values) (now c) 0 (length (wagonRows n (tableOf count (now rows) (now cols) (now values)) (elemZ (now c))))
+        (now «to_rows») (now «to_cols») (now «to_values») ⌝ }
     ensures { λ r. ⌜ PutAll n (tableOf count (now (rows .entry)) (now (cols .entry)) (now (values .entry))) (elemZ (now (c .entry)))
         (wagonRows n (tableOf count (now (rows .entry)) (now (cols .entry)) (now (values .entry))) (elemZ (now (c .entry))))
         (now («to_rows» .entry)) (now («to_cols» .entry)) (now («to_values» .entry)) (now («to_rows» .exit)) (now («to_cols» .exit)) (now («to_values» .exit)) r ⌝ }
@@ -193,7 +194,8 @@ fn put_last_row(
     to_values: &mut [i64],
     len: usize,
 ) -> LastRow
-    requires { ⌜ Fits n count (now rows) (now cols) (now values) (now c) len (length (anchorRow n (tableOf count (now rows) (now cols) (now values)) (elemZ (now c)))) (now «to_rows») (now «to_cols») (now «to_values») ⌝ }
+    requires { ⌜ Fits n count (now rows) (now cols) (now values) (now c) len (length (anchorRow n (tableOf count (now rows) (now cols) (now values)) (elemZ (now c))))
+        (now «to_rows») (now «to_cols») (now «to_values») ⌝ }
     ensures { λ r. ⌜ AnchorPut n (tableOf count (now (rows .entry)) (now (cols .entry)) (now (values .entry))) (elemZ (now (c .entry))) len
         (now («to_rows» .entry)) (now («to_cols» .entry)) (now («to_values» .entry)) (now («to_rows» .exit)) (now («to_cols» .exit)) (now («to_values» .exit)) (r .len) (r .total) ⌝ }
 {

@@ -90,7 +90,8 @@ fn sign_short(
     to_cols: &[u16],
     to_values: &[i64],
 ) -> bool
-    ensures { λ r. ⌜ r ≡ signShort n count (now (rows .entry)) (now (cols .entry)) (now (values .entry)) (now (c .entry)) (now («to_rows» .entry)) (now («to_cols» .entry)) (now («to_values» .entry)) ⌝ }
+    ensures { λ r. ⌜ r ≡ signShort n count (now (rows .entry)) (now (cols .entry)) (now (values .entry)) (now (c .entry)) (now («to_rows» .entry))
+        (now («to_cols» .entry)) (now («to_values» .entry)) ⌝ }
 {
     if short_table(MOST_ENTRIES, count, rows, cols, values) {
         return true;
