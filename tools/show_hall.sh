@@ -46,7 +46,7 @@ build() {
     local total
     total=$(crates_needed)
     echo "The program wagonplan isn't built yet. Its $total crates are proved now, in order, and it is built from them. This is done once and takes"
-    echo "about 8 minutes on two processors that have nothing else to do, up to 25 where they have. Then $hall is solved."
+    echo "about 9 minutes on two processors that have nothing else to do, up to 25 where they have. Then $hall is solved."
     mkdir -p target/log
     if ! rt check wagonplan 2>&1 | tee "$log" | progress "$total"; then
         tail -n 20 "$log"
