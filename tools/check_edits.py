@@ -17,7 +17,7 @@ import sys
 TOP = os.path.dirname(os.path.dirname(os.path.abspath(__file__)))
 # The prover's words of a goal that isn't reached, by what was tried on it.
 FACTS = {
-    "two sides of an equation or two types differ": r"the two (?:types|sides)|≟|expected type|does not have the type|the types differ|is not the type",
+    "two sides of an equation or two types differ": r"the two (?:types|sides|indices)|≟|expected type|does not have the type|the types differ|is not the type",
     "no arithmetic proof": r"`omega`|`simp`|`ring`",
     "no proof found": r"`search`: no proof|`cc`|no proof of",
     "a rewriting that leaves something to prove": r"give a proof of that as the last argument|write the equation.s arguments|`rw`",

@@ -96,7 +96,7 @@ def try_crate(room, name, edits, inner):
     answers, seed = [], os.path.join(room.root, "seed")
     built = os.path.join(TOP, "target", "rlib", f"{name}.rlib", "toolchain", "checked")
     if os.path.isdir(built) and inner:
-        shutil.copytree(built, os.path.join(room.folder(name), inner))
+        shutil.copytree(built, os.path.join(room.folder(name), inner), dirs_exist_ok=True)
     began = time.time()
     status, said = room.dev(name)
     if status != 0 or "\nlogic=proved" not in said:
