@@ -1,7 +1,7 @@
 // Makes the stored calls of lists (docs/REPLAY.md) and compares all that they give back: replay [--short BYTES] [--stack] [LIST]...
 //
 // Each line is called several times, on fresh memory that is filled with NaNs of many patterns and with other numbers: as it is stored, in blocks of just that
-// size (a slice of length 0 is null); between guards, in another floating-point mode; with every slice longer; and, where run, settings or result are words, with
+// size (a slice of length 0 is null); between guards, in four other floating-point modes; with every slice longer; and, where run, settings or result are words, with
 // each of them a word too short. With --short lines of more bytes, and those that go on with them, are passed over; with --stack each line is called once, on a
 // painted stack, and the most that each call took is printed and held to the header's. The exit status is 0 where nothing differs.
 #include <pthread.h>
@@ -419,17 +419,31 @@ static uint8_t painted(uint8_t (*call)(Argument *), size_t *most) {
     return made.number;
 }
 
-// The call in another mode than IEEE's, which must stand afterwards; `stands` says whether it does. Where the machine doesn't keep the mode as set, what it keeps counts.
-static uint8_t in_odd_mode(uint8_t (*call)(Argument *), int *stands) {
-    static const unsigned modes[] = {0xBFE1, 0xDFD4, 0xFFE1, 0x9FC0}; // rounding down, up, toward zero, to nearest; subnormals flushed, some flags set
-    unsigned before = _mm_getcsr(), odd;
+// Rounding down, up, toward zero, to nearest; subnormals flushed, some flags set.
+static const unsigned odd_modes[] = {0xBFE1, 0xDFD4, 0xFFE1, 0x9FC0};
+enum { ODD_MODES = sizeof odd_modes / sizeof *odd_modes };
+static size_t odd_mode;
+
+// The call in this mode, which must stand afterwards; `stands` says whether it does. Where the machine doesn't keep the mode as set, what it keeps counts.
+static uint8_t in_mode(unsigned mode, uint8_t (*call)(Argument *), int *stands) {
+    unsigned before = _mm_getcsr(), kept;
     uint8_t got;
-    _mm_setcsr(modes[line_at % 4]);
-    odd = _mm_getcsr();
+    _mm_setcsr(mode);
+    kept = _mm_getcsr();
     got = call(arguments);
-    *stands = _mm_getcsr() == odd;
+    *stands = _mm_getcsr() == kept;
     _mm_setcsr(before);
     return got;
+}
+
+// Guarded, in an odd mode; a raw function, which sets no mode, in IEEE's; otherwise in the mode that this program was started in.
+static uint8_t called(const Call *call, int trial, int *stands) {
+    int as_raw = trial >= LONGER && call->raw;
+    uint8_t (*made)(Argument *) = as_raw ? call->raw : call->call;
+    if (on_stack) return painted(made, stack_of + (call - calls));
+    if (trial == GUARDED) return in_mode(odd_modes[odd_mode], made, stands);
+    if (as_raw) return in_mode(WAGONPLAN_IEEE_MODE, made, &(int){0});
+    return in_mode(_mm_getcsr(), made, stands);
 }
 
 static int differs(size_t k, const char *what) {
@@ -442,14 +456,13 @@ static int differs(size_t k, const char *what) {
 // The call once; 1 where something differs. Argument `cut`, if there is one, is a word too short.
 static int tried(const Call *call, int trial, uint8_t wanted, size_t cut) {
     int bad = 0, stands = 1;
-    uint8_t (*made)(Argument *) = trial >= LONGER && call->raw ? call->raw : call->call, got;
+    uint8_t got;
     for (size_t k = 0; k < argument_count; k++) {
         Argument *a = arguments + k;
         size_t lent = a->length + (trial == LONGER && grows(a->kind) ? MORE : 0) - (k == cut);
         make(a, trial, lent, line_at + (size_t)trial, wanted != 0 && trial != AS_STORED);
     }
-    if (on_stack) got = painted(made, stack_of + (call - calls));
-    else got = trial == GUARDED ? in_odd_mode(made, &stands) : made(arguments);
+    got = called(call, trial, &stands);
     if (got != wanted) bad |= differs(argument_count, "another number is answered");
     if (!stands) bad |= differs(argument_count, "the floating-point mode is another");
     for (size_t k = 0; k < argument_count; k++) {
@@ -489,7 +502,7 @@ static int with_a_word_short(const Call *call) {
 static int replayed(const Call *call, uint8_t wanted) {
     int bad = 0;
     if (!on_stack) {
-        bad |= tried(call, GUARDED, wanted, ARGUMENTS), free_memory();
+        for (odd_mode = 0; odd_mode < ODD_MODES; odd_mode++) bad |= tried(call, GUARDED, wanted, ARGUMENTS), free_memory();
         if (wanted != 31) bad |= tried(call, LONGER, wanted, ARGUMENTS), free_memory();
         if (call->raw) bad |= with_a_word_short(call);
     }
@@ -583,6 +596,9 @@ int main(int argc, char **argv) {
     }
     list_name = "standard input";
     if (!wagonplan_fits()) give_up("the archive is of another header");
+#ifdef __FAST_MATH__
+    if ((_mm_getcsr() & 0x8040) != 0x8040) give_up("not linked with -ffast-math: subnormals are kept");
+#endif
     if (at == argc) replay_list(stdin, longest);
     for (; at < argc; at++) {
         FILE *list = fopen(list_name = argv[at], "r");

@@ -9,6 +9,9 @@ modules as the build of this run checked them (target/rlib/NAME.rlib), so that o
 must be proved unedited over the same folder: where the folder is of no use that run checks all of it, and costs time alone. The logs stand where
 must-fail edits leave theirs, under target/must-fail, for tools/check_edits.py. The last line counts; the exit status is 0 where every edit is
 refused and every control proved.
+
+Edits inside the bodies of different functions are tried in one run: what is proved of a function rests on its own body and on the contracts of those
+it calls, so a fact that fails in the proof of one function is due to the edit of that function. An edit without such a fact is tried by itself.
 """
 import argparse
 import concurrent.futures
@@ -91,41 +94,137 @@ def verdict(label, status, said):
     return (True, "refused, as it must be") if refused else (False, "NOT REFUSED")
 
 
-def try_crate(room, name, edits, inner):
-    """[(label, good, words)] of a crate's edits."""
-    answers, seed = [], os.path.join(room.root, "seed")
-    built = os.path.join(TOP, "target", "rlib", f"{name}.rlib", "toolchain", "checked")
-    if os.path.isdir(built) and inner:
-        shutil.copytree(built, os.path.join(room.folder(name), inner), dirs_exist_ok=True)
-    began = time.time()
-    status, said = room.dev(name)
-    if status != 0 or "\nlogic=proved" not in said:
-        return [(None, False, f"{name}: unedited it is not proved (exit {status}): {said[-500:]}")]
-    if re.search(r"^rt: \w+ proved \(\d+ s\)", said, re.M):
-        return [(None, False, f"{name}: what it stands on has changed since it was proved; run rt check first")]
-    print(f"{name}: unedited: proved ({time.time() - began:.0f} s)", flush=True)
-    shutil.rmtree(seed, ignore_errors=True)
-    shutil.move(room.folder(name), seed)
-    for edit in edits:
-        label = os.path.basename(edit)[: -len(".edit")]
-        room.restore(name)
-        shutil.rmtree(room.folder(name), ignore_errors=True)
-        shutil.copytree(seed, room.folder(name))
-        wrong = replaced(room.crate(name), edit)
-        if wrong:
-            answers.append((label, False, f"{name}/{label}: BAD EDIT: {wrong}"))
-            continue
+def function_of(name, edit):
+    """The one function inside whose body all of an edit is, as the words in its proofs' folder; None where there is none."""
+    there = set()
+    file = None
+    for line in text_of(edit).split("\n"):
+        if line.startswith("file: "):
+            file = line[6:]
+        elif line.startswith("old: "):
+            path = os.path.join(TOP, "crates", name, file or "")
+            if not (file or "").startswith("src/") or not os.path.isfile(path) or line[5:] not in text_of(path):
+                return None
+            before, _, after = text_of(path).partition(line[5:])
+            started = list(re.finditer(r"^(?:pub )?(?:extern \"C\" )?fn (\w+)|^\}|^(?:[^\n]* )?\{$", before, re.M))
+            opened = [found for found in started if found.group(1)]
+            if not opened or "\n" in line[5:]:
+                return None
+            behind = [found.group(0) for found in started if found.start() >= opened[-1].start()]
+            inside = len(behind) > 1 or behind[0].endswith("{") or re.search(r"\) (?:-> [^\n]* )?\{$", before[opened[-1].start():], re.M)
+            if not inside or "}" in behind:
+                return None
+            module = file[len("src/"):-len(".rt")]
+            there.add(tuple(([] if module == "lib" else module.split("/")) + [opened[-1].group(1)]))
+    return there.pop() if len(there) == 1 else None
+
+
+def said_of(name, function, said):
+    """What a run said of one function: its own facts that fail, and that it isn't proved; None where that isn't both there."""
+    place = re.escape("/".join(["crates", name, "proofs", *function]) + "/")
+    fact = re.compile(rf"(?:note: )?\S*{place}\S+:\d+:\d+: (?:error: |it is not proved that )")
+    lines = [line for line in said.split("\n") if fact.match(line) and "so this cannot be checked" not in line]
+    verdict = f"fn {'::'.join((name,) + function)}: not proved"
+    return "\n".join(lines + [verdict, "logic=not-proved"]) if lines and re.search(rf"^{verdict}(;|$)", said, re.M) else None
+
+
+class Trial:
+    """The edits of one crate, over a folder of what was checked of it."""
+
+    def __init__(self, room, name, inner):
+        self.room, self.name, self.answers, self.seed = room, name, [], os.path.join(room.root, "seed")
+        built = os.path.join(TOP, "target", "rlib", f"{name}.rlib", "toolchain", "checked")
+        if os.path.isdir(built) and inner:
+            shutil.copytree(built, os.path.join(room.folder(name), inner), dirs_exist_ok=True)
+
+    def unedited(self):
+        """What is wrong with the crate as it is, or nothing."""
         began = time.time()
-        status, said = room.dev(name)
-        log = os.path.join(TOP, "target", "must-fail", name, label, ".log")
+        status, said = self.room.dev(self.name)
+        if status != 0 or "\nlogic=proved" not in said:
+            return f"{self.name}: unedited it is not proved (exit {status}): {said[-500:]}"
+        if re.search(r"^rt: \w+ proved \(\d+ s\)", said, re.M):
+            return f"{self.name}: what it stands on has changed since it was proved; run rt check first"
+        print(f"{self.name}: unedited: proved ({time.time() - began:.0f} s)", flush=True)
+        shutil.rmtree(self.seed, ignore_errors=True)
+        shutil.move(self.room.folder(self.name), self.seed)
+        return None
+
+    def run(self, edits):
+        """Status and words of the crate with these edits; None and what is wrong where one can't be made."""
+        self.room.restore(self.name)
+        shutil.rmtree(self.room.folder(self.name), ignore_errors=True)
+        shutil.copytree(self.seed, self.room.folder(self.name))
+        for edit in edits:
+            wrong = replaced(self.room.crate(self.name), edit)
+            if wrong:
+                return None, wrong
+        return self.room.dev(self.name)
+
+    def judge(self, edit, status, said, seconds):
+        label = os.path.basename(edit)[: -len(".edit")]
+        if status is None:
+            self.answers.append((False, f"{self.name}/{label}: BAD EDIT: {said}"))
+            return
+        log = os.path.join(TOP, "target", "must-fail", self.name, label, ".log")
         os.makedirs(os.path.dirname(log), exist_ok=True)
         with open(log, "w", encoding="utf-8") as f:
             f.write(said)
         good, word = verdict(label, status, said)
-        answers.append((label, good, f"{name}/{label}: {word} ({time.time() - began:.0f} s)"))
+        self.answers.append((good, f"{self.name}/{label}: {word} ({seconds:.0f} s)"))
+
+    def together(self, edits):
+        """Tries edits of different functions in one run; those that it doesn't decide."""
+        began = time.time()
+        status, said = self.run([edit for edit, _ in edits])
+        own = {edit: status == 1 and said_of(self.name, function, said) for edit, function in edits}
+        seconds = (time.time() - began) / len(edits)
+        for edit in own:
+            if own[edit]:
+                self.judge(edit, 1, own[edit], seconds)
+        return [edit for edit in own if not own[edit]]
+
+    def alone(self, edit):
+        began = time.time()
+        status, said = self.run([edit])
+        self.judge(edit, status, said, time.time() - began)
+
+
+def turns(name, edits):
+    """The edits that are tried in runs of several, by function, and those that aren't."""
+    lists, others = {}, []
+    for edit in edits:
+        function = None if os.path.basename(edit).startswith("control_") else function_of(name, edit)
+        if function:
+            lists.setdefault(function, []).append(edit)
+        else:
+            others.append(edit)
+    most = max(map(len, lists.values()), default=0)
+    runs = [[(of[k], function) for function, of in lists.items() if k < len(of)] for k in range(most)]
+    return [run for run in runs if len(run) > 1], others + [run[0][0] for run in runs if len(run) == 1]
+
+
+def try_crate(room, name, edits, inner):
+    """[(good, words)] of a crate's edits."""
+    trial = Trial(room, name, inner)
+    wrong = trial.unedited()
+    if wrong:
+        return [(False, wrong)]
+    several, others = turns(name, edits)
+    for run in several:
+        others += trial.together(run)
+    for edit in others:
+        trial.alone(edit)
     room.restore(name)
     shutil.rmtree(room.folder(name), ignore_errors=True)
-    return answers
+    return trial.answers
+
+
+def cost_of(name, edits):
+    """About what a crate's edits take: runs, each by the crates that are loaded."""
+    several, others = turns(name, edits)
+    below = next((len(line.split()) for line in text_of(os.path.join(TOP, "crates.txt")).split("\n") if re.match(rf"\W*{name}\b", line)), 1)
+    return (len(several) + len(others) + 1) * (4 + below)
 
 
 def main():
@@ -160,8 +259,8 @@ def main():
                     rooms.append(room)
 
         with concurrent.futures.ThreadPoolExecutor(given.jobs) as pool:
-            for answers in pool.map(one, sorted(found, key=lambda n: -len(found[n]))):
-                for _, good, said in answers:
+            for answers in pool.map(one, sorted(found, key=lambda n: -cost_of(n, found[n]))):
+                for good, said in answers:
                     print(said, flush=True)
                     if good:
                         passed += 1
