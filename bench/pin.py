@@ -1,6 +1,7 @@
 #!/usr/bin/env python3
 """bench/pin.py COUNT WITH WITHOUT <JOB: pins COUNT wagons of the job of version 1 on standard input, every k-th, to 0 and 1 in turn. WITH is the
-job of version 2; WITHOUT the job of version 1 on its reduced hall, which runs alike."""
+job of version 2; WITHOUT the job of version 1 on its reduced hall, which runs alike. WITH.more and WITHOUT.more have a byte too many, which is 11 after all
+else is read and judged."""
 import os
 import sys
 
@@ -24,8 +25,10 @@ def main():
         (with_pins, gen.base(version=2, n=n, entries=entries, c=c, pins=pins, pin_count=count, **common)),
         (without, gen.base(n=len(free), entries=h, c=costs, **common)))
     for path, job in jobs:
-        with open(path, "wb") as file:
-            file.write(gen.record(job))
+        record = gen.record(job)
+        for name, data in ((path, record), (path + ".more", gen.frame(record[4:] + b"\0"))):
+            with open(name, "wb") as file:
+                file.write(data)
 
 
 if __name__ == "__main__":

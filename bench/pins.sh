@@ -1,7 +1,7 @@
 #!/usr/bin/env bash
 # A job of version 2, some of whose wagons are pinned, against the job of version 1 on its reduced hall: the same run, but all of H is read, held against
-# 13 to 16 and reduced, and the choice is merged. The large job (n 127, 4,096 entries, W 128, 30 draws) and a small one. Both are timed in turn, six
-# times; the fastest batch of each counts.
+# 13 to 16 and reduced, and the choice is merged. Reading and judging alone are timed by the same jobs with a byte too many, refused at their end. The
+# large job (n 127, 4,096 entries, W 128, 30 draws) and a small one. All are timed in turn, six times; the fastest batch of each counts.
 set -eu
 cd "$(dirname "$0")/.."
 archive=$(tools/archive.sh)
@@ -17,11 +17,17 @@ pinned() { # NAME COUNT CALLS HALL RULE RANK MOST WIDTH DRAWS
     shift 4
     "$oracle" problem $hall job "$@" 1 | basenc --base16 -d | bench/pin.py "$count" target/bench/with target/bench/without
     for _ in 1 2 3 4 5 6; do
-        ${FIXED:-} target/bench/time_record "$calls" <target/bench/without | sed -E 's/.* /without /'
-        ${FIXED:-} target/bench/time_record "$calls" <target/bench/with | sed -E 's/.* /with /'
+        for job in without with; do
+            ${FIXED:-} target/bench/time_record "$calls" <target/bench/$job | sed -E "s/.* /$job /"
+            ${FIXED:-} target/bench/time_record 20 11 <target/bench/$job.more | sed -E "s/.* /$job.read /"
+        done
     done | awk -v name="$name" '
         !($1 in least) || $2 < least[$1] { least[$1] = $2 }
-        END { printf "%-44s %9.2f us %9.2f us   with / without %6.3f\n", name, least["with"] / 1000, least["without"] / 1000, least["with"] / least["without"] }'
+        END {
+            read = least["with.read"] - least["without.read"]
+            printf "%-42s %9.2f us %9.2f us, reading more takes %6.2f us; with / without %6.3f, but for reading %6.3f\n", name, least["with"] / 1000,
+                least["without"] / 1000, read / 1000, least["with"] / least["without"], (least["with"] - read) / least["without"]
+        }'
 }
 for rule in 0 1 2 3 4; do pinned "27 of 127 pinned, rule $rule, 200 sweeps" 27 1 '' "$rule" 17 200 128 30; done
 for count in 1 64 100; do pinned "$count of 127 pinned, rule 3, 200 sweeps" "$count" 1 '' 3 17 200 128 30; done

@@ -4,13 +4,13 @@
 
 static uint16_t rows[5000], cols[5000];
 static int64_t values[5000];
-static uint8_t start[128], out[128];
+static uint8_t start[WAGONPLAN_SIGNS_MOST], out[WAGONPLAN_SIGNS_MOST];
 static uint64_t workspace[WAGONPLAN_SEARCH_WORKSPACE];
 
 int main(int argc, char **argv) {
     if (argc != 3) return 2;
     size_t width = atoi(argv[1]), calls = atoi(argv[2]), m = word(), count = word();
-    if (128 < m || 5000 < count || calls < 1) return 2;
+    if (WAGONPLAN_SIGNS_MOST < m || 5000 < count || calls < 1) return 2;
     for (size_t k = 0; k < count; k++) rows[k] = word(), cols[k] = word(), values[k] = (int64_t)word();
     if (word() != m) return 2;
     for (size_t i = 0; i < m; i++) start[i] = word();

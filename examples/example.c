@@ -212,7 +212,7 @@ static uint8_t choice_of(const uint8_t *record, uint64_t *words) {
 static void compared(void) {
     uint8_t other[sizeof pinned_answer];
     uint64_t x[WAGONPLAN_SIGN_WORDS], y[WAGONPLAN_SIGN_WORDS], apart = 9;
-    wagonplan_u64 one = {x, WAGONPLAN_SIGN_WORDS}, two = {y, WAGONPLAN_SIGN_WORDS}, cut = {y, WAGONPLAN_SIGN_WORDS - 1};
+    wagonplan_u64 one = {x, WAGONPLAN_SIGN_WORDS}, two = {y, WAGONPLAN_SIGN_WORDS}, cut = {y, wagonplan_sign_words(2) - 1};
     memcpy(other, pinned_answer, sizeof other);
     other[WAGONPLAN_AT_CHOICE + 1] = 0;
     printf("the answer with pins, and one with wagon 1 in the other store\n");
@@ -232,7 +232,7 @@ static void *everything(void *unused) {
     pinned();
     refused("version 0", example, sizeof example, 4, 0, 12);
     refused("a pin to store 2", pinned_job, sizeof pinned_job, STORE_OF_THE_PIN, 2, 21);
-    too_short("an answer slice of 186 bytes", sizeof example, WAGONPLAN_WORKSPACE, WAGONPLAN_ANSWER - 1);
+    too_short("an answer slice of 314 bytes", sizeof example, WAGONPLAN_WORKSPACE, WAGONPLAN_ANSWER - 1);
     too_short("a workspace of 16,383 bytes", sizeof example, WAGONPLAN_WORKSPACE - 1, SLICE);
     too_short("the same with a job cut short: 31 comes first", 3, WAGONPLAN_WORKSPACE - 1, SLICE);
     run_steps();

@@ -35,29 +35,29 @@ extern "C" {
 // ---- sizes --------------------------------------------------------------------------------------
 
 enum {
-    WAGONPLAN_VERSION = 3, // of these declarations; `wagonplan_version` answers the archive's
+    WAGONPLAN_VERSION = 4, // of these declarations; `wagonplan_version` answers the archive's
 
     WAGONPLAN_JOB_MOST = 65536,         // bytes of a job record
-    WAGONPLAN_WAGONS_MOST = 127,        // n
+    WAGONPLAN_WAGONS_MOST = 255,        // n; 127 in jobs of version 1 or 2
     WAGONPLAN_ENTRIES_MOST = 4096,      // entries of H
-    WAGONPLAN_SIGNS_MOST = 128,         // m of a sign table
-    WAGONPLAN_SIGN_ENTRIES_MOST = 4478, // entries of a sign table, and of a reduced problem's
+    WAGONPLAN_SIGNS_MOST = 256,         // m of a sign table
+    WAGONPLAN_SIGN_ENTRIES_MOST = 4862, // entries of a sign table, and of a reduced problem's
     WAGONPLAN_RANK_MOST = 32,           //
     WAGONPLAN_WIDTH_MOST = 128,         // W, the width of the search
     WAGONPLAN_DRAWS_MOST = 1000,        //
-    WAGONPLAN_START_MOST = 4224,        // doubles that a start takes
-    WAGONPLAN_FACTOR_MOST = 4096,       // doubles of a factor: m * rank
+    WAGONPLAN_START_MOST = 8448,        // doubles that a start takes
+    WAGONPLAN_FACTOR_MOST = 8192,       // doubles of a factor: m * rank
     WAGONPLAN_WORKSPACE = 16384,        // bytes of workspace to lend with a job record, at least
-    WAGONPLAN_SEARCH_WORKSPACE = 256,   // words of 64 bits of workspace to lend to a finish or a search, at least
-    WAGONPLAN_ANSWER = 187,             // bytes of answer slice to lend, at least: a record of 127 wagons
+    WAGONPLAN_SEARCH_WORKSPACE = 1024,  // words of 64 bits of workspace to lend to a finish or a search, at least
+    WAGONPLAN_ANSWER = 315,             // bytes of answer slice to lend, at least: a record of 255 wagons
     WAGONPLAN_REFUSAL = 6,              // bytes of a refusal: 00 00 00 02 01 and the number
     WAGONPLAN_REDUCED_MOST = 1024,      // original size of a reduced problem
-    WAGONPLAN_SIGN_WORDS = 2,           // words of a choice of signs
+    WAGONPLAN_SIGN_WORDS = 4,           // words of a choice of signs, at most (wagonplan_sign_words)
     WAGONPLAN_RUN_WORDS = 13,           // words of a run record, of settings and of a result, as the raw functions take them
     WAGONPLAN_SETTING_WORDS = 8,
     WAGONPLAN_RESULT_WORDS = 11,
 
-    WAGONPLAN_STACK = 393216 // bytes of stack that a call may take
+    WAGONPLAN_STACK = 524288 // bytes of stack that a call may take
 };
 
 // What `wagonplan_size` can be asked for.
@@ -253,13 +253,13 @@ static inline int wagonplan_fits(void) {
 //
 //   bytes       field
 //   4           length of the rest
-//   1           version: 1, or 2 with pins
-//   1           n, wagons
+//   1           version: 1, 2 with pins, or 3 with pins and up to 255 wagons
+//   1           n, wagons; up to 127 in versions 1 and 2
 //   2           count of entries
 //   count * 10  entries, rising: row (1), column (1), value H_ij (8, signed); each has its mirror, equal
 //   n * 8       c_i (8, signed)
-//   1           in version 2 alone: count of pins
-//   pins * 2    in version 2 alone: pins, in any order: wagon (1), its store, 0 or 1 (1); no wagon twice
+//   1           from version 2 on: count of pins
+//   pins * 2    from version 2 on: pins, in any order: wagon (1), its store, 0 or 1 (1); no wagon twice
 //   1           rank; 0 means the least r with r * r >= 2m, plus 1, at most m, at least 1
 //   1           rule, 0 to 4: Grad, GradAdv, Coord, CoordNoStep, CoordMomentum
 //   8           the rule's number (a double; rule 3 reads it and uses none)
@@ -278,7 +278,7 @@ static inline int wagonplan_fits(void) {
 // Where the fields of an answer record stand; the record has WAGONPLAN_AT_CHOICE + n bytes.
 enum {
     WAGONPLAN_AT_LENGTH = 0,        // 4: length of the rest, 56 + n
-    WAGONPLAN_AT_VERSION = 4,       // 1: 1, for jobs of either version
+    WAGONPLAN_AT_VERSION = 4,       // 1: 1, for jobs of every version
     WAGONPLAN_AT_STATUS = 5,        // 1: 0 all sweeps made, 1 stopped at a tolerance, 2 stopped as the objective rose
     WAGONPLAN_AT_RANK = 6,          // 1
     WAGONPLAN_AT_WAGONS = 7,        // 1: n
@@ -407,15 +407,18 @@ static inline uint8_t wagonplan_qubo_binary_from_sign_solution(size_t m, wagonpl
     return wagonplan_leave(mode, wagonplan_raw_qubo_binary_from_sign_solution(m, signs.at, signs.len, b.at, b.len));
 }
 
-// The first m of `signs` (0 for +, any other byte for -) as a choice in words: WAGONPLAN_SIGN_WORDS of them, bit i % 64 of word i / 64 set where sign i is -,
-// the bits behind the last sign 0. 13 where m is 0 or above WAGONPLAN_SIGNS_MOST.
+// How many words a choice of m signs takes.
+static inline size_t wagonplan_sign_words(size_t m) { return m <= 128 ? 2 : WAGONPLAN_SIGN_WORDS; }
+
+// The first m of `signs` (0 for +, any other byte for -) as a choice in words: wagonplan_sign_words(m) of them, bit i % 64 of word i / 64 set where sign i is
+// -, the bits behind the last sign 0. 13 where m is 0 or above WAGONPLAN_SIGNS_MOST.
 static inline uint8_t wagonplan_pack_signs(size_t m, wagonplan_u8 signs, wagonplan_u64_mut words) {
     unsigned mode = wagonplan_enter();
     return wagonplan_leave(mode, wagonplan_raw_pack_signs(m, signs.at, signs.len, words.at, words.len));
 }
 
-// How many ones the exclusive or of two choices of m signs has, over the first WAGONPLAN_SIGN_WORDS words of each: of packed choices, in how many signs they
-// differ. Bits behind the last sign count as they are; words behind those are not read.
+// How many ones the exclusive or of two choices of m signs has, over the first wagonplan_sign_words(m) words of each: of packed choices, in how many signs
+// they differ. Bits behind the last sign count as they are; words behind those are not read.
 static inline uint8_t wagonplan_distance(size_t m, wagonplan_u64 x, wagonplan_u64 y, uint64_t *signs) {
     unsigned mode = wagonplan_enter();
     return wagonplan_leave(mode, wagonplan_raw_distance(m, x.at, x.len, y.at, y.len, signs));
@@ -477,8 +480,8 @@ static inline const char *wagonplan_sentence(uint8_t number) {
     switch (number) {
     case 0: return "The call is accepted.";
     case 11: return "The frame is wrong: above 65,536 bytes, another length than the record says, a field past the end, or bytes left over.";
-    case 12: return "The version is neither 1 nor 2.";
-    case 13: return "There are more than 127 wagons or more than 4,096 entries; for a sign table, no sign, more than 128, or more than 4,478 entries.";
+    case 12: return "The version is none of 1 to 3.";
+    case 13: return "There are more than 255 wagons, more than 127 in a job of version 1 or 2, or more than 4,096 entries; for a sign table, no sign, more than 256, or more than 4,862 entries.";
     case 14: return "An entry is out of range, or not above the one before it.";
     case 15: return "An entry's mirror is absent or unequal.";
     case 16: return "The magnitude is above 2^40: the entries' absolute values, plus twice those of c; for a sign table above 2^42 eighths.";

@@ -8,9 +8,10 @@
     pinned, pinned-small, pinned-large, pinned-damaged
                                    the same of version 2, with pins; pinned-damaged around 21 above all
     pinned-all, pinned-none        accepted, with every wagon pinned, with none
+    larger, larger-damaged         the same of version 3, most of 128 to 255 wagons, of few sweeps
     leaf, leaf-NAME                lines for `oracle leaf`, of all functions in turn or of one
     wide-NAME                      the same of one function, up to 128 signs of low rank, few entries
-    full-NAME                      the same, each rank from 1 to 32 in turn (a step's rule changes every 32 lines), up to 128 signs
+    full-NAME                      the same, each rank from 1 to 32 in turn (a step's rule changes every 32 lines), up to 256 signs
     leaf-edges                     a fixed list for `oracle leaf` at the limits (COUNT cuts it)
     reduced                        lines for `oracle leaf` on reduced problems, refusals included
     run                            scripts for `oracle run`; COUNT scripts
@@ -27,6 +28,7 @@ import model  # noqa: E402
 
 WIDE = False  # set by the kind wide-NAME: many rows, few numbers in each, few entries
 FULL = None  # set by the kind full-NAME: the number of the line
+SIGNS = 128  # the most signs of a table in a leaf; the kind full-NAME sets 256
 LIMIT = 2**40
 SIGN_LIMIT = 2**42
 FRAME = 65536
@@ -127,15 +129,24 @@ def symmetric(rng, size, most_entries, style):
     return table
 
 
+def sparse(rng, size, pairs, style):
+    """A symmetric table with so many pairs of places, drawn anywhere; at times a place comes twice."""
+    table = {}
+    for _ in range(pairs if size else 0):
+        i, j = rng.randrange(size), rng.randrange(size)
+        table[i, j] = table[j, i] = value(rng, style)
+    return table
+
+
 def entries(table):
     return [(i, j, table[i, j]) for i, j in sorted(table)]
 
 
-def hall(rng, n):
-    """Entries of H and c, accepted."""
+def hall(rng, n, pairs=None):
+    """Entries of H and c, accepted; where it is said how many pairs there are, no more than these."""
     style = rng.choice(["unit", "small", "small", "zeros", "large", "limit", "flat", "quiet"])
     basic = {"limit": "small", "flat": "small", "quiet": "small"}.get(style, style)
-    h = symmetric(rng, n, 4096, basic)
+    h = symmetric(rng, n, 4096, basic) if pairs is None else sparse(rng, n, pairs, basic)
     c = [value(rng, basic) if rng.random() < 0.8 else 0 for _ in range(n)]
     if style == "flat":
         # Row sums of the absorbed table are 0 where they can be, so that no anchor entry stands.
@@ -182,11 +193,16 @@ def grow(h, c, rng):
         c[0] += rest // 2 if c[0] >= 0 else -(rest // 2)
 
 
-def sign_table(rng, m):
+def most_entries():
+    """As many as a sign table of so many signs has at most."""
+    return 4094 + 3 * SIGNS
+
+
+def sign_table(rng, m, pairs=None):
     """A symmetric table of eighths, accepted as a sign table."""
     style = rng.choice(["unit", "small", "small", "zeros", "large", "limit", "bare", "still"])
     basic = {"limit": "small", "bare": "small", "still": "small"}.get(style, style)
-    table = symmetric(rng, m, 4478, basic)
+    table = symmetric(rng, m, most_entries(), basic) if pairs is None else sparse(rng, m, pairs, basic)
     if style == "bare":
         table = {place: v for place, v in table.items() if place[0] != place[1]}
     if style == "still":
@@ -223,7 +239,7 @@ def shape(rng):
         m = rng.choice([128, 127, rng.randint(21, 128)])
         return m, rng.randint(1, 384 // m)
     if FULL is not None:
-        return rng.choice([128, rng.randint(1, 128), rng.randint(1, 128)]), FULL % 32 + 1
+        return rng.choice([SIGNS, rng.randint(1, SIGNS), rng.randint(1, 128)]), FULL % 32 + 1
     return size(rng, low=1, high=128), rng.randint(1, 32)
 
 
@@ -317,6 +333,42 @@ def job(rng, kind="mixed", pinned=None):
     }
 
 
+LARGER = [128, 129, 192, 193, 240, 255]
+
+
+def larger_size(rng):
+    """Wagons of a job of version 3: above 127 in four of five, most often where a word of signs begins or ends."""
+    k = rng.random()
+    if k < 0.8:
+        return rng.choice(LARGER) if k < 0.5 else rng.randint(128, 255)
+    return rng.choice([0, 1, 127, rng.randint(0, 8), rng.randint(0, 127)])
+
+
+def larger_job(rng):
+    """Fields of an accepted job of version 3. Where the frame has no room for its start, it starts by signs and makes no sweep."""
+    n = larger_size(rng)
+    pairs, width = rng.choice([0, 3, n // 2, n, n, 2 * n]), rng.choice([0, 1, 1, 2, 3])
+    if rng.random() < 0.04:
+        width = rng.choice([16, 128, rng.randint(0, 128)])
+    h, c = hall(rng, n, pairs if rng.random() < 0.98 else 2048)
+    pins = some_pins(rng, n, rng.choice(["none", "one", "few", "some"]))
+    m = n - len(pins) + 1
+    rank, rule = rng.choice([0, 0, 1, 1, 2, 3, 32, rng.randint(1, 32)]), rng.randrange(5)
+    start, most = rng.choice([0, 1, 2] if rank else [0, 2]), rng.choice([0, 0, 0, 1, 1, 2, 3, 21])
+    r = rank or default_rank(m)
+    room = (FRAME - 47 - 10 * len(h) - 8 * n - 2 * len(pins)) // 8 - r
+    if start_count(start, most, m, r) > room:
+        start, most = 2, 0
+    count = start_count(start, most, m, r)
+    draws = 1 + min(rng.choice([0, 0, 1, 2, 11]), (room - count) // r)
+    return base(
+        version=3, n=n, entries=h, c=c, pin_count=len(pins), pins=pins, rank=rank, rule=rule, number=rule_number(rng, rule),
+        most=most, minimum=rng.choice([0, 1, most, most + 1, 2**32 - 1]), objective_tolerance=tolerance(rng),
+        stationarity_tolerance=tolerance(rng), width=width, start=start,
+        start_numbers=factor(rng, m, r) if start < 2 else numbers(rng, m) + numbers(rng, count - m),
+        draw_count=draws, draws=[x for _ in range(draws) for x in numbers(rng, r)])
+
+
 def u64s(values):
     return b"".join(struct.pack(">Q", x % 2**64) for x in values)
 
@@ -393,7 +445,7 @@ def bad_momentum(j, rng):
 
 
 DAMAGES = [
-    lambda j, rng: j.update(version=rng.choice([0, 3, 3, 255])),
+    lambda j, rng: j.update(version=rng.choice([0, 4, 4, 255])),
     lambda j, rng: j.update(n=rng.choice([128, 129, 200, 255])),
     lambda j, rng: j.update(count=rng.choice([4097, 5000, 65535])),
     lambda j, rng: j.update(count=min(65535, max(0, j["count"] + rng.choice([-1, 1])))),
@@ -441,17 +493,26 @@ PIN_DAMAGES = [
     lambda j, rng: put_pin(j, rng, lambda i, s: (rng.randrange(256), rng.randrange(256))),
     lambda j, rng: j.update(pin_count=min(255, max(0, j["pin_count"] + rng.choice([-1, 1])))),
     lambda j, rng: j.update(pin_count=rng.choice([0, j["n"], 255])),
-    lambda j, rng: j.update(version=rng.choice([0, 1, 1, 3, 255])),
+    lambda j, rng: j.update(version=rng.choice([0, 1, 1, 4, 255])),
     pinned_twice,
     pinned_twice,
     one_pin_more,
 ]
 
 
-def damaged(rng, pinned=False):
+LARGER_DAMAGES = [
+    lambda j, rng: j.update(version=rng.choice([1, 1, 2, 2, 4, 4, 0, 255])),
+    lambda j, rng: j.update(n=rng.choice([0, 127, 128, 254, 255])),
+    lambda j, rng: put_pin(j, rng, lambda i, s: (rng.randrange(j["n"], 256), s)),
+    lambda j, rng: put_pin(j, rng, lambda i, s: (rng.randrange(128, 256), s)),
+    lambda j, rng: put_entry(j, rng, lambda i, k, v: (i, rng.randrange(128, 256), v)),
+]
+
+
+def damaged(rng, pinned=False, larger=False):
     """A damaged job, or one that is still accepted; never one that sweeps without end."""
     while True:
-        data = damaged_once(rng, pinned)
+        data = damaged_once(rng, pinned, larger)
         try:
             if model.read_job(data)[3]["most"] <= 100:
                 return data
@@ -459,10 +520,12 @@ def damaged(rng, pinned=False):
             return data
 
 
-def damaged_once(rng, pinned):
-    j = job(rng, rng.choice(["small", "small", "mixed"]), "some" if pinned else None)
+def damaged_once(rng, pinned, larger):
+    j = larger_job(rng) if larger else job(rng, rng.choice(["small", "small", "mixed"]), "some" if pinned else None)
     for _ in range(rng.choice([0, 1, 1, 1, 2, 3])):
-        damages = PIN_DAMAGES if pinned and rng.random() < 0.7 else DAMAGES
+        damages = PIN_DAMAGES if pinned and rng.random() < (0.4 if larger else 0.7) else DAMAGES
+        if larger and rng.random() < 0.3:
+            damages = LARGER_DAMAGES
         rng.choice(damages)(j, rng)
     fields = parts(j)
     if pinned and rng.random() < 0.15:
@@ -597,14 +660,14 @@ def edges():
     yield "11 c cut short", frame(bytes([1, 1, 0, 0]) + bytes(7))
     yield "16 c whole, nothing after", frame(bytes([1, 1, 0, 0, 1]) + bytes(7))
     # 12
-    for version in (0, 3, 255):
+    for version in (0, 4, 255):
         yield j(f"12 version {version}", version=version)
-    yield j("12 version 3 and n 128", version=3, n=128)
+    yield j("12 version 4 and n 128", version=4, n=128)
     # 11
     yield "11 no byte", b""
     yield "11 three bytes", bytes(3)
     yield "11 a length of 0", bytes(4)
-    yield "11 wrong length and wrong version", struct.pack(">I", 91) + b"\x03" + body[1:]
+    yield "11 wrong length and wrong version", struct.pack(">I", 91) + b"\x04" + body[1:]
     yield "11 length one less", struct.pack(">I", 91) + body
     yield "11 length one more", struct.pack(">I", 93) + body
     yield "11 a spare byte", frame(body + b"\x00")
@@ -617,7 +680,7 @@ def edges():
     yield "11 a draw too few", record(base(draws=[one(1)]))
     yield "00 65,536 bytes", record(base(**full))
     yield "11 65,537 bytes, length right", frame(b"".join(parts(base(**full))) + b"\x00")
-    yield "11 65,537 bytes and version 3", frame(b"".join(parts(base(version=3, **full))) + b"\x00")
+    yield "11 65,537 bytes and version 4", frame(b"".join(parts(base(version=4, **full))) + b"\x00")
     # Values at their limits
     yield j("00 a warm sign 0.0", start_numbers=[0, one(1)])
     yield j("00 a warm sign -0.0", start_numbers=[bits(-0.0), one(1)])
@@ -759,11 +822,11 @@ def call(rng):
     table = sign_table(rng, m)
     spoiled = rng.random() < 0.2
     if spoiled:
-        m = rng.choice([0, m, m, m, m, 129])
+        m = rng.choice([0, m, m, m, m, SIGNS + 1])
         rank = rng.choice([rank, rank, 33])
         table = spoil(rng, table, SIGN_LIMIT)
-    count = rng.choice([len(table)] * 8 + [4478, 4479]) if spoiled else len(table)
-    meant = rank or default_rank(min(m, 128))
+    count = rng.choice([len(table)] * 8 + [most_entries(), most_entries() + 1]) if spoiled else len(table)
+    meant = rank or default_rank(min(m, SIGNS))
     lent = lent_slices(rng, table, count) if spoiled else [count] + [[e[k] for e in table] for k in range(3)]
     room = rng.choice([0, 0, 0, 1, -1]) if spoiled else rng.choice([0, 0, 3])
     f = (factor(rng, m, meant) + [bits(1.0)] * max(room, 0))[: max(0, m * meant + room)]
@@ -779,7 +842,7 @@ def diagonal_call(rng):
     style, zeros = rng.choice(["unit", "small", "small", "zeros"]), rng.choice([0.0, 0.5, 0.5, 1.0])
     if WIDE or FULL is not None:
         m, rank = shape(rng)
-        table = symmetric(rng, m, 4478 - m, style)
+        table = symmetric(rng, m, most_entries() - m, style)
     else:
         m, rank = rng.randint(1, 8), rng.randint(1, 5)
         pairs = [(i, j) for j in range(m) for i in range(j) if rng.random() < 0.7]
@@ -960,10 +1023,11 @@ def wide_lines(rng, name, count):
 
 
 def full_lines(rng, name, count):
-    global FULL
+    global FULL, SIGNS
+    SIGNS = 256
     for FULL in range(count):
         yield from leaf_lines(rng, [name], 1)
-    FULL = None
+    FULL, SIGNS = None, 128
 
 
 def doubles(*values):
@@ -1100,9 +1164,9 @@ def beam_edges():
 class Hall:
     """The table of a call."""
 
-    def __init__(self, rng, n):
+    def __init__(self, rng, n, pairs=None):
         self.n = n
-        self.table, self.c = hall(rng, n)
+        self.table, self.c = hall(rng, n, pairs)
 
     def lent(self, rng, bad=0.1):
         """Words of n, count and the slices; with some chance one thing is wrong."""
@@ -1197,9 +1261,10 @@ def record_line(rng, m, r):
                              tolerance(rng), rng.choice([0, 1, 5, 20]), most, stage, status, standing, numbers_)
 
 
-def script(rng):
+def script(rng, n=None, pairs=None):
+    """On a small hall, or on one of n wagons with so many pairs."""
     yield "new"
-    h = Hall(rng, size(rng, "small"))
+    h = Hall(rng, size(rng, "small") if n is None else n, pairs)
     bad = rng.choice([0.0, 0.0, 0.3])
     line, m, r = open_line(rng, h, bad)
     yield line
@@ -1210,7 +1275,7 @@ def script(rng):
     if rng.random() < 0.25:
         yield record_line(rng, m, r)
     for _ in range(rng.randint(1, 7)):
-        table = h if rng.random() < 0.7 else Hall(rng, h.n)
+        table = h if rng.random() < 0.7 else Hall(rng, h.n, pairs)
         yield (sweep_line if rng.random() < 0.6 else finish_line)(rng, table, m, r)
     yield finish_line(rng, h, m, r)
 
@@ -1233,6 +1298,10 @@ def lines(kind, count, seed):
         return (record(job(rng, *PINNED[kind])).hex().upper() for _ in range(count))
     if kind == "pinned-damaged":
         return (damaged(rng, True).hex().upper() or "-" for _ in range(count))
+    if kind == "larger":
+        return (record(larger_job(rng)).hex().upper() for _ in range(count))
+    if kind == "larger-damaged":
+        return (damaged(rng, True, True).hex().upper() or "-" for _ in range(count))
     if kind == "damaged":
         return (damaged(rng).hex().upper() or "-" for _ in range(count))
     if kind == "edges":

@@ -16,6 +16,11 @@ import sys
 NAN = float("nan")
 INF = float("inf")
 
+# 02, Note 5: the most wagons by a job's version; a call has the last's. A sign table has a sign more, and three entries a wagon and one more than H.
+WAGONS = {1: 127, 2: 127, 3: 255}
+MOST_WAGONS = WAGONS[3]
+MOST_SIGNS, MOST_SIGN_ENTRIES = MOST_WAGONS + 1, 4096 + 3 * MOST_WAGONS + 1
+
 
 # ---- doubles: one rounding per operation, nothing fused ------------------------------------
 
@@ -149,25 +154,30 @@ def merged(n, free, b, pins):
     return [chosen[i] for i in range(n)]
 
 
-# ---- signs in words (02, Note 4) ---------------------------------------------------------------
+# ---- signs in words (02, Notes 4 and 5) --------------------------------------------------------
 
-CHOICE_WORDS = 2
+
+def choice_words(m):
+    """Two to 128 signs, then four."""
+    return 2 if m <= 128 else 4
 
 
 def packed(signs):
-    """Two words of 64 bits, bit i set for sign −, unused bits 0; any byte but 0 is −."""
-    digits = "".join("01"[s != 0] for s in signs).ljust(64 * CHOICE_WORDS, "0")
-    return [int(digits[k : k + 64][::-1], 2) for k in range(0, 64 * CHOICE_WORDS, 64)]
+    """Words of 64 bits, bit i set for sign −, unused bits 0; any byte but 0 is −."""
+    bits = 64 * choice_words(len(signs))
+    digits = "".join("01"[s != 0] for s in signs).ljust(bits, "0")
+    return [int(digits[k : k + 64][::-1], 2) for k in range(0, bits, 64)]
 
 
-def distance(x, y):
-    """The number of ones in the exclusive or."""
-    return sum(f"{a ^ b:b}".count("1") for a, b in zip(x[:CHOICE_WORDS], y[:CHOICE_WORDS], strict=True))
+def distance(m, x, y):
+    """The number of ones in the exclusive or of two choices of m signs."""
+    words = choice_words(m)
+    return sum(f"{a ^ b:b}".count("1") for a, b in zip(x[:words], y[:words], strict=True))
 
 
 def choice_number(m, *slices):
     """31 of slices (needed, lent), which rests on m; 13 of m."""
-    bad = not 1 <= m <= 128
+    bad = not 1 <= m <= MOST_SIGNS
     return first((31, lambda: not bad and any(lent < needed for needed, lent in slices)), (13, lambda: bad))
 
 
@@ -488,9 +498,9 @@ def read_job(data):
     r = Reader(data)
     refuse(r.u(4) != len(data) - 4, 11)
     version = r.u(1)
-    refuse(version not in (1, 2), 12)
+    refuse(version not in WAGONS, 12)
     n = r.u(1)
-    refuse(n > 127, 13)
+    refuse(n > WAGONS[version], 13)
     count = r.u(2)
     refuse(count > 4096, 13)
     entries = []
@@ -501,7 +511,7 @@ def read_job(data):
     refuse(n15(entries), 15)
     c = [r.i64() for _ in range(n)]
     refuse(n16(entries, c), 16)
-    pins = read_pins(r, n) if version == 2 else {}
+    pins = read_pins(r, n) if version >= 2 else {}
     m = n - len(pins) + 1
     s = {"rank": r.u(1)}
     refuse(s["rank"] > 32, 17)
@@ -803,11 +813,11 @@ def called(w):
     m = w.u()
     count, entries, short = lent_entries(w)
     rank, factor = w.u(), w.slice(w.f)
-    bad, wide = not 1 <= m <= 128, rank > 32
+    bad, wide = not 1 <= m <= MOST_SIGNS, rank > 32
     meant = rank or (0 if bad else default_rank(m))
-    short = count <= 4478 and short or not bad and not wide and len(factor) < m * meant
+    short = count <= MOST_SIGN_ENTRIES and short or not bad and not wide and len(factor) < m * meant
     numbers = [
-        (13, lambda: bad or count > 4478),
+        (13, lambda: bad or count > MOST_SIGN_ENTRIES),
         (14, lambda: n14(m, entries)),
         (15, lambda: n15(entries)),
         (16, lambda: sum(abs(v) for _, _, v in entries) > 2**42),
@@ -820,7 +830,7 @@ def called(w):
 def leaf_dual_call(w):
     m, entries, _, _, rows, short, numbers = called(w)
     room = w.u()
-    short = short or 1 <= m <= 128 and room < m
+    short = short or 1 <= m <= MOST_SIGNS and room < m
     number = first((31, lambda: short), *numbers)
     return out(number) if number else out(0, duals(entries, rows))
 
@@ -828,7 +838,7 @@ def leaf_dual_call(w):
 def leaf_rounded_call(w):
     m, entries, rank, meant, rows, short, numbers = called(w)
     count, draws, room = w.u(), w.slice(w.f), w.u()
-    bad, none = not 1 <= m <= 128, not 1 <= count <= 1000
+    bad, none = not 1 <= m <= MOST_SIGNS, not 1 <= count <= 1000
     short = short or not bad and room < m
     if not (none or rank > 32 or rank == 0 and bad):
         short = short or len(draws) < count * meant
@@ -872,8 +882,8 @@ def leaf_sign_table_number(w):
     count, entries, short = lent_entries(w)
     return out(
         first(
-            (31, lambda: count <= 4478 and short),
-            (13, lambda: not 1 <= m <= 128 or count > 4478),
+            (31, lambda: count <= MOST_SIGN_ENTRIES and short),
+            (13, lambda: not 1 <= m <= MOST_SIGNS or count > MOST_SIGN_ENTRIES),
             (14, lambda: n14(m, entries)),
             (15, lambda: n15(entries)),
             (16, lambda: sum(abs(v) for _, _, v in entries) > 2**42),
@@ -888,8 +898,8 @@ def leaf_submatrix_number(w):
     results = [w.u(), w.u(), w.u()]
     return out(
         first(
-            (31, lambda: count <= 4478 and (short or min(results) < count)),
-            (13, lambda: count > 4478),
+            (31, lambda: count <= MOST_SIGN_ENTRIES and (short or min(results) < count)),
+            (13, lambda: count > MOST_SIGN_ENTRIES),
             (14, lambda: n14(size, entries)),
             (20, lambda: n20(size, indices, fixed)),
         )
@@ -977,7 +987,7 @@ class Script:
         count, entries, short = lent_entries(w)
         c = w.slice(w.i)
         self.n, self.entries, self.c = n, entries, c[:n]
-        self.bad_n = n > 127
+        self.bad_n = n > MOST_WAGONS
         self.short = (count <= 4096 and short) or (not self.bad_n and len(c) < n)
         return (
             (13, lambda: self.bad_n or count > 4096),
@@ -995,7 +1005,7 @@ class Script:
         bad_rank = s["rank"] > 32 or (s["rank"] == 0 and s["start"] == 1)
         short = self.short
         m = self.n + 1
-        rank = s["rank"] or default_rank(min(m, 128))
+        rank = s["rank"] or default_rank(min(m, MOST_SIGNS))
         if not self.bad_n and not bad_rank:
             short = short or factor_length < m * rank
             if s["start"] <= 2:

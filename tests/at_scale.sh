@@ -1,7 +1,7 @@
 #!/usr/bin/env bash
-# The oracle and the port side by side on seeded calls: tests/at_scale.sh [JOBS] [SCRIPTS] [PROBLEMS] [SEED]. Jobs of version 1 and as many of version 2,
-# scripts of open, sweep and finish, reduced problems; every value, refusal and kept byte is compared. The exit status is 0 where nothing differs; what
-# each part printed is in target/log/at_scale.
+# The oracle and the port side by side on seeded calls: tests/at_scale.sh [JOBS] [SCRIPTS] [PROBLEMS] [SEED]. Jobs of version 1, as many of version 2 and half
+# as many of version 3, scripts of open, sweep and finish, a tenth as many rounds of calls and scripts on 129 to 256 signs, reduced problems; every value,
+# refusal and kept byte is compared. The exit status is 0 where nothing differs; what each part printed is in target/log/at_scale.
 set -eu
 cd "$(dirname "$0")/.."
 jobs=${1:-100000} scripts=${2:-10000} problems=${3:-10000} seed=${4:-1} differing=0
@@ -17,6 +17,8 @@ part() { # KIND COUNT
 }
 part jobs "$jobs"
 part pins "$jobs"
+part larger "$((jobs / 2))"
 part runs "$scripts"
+part larger-calls "$((scripts / 10))"
 part reduced "$problems"
 exit "$differing"

@@ -151,7 +151,7 @@ class HallFiles(Case):
 
     # What stands at a limit, which the program must answer, and one beyond it.
     LIMITS = [
-        (many(127), many(128), "line 128: wagon w127 is number 128; a hall has at most 127 wagons."),
+        (many(255), many(256), "line 256: wagon w255 is number 256; a hall has at most 255 wagons."),
         (many(127, all_pairs(127, 2048)), many(127, all_pairs(127, 2049)), "line 2176: with the pair w17 w60 the table has 4,098 entries; it has at most 4,096"),
         (f"wagon a {2**39}\n", f"wagon a {2**39 + 1}\n", "line 1: with the cost 549755813889 of a the magnitude is above 2^40 = 1,099,511,627,776"),
         (TWO + f"pair a b {2**39 - 3}\n", TWO + f"pair a b -{2**39 - 2}\n", "line 3: with the cost -549755813886 of the pair a b the magnitude is above 2^40"),
@@ -209,7 +209,7 @@ class Tables(Case):
         (",a,a\na,1,2\na,2,1\n", "table.csv, cell C3: there are two wagons named a."),
         (",a a\na a,1\n", "table.csv, cell B1: a wagon's name is one word without #, not `a a`."),
         (",a,b\na,1,549755813888\nb,549755813888,0\n", "table.csv, cell C2: with the cost 549755813888 of the pair a b the magnitude is above 2^40"),
-        (empty_table(128), "table.csv, cell DY129: wagon w127 is number 128; a hall has at most 127 wagons."),
+        (empty_table(256), "table.csv, cell IW257: wagon w255 is number 256; a hall has at most 255 wagons."),
         (b',"\xff"\n', "table.csv is not UTF-8 text"),
         ("," + "x" * 200000 + "\n", "table.csv is no CSV table: field larger than field limit"),
     ]
@@ -337,6 +337,7 @@ class Pins(Case):
         self.assertEqual(stored[0], "# 00 H_01 = H_10 = 3, c = -1, -1, wagon 0 pinned to 0")
         self.assertEqual(job.hex().upper(), stored[1].split()[1])
         self.assertEqual([record.job_of(self.hall(TWO + more))[4] for more in ("", "pin a left\n")], [1, 2])
+        self.assertEqual([record.job_of(self.hall(many(n, "rank 1\n" + more)))[4] for n in (127, 128, 255) for more in ("", "pin w0 left\n")], [1, 2, 3, 3, 3, 3])
         back = record.hall_of(record.job_of(self.repairs))
         self.assertEqual((back.pins, back.pairs, back.costs), ({3: 0, 6: 1}, self.repairs.pairs, self.repairs.costs))
         self.assertEqual((back.most, back.width, back.meant_rank()), (3, 16, self.repairs.meant_rank()))
@@ -479,7 +480,7 @@ class Rows(Case):
         at = record.places(job)[-1]
         command = rows.built(self.folder)
         for bad, sentence in (
-            (b"", "The job is cut short."), (job[:-1], "The job has another length than it says."), (changed(job, 4, b"\2"), "The job isn't of version 1."),
+            (b"", "The job is cut short."), (job[:-1], "The job has another length than it says."), (changed(job, 4, b"\2"), "The job isn't of version 1 or 3."),
             (changed(job + b"\0", 3, bytes([job[3] + 1])), "The job has bytes left over."), (bytes(65537), "The job is too long."),
             (changed(job, 7, b"\xff"), "The job is cut short."), (changed(job, at + 1, b"\5"), f"The call open was refused by 18: {answer.sentence_of(18)}"),
             (changed(job, at + 34, b"\x81"), f"The call finish was refused by 19: {answer.sentence_of(19)}"),
@@ -604,11 +605,11 @@ class Commands(Case):
         self.ends(done, 0)
         self.assertIn("Left store: 1.\nRight store: 0.\nThis costs -1.", done.stdout.decode())
         job = record.job_of(hall.read_hall(DOORWAY))
-        for bad, number in ((job[:-1], 11), (b"", 11), (changed(job, 4, b"\3"), 12), (changed(job, 4, b"\2"), 19), (changed(job, 5, b"\x80"), 13), (job + bytes(1 << 20), 11)):
+        for bad, number in ((job[:-1], 11), (b"", 11), (changed(job, 4, b"\4"), 12), (changed(job, 4, b"\2"), 19), (changed(job, 4, b"\3"), 19), (changed(job, 5, b"\x80"), 13), (job + bytes(1 << 20), 11)):
             self.ends(run("plan", "-", given=bad), 1, f"The job was refused by {number}: {answer.sentence_of(number)}")
 
     def test_refused_halls(self):
-        self.ends(run("plan", self.file("hall.txt", many(128))), 1, "hall.txt, line 128: wagon w127 is number 128")
+        self.ends(run("plan", self.file("hall.txt", many(256))), 1, "hall.txt, line 256: wagon w255 is number 256")
 
     PROGRAMS = [
         ("kill -9 $$", "was killed by signal 9 and gave no whole answer."),

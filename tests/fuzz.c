@@ -49,12 +49,12 @@ static uint64_t number_at(const uint8_t *bytes, size_t at, size_t count) {
 
 static int64_t whole_at(const uint8_t *bytes, size_t at) { return (int64_t)number_at(bytes, at, 8); }
 
-// Where the costs stand in a job, its pins (in version 2: their count, then wagon and store of each), and its rank; the limit of sweeps stands 10 bytes
+// Where the costs stand in a job, its pins (from version 2 on: their count, then wagon and store of each), and its rank; the limit of sweeps stands 10 bytes
 // behind the rank, W 34, the start 35.
 static size_t costs_at(const uint8_t *job) { return 8 + 10 * number_at(job, 6, 2); }
 static size_t pins_at(const uint8_t *job) { return costs_at(job) + 8 * (size_t)job[5]; }
-static size_t pins_of(const uint8_t *job) { return job[4] == 2 ? job[pins_at(job)] : 0; }
-static size_t rank_at(const uint8_t *job) { return pins_at(job) + (job[4] == 2 ? 1 + 2 * pins_of(job) : 0); }
+static size_t pins_of(const uint8_t *job) { return job[4] > 1 ? job[pins_at(job)] : 0; }
+static size_t rank_at(const uint8_t *job) { return pins_at(job) + (job[4] > 1 ? 1 + 2 * pins_of(job) : 0); }
 
 // A limit of millions of sweeps would be kept to, so it is made small.
 static void few_sweeps(uint8_t *job, size_t length) {
@@ -95,6 +95,7 @@ static void check_accepted(const uint8_t *job, const uint8_t *answer) {
     int64_t floor = whole_at(answer, WAGONPLAN_AT_FLOOR), rounded = whole_at(answer, WAGONPLAN_AT_ROUNDED_COST), own = whole_at(answer, WAGONPLAN_AT_COST);
     uint64_t rounds = number_at(answer, WAGONPLAN_AT_ROUNDS, 8);
     uint8_t b[WAGONPLAN_WAGONS_MOST + 1], pinned[256] = {0};
+    must(job[4] == 3 || ((job[4] == 1 || job[4] == 2) && n <= 127), "a version that is known, with no more wagons than it has");
     must(number_at(answer, 0, 4) == 56 + n && answer[4] == 1 && answer[WAGONPLAN_AT_WAGONS] == n, "length, version, n");
     must(answer[WAGONPLAN_AT_STATUS] <= 2 && 1 <= answer[WAGONPLAN_AT_RANK] && answer[WAGONPLAN_AT_RANK] <= 32, "status, rank");
     memcpy(b, answer + WAGONPLAN_AT_CHOICE, n);
@@ -111,9 +112,9 @@ static void check_accepted(const uint8_t *job, const uint8_t *answer) {
     }
     for (size_t i = 0; i < n; i++) b[i] ^= !pinned[i];
     must(width == 0 || own <= cost(job, b), "the other choice of all wagons doesn't cost less");
-    reached[2400 + (job[4] == 2 ? 1 + pins_of(job) : 0)] = 1;
+    reached[2400 + (job[4] > 1 ? 1 + pins_of(job) : 0)] = 1;
     reached[256 + answer[WAGONPLAN_AT_STATUS]] = reached[300 + answer[WAGONPLAN_AT_RANK]] = reached[400 + n] = 1;
-    reached[600 + (rounds < 200 ? rounds : 200)] = reached[1000 + job[rank_at(job) + 1] * 256 + job[rank_at(job) + 35]] = 1;
+    reached[700 + (rounds < 200 ? rounds : 200)] = reached[1000 + job[rank_at(job) + 1] * 256 + job[rank_at(job) + 35]] = 1;
 }
 
 static void check_call(const uint8_t *job, size_t length, uint8_t flags, uint8_t *first) {
@@ -127,7 +128,7 @@ static void check_call(const uint8_t *job, size_t length, uint8_t flags, uint8_t
     uint8_t number = answered(job, length, workspace, workspace_len, answer, answer_len);
     must((number == 31) == ((flags & 7) >= SHORT_ANSWER), "31 where a slice is too short, and only there");
     must(number == 0 || number == 31 || number == 21 || (11 <= number && number <= 19), "the number");
-    must(number != 21 || job[4] == 2, "21 in version 2 alone");
+    must(number != 21 || job[4] == 2 || job[4] == 3, "21 in versions 2 and 3 alone");
     reached[number] = 1, calls[number]++;
     size_t written = number == 31 ? 0 : number ? WAGONPLAN_REFUSAL : WAGONPLAN_AT_CHOICE + (size_t)answer[WAGONPLAN_AT_WAGONS];
     must(written <= answer_len && unwritten(answer, written, answer_len), "the rest of the answer slice is kept");

@@ -19,8 +19,8 @@ target/fuzz/replay tests/lists/*.txt | tail -n 1
 checked fuzz fuzzer,address,undefined
 python3 - "$longest" <<'PY'
 import sys
-words = [line.split() for name in ("jobs", "pins") for line in open(f"tests/lists/{name}.txt") if line[0] != "#"]
-for k, word in enumerate(given for _, given, *_ in words if given != "~"):
+words = [line.split() for name in ("jobs", "pins", "larger") for line in open(f"tests/lists/{name}.txt") if line[0] != "#"]
+for k, word in enumerate(given for call, given, *_ in words if call == "answer" and given != "~"):
     job = b"\x08" + bytes.fromhex(word.strip("-"))
     for folder in ["stored"] + ["corpus"] * (len(job) <= int(sys.argv[1])):
         open(f"target/fuzz/{folder}/stored-{k:04}", "wb").write(job)

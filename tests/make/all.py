@@ -3,7 +3,8 @@
 
   tests/make/all.py                      writes tests/lists/*.txt
   tests/make/all.py --check              compares them with what is stored, and writes nothing
-  tests/make/all.py KIND COUNT SEED      prints seeded lines instead: KIND is `ranks` (COUNT tables at every rank and rule), `jobs`, `pins` (jobs of version 2), `runs` or `reduced`
+  tests/make/all.py KIND COUNT SEED      prints seeded lines instead: KIND is `ranks` (COUNT tables at every rank and rule), `jobs`, `pins` (jobs of version 2), `larger` (of version 3),
+                                         `runs`, `larger-calls` (calls and scripts on 129 to 256 signs) or `reduced`
 
 The same COUNT and SEED give the same lines.
 """
@@ -17,6 +18,7 @@ import doubles  # noqa: E402
 import edges  # noqa: E402
 import factors  # noqa: E402
 import jobs  # noqa: E402
+import larger  # noqa: E402
 import pins  # noqa: E402
 import random_jobs  # noqa: E402
 import reduced  # noqa: E402
@@ -42,8 +44,9 @@ def add_tables(lines):
     tables.add_faults(lines)
 
 
-LISTS = {"tables": add_tables, "factors": factors.add, "steps": steps.add, "standing": standing.add, "edges": edges.add, "runs": runs.add, "jobs": jobs.add, "pins": pins.add, "words": words.add}
-SEEDED = {"ranks": steps.seeded, "jobs": random_jobs.seeded, "pins": random_jobs.seeded_pins, "runs": runs.seeded, "reduced": reduced.seeded}
+LISTS = {"tables": add_tables, "factors": factors.add, "steps": steps.add, "standing": standing.add, "edges": edges.add, "runs": runs.add, "jobs": jobs.add, "pins": pins.add, "larger": larger.add, "words": words.add}
+SEEDED = {"ranks": steps.seeded, "jobs": random_jobs.seeded, "pins": random_jobs.seeded_pins, "larger": random_jobs.seeded_larger, "runs": runs.seeded,
+          "larger-calls": larger.seeded_calls, "reduced": reduced.seeded}
 
 
 def stored(check):

@@ -5,7 +5,7 @@ A case is a dictionary of a call's fields. Slices are lists of words or bytes, o
 import gen
 from lists import SEARCH_WORKSPACE, leaves, slices
 
-LIMITS = {"wagons": (0, 127, 4096, 1 << 40), "signs": (1, 128, 4478, 1 << 42)}
+LIMITS = {"wagons": (0, 255, 4096, 1 << 40), "signs": (1, 256, 4862, 1 << 42)}
 
 
 # ---- 01's numbers -----------------------------------------------------------------------------------
@@ -88,7 +88,7 @@ def sign_table_number(s):
 
 
 def decode_number(s):
-    bad = not 1 <= s["m"] <= 128
+    bad = not 1 <= s["m"] <= LIMITS["signs"][1]
     return first((31, lambda: not bad and (len(s["signs"]) < s["m"] or s["b"] < s["m"] - 1)), (13, lambda: bad))
 
 
@@ -97,7 +97,7 @@ def bad_indices(size, s):
 
 
 def submatrix_number(s):
-    bad_count = s["count"] > 4478
+    bad_count = s["count"] > LIMITS["signs"][2]
     short = lambda: not bad_count and any(length(s[k]) < s["count"] for k in ("rows", "cols", "values", "to_rows", "to_cols", "to_values"))
     return first((31, short), (13, lambda: bad_count), (14, lambda: out_of_order(s["m"], entries_of(s))), (20, lambda: bad_indices(s["m"], s)))
 

@@ -82,9 +82,9 @@ def placed(most_entries, limit):
 
 
 BASE = {"count": 3, "rows": [0, 1, 1], "cols": [1, 0, 1], "values": [3, 3, 2]}
-SIGNS = placed(4478, 4 * LIMIT) + [Fault(13, put(m=0), spoils="m"), Fault(13, put(m=129), spoils="m"), Fault(13, put(m=2**64 - 1), spoils="m")]
+SIGNS = placed(4862, 4 * LIMIT) + [Fault(13, put(m=0), spoils="m"), Fault(13, put(m=257), spoils="m"), Fault(13, put(m=2**64 - 1), spoils="m")]
 HALL = placed(4096, LIMIT) + [
-    Fault(31, drop("c"), "n"), Fault(13, put(n=128), spoils="n"), Fault(13, put(n=2**64 - 1), spoils="n"), Fault(16, entry(0, c=LIMIT))]
+    Fault(31, drop("c"), "n"), Fault(13, put(n=256), spoils="n"), Fault(13, put(n=2**64 - 1), spoils="n"), Fault(16, entry(0, c=LIMIT))]
 RANK = [Fault(31, drop("factor"), "m rank"), Fault(31, drop("out"), "m"), Fault(17, put(rank=33), spoils="rank"), Fault(17, put(rank=2**64 - 1), spoils="rank")]
 INDICES = [Fault(20, put(map=[1, 1])), Fault(20, put(map=[2, 0])), Fault(20, put(fixed=[0, 65535]))]
 FACTOR = [0x3FF8000000000000, 0xBFE0000000000000, 0x3FE0000000000000, 0x4000000000000000]
@@ -104,10 +104,10 @@ CASES = {
     "qubo_sign_table": ({"n": 2, **BASE, "c": [-1, 4], "to_rows": 10, "to_cols": 10, "to_values": 10}, HALL + [
         *[Fault(31, drop(name), "n count room") for name in ("to_rows", "to_cols", "to_values")], Fault(31, drop("to_values", 10), "n count")]),
     "qubo_binary_from_sign_solution": ({"m": 3, "signs": b"\1\0\1", "b": 2}, [
-        Fault(31, drop("signs"), "m"), Fault(31, drop("b"), "m"), Fault(31, drop("b", 2), "m"), Fault(13, put(m=0), spoils="m"), Fault(13, put(m=129), spoils="m"),
+        Fault(31, drop("signs"), "m"), Fault(31, drop("b"), "m"), Fault(31, drop("b", 2), "m"), Fault(13, put(m=0), spoils="m"), Fault(13, put(m=257), spoils="m"),
         Fault(13, put(m=2**64 - 1), spoils="m")]),
     "from_principal_submatrix": ({"m": 2, **BASE, "map": [1, 0], "fixed": [0], "to_rows": 3, "to_cols": 3, "to_values": 3}, INDICES + [
-        f for f in placed(4478, 1) if f.number in (31, 13, 14)] + [
+        f for f in placed(4862, 1) if f.number in (31, 13, 14)] + [
         *[Fault(31, drop(name), "count") for name in ("to_rows", "to_cols", "to_values")], Fault(20, put(m=1025), spoils="range"),
         Fault(20, put(m=2**64 - 1), spoils="range")]),
     "lift_solution": ({"m": 2, "map": [1, 0], "fixed": [0, 1], "fixed_values": FACTOR[:2], "solution": FACTOR[2:], "lifted": 2}, INDICES + [

@@ -170,7 +170,7 @@ def entries_with(k, entry):
 
 # The field that decides, the number, what is wrong. Fields in reading order, so the first of two faults is the earlier one's.
 FAULTS = [
-    *[("version", 12, f"version {v}", {"version": v}) for v in (0, 3, 255)],
+    *[("version", 12, f"version {v}", {"version": v}) for v in (0, 4, 255)],
     *[("n", 13, f"n {v}", {"n": v}) for v in (128, 255)],
     *[("count", 13, f"{v} entries", {"count": v}) for v in (4097, 65535)],
     ("entry 0", 14, "row out of range", entries_with(0, (3, 0, 2))),

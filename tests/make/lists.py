@@ -7,8 +7,8 @@ sys.dont_write_bytecode = True
 TOP = os.path.dirname(os.path.dirname(os.path.dirname(os.path.abspath(__file__))))
 PROGRAM = os.path.join(TOP, "target", "oracle", "release", "oracle")
 WORKSPACE = 16384  # bytes, of a job
-SEARCH_WORKSPACE = 256  # words, of a search or a finish
-ANSWER = 187
+SEARCH_WORKSPACE = 1024  # words, of a search or a finish
+ANSWER = 315
 
 
 # ---- lines ----------------------------------------------------------------------------------------

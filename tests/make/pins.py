@@ -326,9 +326,9 @@ def add(lines):
 # ---- seeded jobs -------------------------------------------------------------------------------
 
 
-def flipped(rng):
-    """A small job with some bytes changed, put in or taken out, most of them at the pins; its length is right in most cases."""
-    j = gen.job(rng, "small", "some")
+def flipped(rng, j=None):
+    """A job, small where none is given, with some bytes changed, put in or taken out, most of them at the pins; its length is right in most cases."""
+    j = j or gen.job(rng, "small", "some")
     body = bytearray(b"".join(gen.parts(j)))
     pins = 4 + 10 * j["count"] + 8 * j["n"]
     for _ in range(rng.randint(1, 4)):

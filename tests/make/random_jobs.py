@@ -6,6 +6,7 @@ import subprocess
 
 import gen
 import jobs
+import larger
 import pins
 from lists import ANSWER, PROGRAM, WORKSPACE
 
@@ -137,3 +138,8 @@ def seeded(lines, count, seed, kinds=KINDS):
 def seeded_pins(lines, count, seed):
     """So many jobs of version 2."""
     yield from seeded(lines, count, f"pins {seed}", pins.KINDS)
+
+
+def seeded_larger(lines, count, seed):
+    """So many jobs of version 3."""
+    yield from seeded(lines, count, f"larger {seed}", larger.KINDS)

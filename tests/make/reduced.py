@@ -31,7 +31,7 @@ def lift(p, **fields):
 def lent(rng, p):
     """Both cases with every slice one too short, as long as asked or longer, and at times another count."""
     near = lambda n: max(0, n + rng.choice([0] * 9 + [-1, 1]))
-    count = rng.choice([len(p["entries"])] * 9 + [4478, 4479])
+    count = rng.choice([len(p["entries"])] * 9 + [4862, 4863])
     sized = lambda xs: (xs + [7])[: near(len(xs))]
     sub = {"m": p["size"], "count": count, **{name: sized([e[k] for e in p["entries"]]) for k, name in enumerate(("rows", "cols", "values"))}}
     sub |= {"map": p["map"], "fixed": p["fixed"], **{name: near(min(count, 1500)) for name in ("to_rows", "to_cols", "to_values")}}
@@ -180,18 +180,18 @@ def large(rng):
     if rng.randrange(2):
         size = rng.choice([1023, 1024])
         return problem(rng, size, entries=table(rng, size, rng.randrange(400), tables.values(rng)), fixed=[rng.randrange(size) for _ in range(rng.randrange(40))])
-    return full(rng, rng.choice([2000, 4477, 4478]))
+    return full(rng, rng.choice([2000, 4861, 4862]))
 
 
 def full(rng, count):
-    size = rng.randint(68, 90)
+    size = rng.randint(70, 90)
     places = sorted(rng.sample(range(size * size), count))
     return problem(rng, size, entries=[(k // size, k % size, rng.randint(0, 3)) for k in places], map=rng.sample(range(size), rng.randint(0, 30)))
 
 
 def entry_counts(rng):
     """Around 13; some have an index or an order wrong as well."""
-    p = full(rng, rng.choice([4478, 4479, 4480]))
+    p = full(rng, rng.choice([4862, 4863, 4864]))
     return disordered(rng, p) if rng.randrange(3) == 0 else p
 
 

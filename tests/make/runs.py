@@ -150,9 +150,9 @@ def settings_runs(rng):
 
 
 def wide(s):
-    s["n"] = 128
+    s["n"] = 256
     if "size" in s and s["size"] == 3:
-        s["size"] = 129
+        s["size"] = 257
 
 
 TABLE_FAULTS = [f for f in faults.HALL if "n" not in f.spoils] + [Fault(13, wide, spoils="n")]
@@ -248,7 +248,7 @@ def edge_runs(rng):
             given = {**o, "start": start, "most": most, "rank": rank, "numbers": gen.numbers(rng, needed + by), "factor": 3 * rank + max(by, 0)}
             lines.append((open_line(t, given), number))
     # a length that rests on a refused number
-    lines.append((open_line({**t, "n": 128, "c": []}, {**o, "numbers": [], "factor": 0}), 13))
+    lines.append((open_line({**t, "n": 256, "c": []}, {**o, "numbers": [], "factor": 0}), 13))
     lines.append((open_line({**t, "count": 4097, "rows": [], "cols": [], "values": []}, o), 13))
     lines.append((open_line(t, {**o, "rank": 33, "numbers": [], "factor": 0}), 17))
     lines.append((open_line(t, {**o, "start": 3, "numbers": []}), 19))
@@ -275,7 +275,7 @@ def edge_runs(rng):
         lines += [(record_line({**stopped, **change}), None), (finish_line(t, {**f, "factor": 0}), 33),
                   (finish_line(t, {**f, "factor": 0, "b": 1}), 31)]
     # 33 before 13, and sizes that agree though n is refused
-    for n, size, number in ((128, 3, 33), (128, 129, 13), (2**64 - 2, 2**64 - 1, 13), (2**64 - 1, 0, 33), (1, 3, 33), (3, 3, 31)):
+    for n, size, number in ((256, 3, 33), (256, 257, 13), (2**64 - 2, 2**64 - 1, 13), (2**64 - 1, 0, 33), (1, 3, 33), (3, 3, 31)):
         lines += [(record_line({**stopped, "size": size}), None), (finish_line({**t, "n": n}, {**f, "factor": 0}), number),
                   (record_line({**record, "size": size}), None), (sweep_line({**t, "n": n}, 1, 0), number)]
     # open at the most: 33 for a sweep, 32 for a finish
@@ -363,19 +363,20 @@ def random_runs(rng, count):
             yield [roomy(rng, line) for line in gen.script(rng)], None
 
 
-def large_runs(rng):
-    pairs = [(i, j) for i in range(127) for j in range(i)]
-    for rank, rule, most, edges, start in ((0, 3, 21, 2048, 0), (4, 1, 3, 300, 2)):
+def large_runs(rng, n=127, kinds=((0, 3, 21, 2048, 0), (4, 1, 3, 300, 2))):
+    """On n wagons, for each (rank, rule, most, pairs, start): all sweeps in one call."""
+    m, pairs = n + 1, [(i, j) for i in range(n) for j in range(i)]
+    for rank, rule, most, edges, start in kinds:
         h = {}
         for i, j in rng.sample(pairs, edges):
             h[i, j] = h[j, i] = rng.randint(-100, 100)
-        t = table(127, gen.entries(h), [rng.randint(-9, 9) for _ in range(127)])
-        r = rank or 17
+        t = table(n, gen.entries(h), [rng.randint(-9, 9) for _ in range(n)])
+        r = rank or gen.default_rank(m)
         lines = ["new", open_line(t, {
             "rank": rank, "rule": rule, "number": bits(0.001), "most": most, "minimum": 0, "objective": 0, "stationarity": bits(1e-9),
-            "start": start, "numbers": gen.numbers(rng, gen.start_count(start, most, 128, r), "usual"), "factor": 128 * r})]
-        lines.append(sweep_line(t, 2**32 - 1, 128 * r))
-        yield lines + [finish_line(t, finish_of(rng, 128, r, 16, 3))]
+            "start": start, "numbers": gen.numbers(rng, gen.start_count(start, most, m, r), "usual"), "factor": m * r})]
+        lines.append(sweep_line(t, 2**32 - 1, m * r))
+        yield lines + [finish_line(t, finish_of(rng, m, r, 16, 3))]
 
 
 # ---- more than 1,000 sweeps -------------------------------------------------------------------------

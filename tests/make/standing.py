@@ -187,7 +187,7 @@ def forged(rng):
     # sizes that agree though n is refused: 33 comes before 13
     for size, sweeps, total, number in (
             (2**64 - 1, 1, 2**64 - 1, 13), (2**64 - 1, 0, 1, 33), (2**64 - 1, most - 1, 2**64 - 1, 13), (2**63, 1, 2**63, 13), (2**63, 1, 2**63 + 1, 33), (2**63, 2, 2**64 - 1, 13),
-            (2**63, 3, 2**64 - 1, 13), (2**32 + 1, most - 1, 2**64 - 1, 33), (2**32 + 2, most - 1, 2**64 - 1, 33), (2**32 + 3, most - 1, 2**64 - 1, 13), (129, 2, 259, 33)):
+            (2**63, 3, 2**64 - 1, 13), (2**32 + 1, most - 1, 2**64 - 1, 33), (2**32 + 2, most - 1, 2**64 - 1, 33), (2**32 + 3, most - 1, 2**64 - 1, 13), (257, 2, 515, 33)):
         yield {**base, "size": size, "sweeps": sweeps, "most": most, "standing": total}, {**t, "n": size - 1}, {**finish, "factor": 0}, number
 
 

@@ -98,26 +98,30 @@ def add(lines):
     add_edges(lines, rng)
 
 
+def full_size(rng):
+    return rng.choice([256, rng.randint(1, 256), rng.randint(1, 128)])
+
+
 def full_table(rng, m):
     """A hall of m - 1 wagons with up to 4,096 entries."""
     return runs.some_table(rng, m - 1)
 
 
 def full_start(rng, rank, start):
-    m, most = rng.choice([128, rng.randint(1, 128)]), rng.randrange(2)
+    m, most = full_size(rng), rng.randrange(2)
     settings = {"rank": rank, "rule": 3, "number": 0, "most": most, "minimum": 0, "objective": 0, "stationarity": 0, "start": start}
     numbers = gen.factor(rng, m, rank) if start < 2 else gen.numbers(rng, gen.start_count(2, most, m, rank))
     return runs.open_line(full_table(rng, m), {**settings, "numbers": numbers, "factor": m * rank})
 
 
 def seeded(lines, count, seed):
-    """So many rounds: a step of each rule, an open of each start, multipliers and rounding at each rank, with up to 128 signs and 4,478 entries."""
+    """So many rounds: a step of each rule, an open of each start, multipliers and rounding at each rank, with up to 256 signs and 4,862 entries."""
     for turn in range(count):
         rng = random.Random(f"ranks {seed} {turn}")
         for rank in range(1, 33):
             asked = []
             for rule in range(5):
-                m = rng.choice([128, rng.randint(1, 128), rng.randint(1, 128)])
+                m = full_size(rng)
                 asked += script(rng, full_table(rng, m), fresh(rng, m, rank, rule), rng.choice([0, 1, 4]), rng.choice([1, 3]))
             asked += [full_start(rng, rank, start) for start in range(3)]
             runs.Answered(asked).add(lines)

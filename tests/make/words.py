@@ -1,11 +1,11 @@
-"""Choices in words: `pack_signs` and `distance` (02, Note 4), which the Rust has not. Numbers and values are those of oracle/model.py."""
+"""Choices in words: `pack_signs` and `distance` (02, Notes 4 and 5), which the Rust has not. Numbers and values are those of oracle/model.py."""
 import random
 
 import faults
 import model
 from faults import Fault, drop, put
 
-SIZES = [1, 63, 64, 65, 127, 128]
+SIZES = [1, 63, 64, 65, 127, 128, 129, 192, 193, 255, 256]
 BYTES = [0, 0, 1, 1, 2, 128, 255]
 WORD = 2**64 - 1
 
@@ -15,15 +15,15 @@ WORD = 2**64 - 1
 
 def pack(lines, m, signs, words):
     """The signs into a slice of so many words; the number."""
-    number = model.choice_number(m, (m, len(signs)), (model.CHOICE_WORDS, words))
+    number = model.choice_number(m, (m, len(signs)), (model.choice_words(m), words))
     lines.call("pack_signs", [], [m, signs, words], number, [] if number else [model.packed(signs[:m])])
     return number
 
 
 def apart(lines, m, x, y):
     """Two choices in words; the number."""
-    number = model.choice_number(m, (model.CHOICE_WORDS, len(x)), (model.CHOICE_WORDS, len(y)))
-    lines.call("distance", [], [m, x, y], number, [] if number else [model.distance(x, y)])
+    number = model.choice_number(m, (model.choice_words(m), len(x)), (model.choice_words(m), len(y)))
+    lines.call("distance", [], [m, x, y], number, [] if number else [model.distance(m, x, y)])
     return number
 
 
@@ -37,7 +37,7 @@ def differ(a, b):
 
 def choices(m):
     """All alike, stripes, and one sign − at each end and about the end of a word."""
-    ones = [bytes(int(k == i) for k in range(m)) for i in (0, 62, 63, 64, m - 1) if i < m]
+    ones = [bytes(int(k == i) for k in range(m)) for i in (0, 62, 63, 64, 127, 128, 192, m - 1) if i < m]
     return list(dict.fromkeys([bytes(m), bytes([1]) * m, bytes(k % 2 for k in range(m)), bytes(k % 3 % 2 for k in range(m)), *ones]))
 
 
@@ -46,11 +46,11 @@ def add_sizes(lines):
     for m in SIZES:
         some = choices(m)
         for signs in some:
-            pack(lines, m, signs, model.CHOICE_WORDS)
+            pack(lines, m, signs, model.choice_words(m))
         for a in some:
             for b in dict.fromkeys((a, *some[:2])):
                 x, y = model.packed(a), model.packed(b)
-                assert model.distance(x, y) == differ(a, b)
+                assert model.distance(m, x, y) == differ(a, b)
                 apart(lines, m, x, y)
 
 
@@ -59,43 +59,51 @@ def add_longer(lines, rng):
     for m in SIZES:
         signs = bytes(rng.choice(BYTES) for _ in range(m))
         for more in (1, 9):
-            pack(lines, m, signs + bytes([1]) * more, model.CHOICE_WORDS + more)
+            pack(lines, m, signs + bytes([1]) * more, model.choice_words(m) + more)
         x, y = model.packed(signs), model.packed(bytes(m))
         apart(lines, m, x + [WORD], y + [0])
         apart(lines, m, x + [WORD, 0, 1], y)
-        unused = model.packed(bytes(m) + bytes([1]) * (128 - m))
-        for a, b in ((x, [p | q for p, q in zip(y, unused)]), (unused, y), (unused, unused), ([WORD, WORD], [0, 0]), ([WORD, 0], [WORD, WORD])):
+        words = model.choice_words(m)
+        unused = model.packed(bytes(m) + bytes([1]) * (64 * words - m))
+        for a, b in ((x, [p | q for p, q in zip(y, unused)]), (unused, y), (unused, unused), ([WORD] * words, [0] * words), ([WORD] * (words - 1) + [0], [WORD] * words)):
             apart(lines, m, a, b)
+
+
+def add_pair(lines, m, a, b):
+    """How far two choices are apart."""
+    x, y = model.packed(a), model.packed(b)
+    assert model.distance(m, x, y) == differ(a, b)
+    apart(lines, m, x, y)
 
 
 def add_random(lines, rng):
     for _ in range(20):
-        m = rng.randint(1, 128)
+        m = rng.choice([rng.randint(1, 128), rng.randint(129, 256)])
         signs = lambda: bytes(rng.choice(BYTES) for _ in range(m))
-        pack(lines, m, signs(), model.CHOICE_WORDS + rng.randrange(3))
-        a, b = signs(), signs()
-        assert model.distance(model.packed(a), model.packed(b)) == differ(a, b)
-        apart(lines, m, model.packed(a), model.packed(b))
+        pack(lines, m, signs(), model.choice_words(m) + rng.randrange(3))
+        add_pair(lines, m, signs(), signs())
     for _ in range(20):
-        m, some = rng.randint(1, 128), lambda: [rng.getrandbits(64) for _ in range(model.CHOICE_WORDS)]
-        pack(lines, m, rng.randbytes(m + rng.randrange(3)), model.CHOICE_WORDS)
+        m = rng.choice([rng.randint(1, 128), rng.randint(129, 256)])
+        some = lambda: [rng.getrandbits(64) for _ in range(model.choice_words(m))]
+        pack(lines, m, rng.randbytes(m + rng.randrange(3)), model.choice_words(m))
         apart(lines, m, some(), some())
 
 
 # ---- faults: each alone, at one size every two that change different fields --------------------------
 
-REFUSED = [Fault(13, put(m=m), spoils="m") for m in (0, 129, WORD)]
+REFUSED = [Fault(13, put(m=m), spoils="m") for m in (0, 257, WORD)]
 CASES = {
-    "distance": ({"x": [5, WORD], "y": [6, 0]}, [Fault(31, drop(k, by), "m") for k in "xy" for by in (1, 2)] + REFUSED),
-    "pack_signs": ({"signs": None, "words": 2}, [Fault(31, drop("signs"), "m"), *[Fault(31, drop("words", by), "m") for by in (1, 2)]] + REFUSED),
+    "distance": [Fault(31, drop(k, by), "m") for k in "xy" for by in (1, 2)] + REFUSED,
+    "pack_signs": [Fault(31, drop("signs"), "m"), *[Fault(31, drop("words", by), "m") for by in (1, 2)]] + REFUSED,
 }
 
 
 def add_faults(lines):
-    for name, (base, kinds) in CASES.items():
+    for name, kinds in CASES.items():
         lines.heading(f"{name}: faults")
         for m in SIZES:
-            given = {"m": m, **base} if name == "distance" else {"m": m, **base, "signs": bytes([0, 1] * 64)[:m]}
+            words = model.choice_words(m)
+            given = {"m": m, "x": [5] + [WORD] * (words - 1), "y": [6] + [0] * (words - 1)} if name == "distance" else {"m": m, "signs": bytes([0, 1] * 128)[:m], "words": words}
             for some in [(), *(faults.in_pairs(kinds, given) if m == 65 else faults.single(kinds))]:
                 s = faults.at_once(given, some)
                 made = apart(lines, s["m"], s["x"], s["y"]) if name == "distance" else pack(lines, s["m"], s["signs"], s["words"])

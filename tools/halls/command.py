@@ -21,7 +21,7 @@ class Parser(argparse.ArgumentParser):
 
 
 def with_version(parser):
-    parser.add_argument("--version", action="version", version=f"{parser.prog} 1.0, for job records of version 1 and 2 and answer records of version 1")
+    parser.add_argument("--version", action="version", version=f"{parser.prog} 1.0, for job records of version 1 to 3 and answer records of version 1")
     return parser
 
 

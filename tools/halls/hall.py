@@ -11,7 +11,7 @@ COUNTING = [3, 4]  # the rules whose sweeps count the rows that they leave stand
 STARTS = ["random", "factor", "signs"]
 
 # 01's limits, and the characters of a name, so that it can be read in the picture.
-WAGONS, ENTRIES, MAGNITUDE, RANK, WIDTH, DRAWS, SWEEPS = 127, 4096, 2**40, 32, 128, 1000, 2**32 - 1
+WAGONS, ENTRIES, MAGNITUDE, RANK, WIDTH, DRAWS, SWEEPS = 255, 4096, 2**40, 32, 128, 1000, 2**32 - 1
 NAMES = {"wagon": 24, "row": 16}
 
 

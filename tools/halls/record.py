@@ -1,4 +1,4 @@
-"""A hall to its job record, and a job record back to a hall without names (01, "Job and answer records"; 02, Note 1 for version 2, with pins)."""
+"""A hall to its job record, and a job record back to a hall without names (01, "Job and answer records"; 02, Note 1 for version 2, with pins, Note 5 for version 3, of larger halls)."""
 import random
 import struct
 
@@ -7,6 +7,7 @@ from .hall import DRAWS, Hall
 from .text import Wrong, counted
 
 BYTES = 65536  # a job record, at most
+SMALL = 127  # wagons of versions 1 and 2, at most
 HEAD, SETTINGS = ">IBBH", ">BBdIIddBB"
 
 
@@ -14,29 +15,36 @@ def job_of(hall):
     """The job record; numbers that the file leaves open are made from its seed."""
     made = random.Random(hall.seed)
     start, draws = start_of(hall, made), draws_of(hall, made)
-    table = table_of(hall.pairs, hall.costs) + pins_of(hall)
+    version = version_of(len(hall.names), hall.pins)
+    table = table_of(hall.pairs, hall.costs) + pins_of(version, hall.pins)
     settings = struct.pack(SETTINGS, hall.rank, hall.rule, hall.number, hall.most, hall.minimum, *hall.tolerances, hall.width, hall.start)
     parts = table, settings + doubles(start), struct.pack(">H", len(draws)) + b"".join(map(doubles, draws))
     length = struct.calcsize(HEAD) + sum(map(len, parts))
     if length > BYTES:
         raise too_long(hall, length, parts)
-    return struct.pack(HEAD, length - 4, 2 if hall.pins else 1, len(hall.names), len(hall.pairs)) + b"".join(parts)
+    return struct.pack(HEAD, length - 4, version, len(hall.names), len(hall.pairs)) + b"".join(parts)
 
 
 def free_job(job):
-    """The job of version 1 that has the same run: of the wagons that aren't pinned alone, with this job's settings, start and draws."""
+    """The job without pins that has the same run: of the wagons that aren't pinned alone, with this job's settings, start and draws."""
     pairs, costs, _ = free_part(hall_of(job))
-    parts = table_of(pairs, costs) + job[places(job)[-1] :]
-    return struct.pack(HEAD, struct.calcsize(HEAD) - 4 + len(parts), 1, len(costs), len(pairs)) + parts
+    version = version_of(len(costs), {})
+    parts = table_of(pairs, costs) + pins_of(version, {}) + job[places(job)[-1] :]
+    return struct.pack(HEAD, struct.calcsize(HEAD) - 4 + len(parts), version, len(costs), len(pairs)) + parts
+
+
+def version_of(wagons, pins):
+    """The first version that has so many wagons, and these pins."""
+    return 3 if wagons > SMALL else 2 if pins else 1
 
 
 def table_of(pairs, costs):
     return b"".join(struct.pack(">BBq", i, k, v) for (i, k), v in sorted(pairs.items())) + struct.pack(f">{len(costs)}q", *costs)
 
 
-def pins_of(hall):
-    """Count, and wagon and store of each; no byte where there is no pin, which is version 1."""
-    return bytes([len(hall.pins), *(x for pin in sorted(hall.pins.items()) for x in pin)]) if hall.pins else b""
+def pins_of(version, pins):
+    """Count, and wagon and store of each; no byte in version 1."""
+    return bytes([len(pins), *(x for pin in sorted(pins.items()) for x in pin)]) if version > 1 else b""
 
 
 def start_of(hall, made):
@@ -102,4 +110,4 @@ def places(job):
     _, version, n, entries = struct.unpack_from(HEAD, job)
     costs = struct.calcsize(HEAD) + 10 * entries
     pins = costs + 8 * n
-    return n, costs, pins, pins + (1 + 2 * struct.unpack_from(">B", job, pins)[0] if version == 2 else 0)
+    return n, costs, pins, pins + (1 + 2 * struct.unpack_from(">B", job, pins)[0] if version > 1 else 0)

@@ -1,4 +1,4 @@
-// Makes the run of a job of version 1 (standard input) again by the library's open, sweep and finish, and writes what the finish gives, a line `name=value`
+// Makes the run of a job without pins, of version 1 or 3 (standard input), again by the library's open, sweep and finish, and writes what the finish gives, a line `name=value`
 // for each; `standing`, the rows that the sweeps left as they were, is what the answer record doesn't hold. Ends with 1 and a sentence where a call refuses.
 #include <stdio.h>
 #include <stdlib.h>
@@ -43,11 +43,14 @@ static wagonplan_f64 take_doubles(double *to, size_t many) {
     return taken;
 }
 
-static void take_frame(void) {
+// The frame; answers the version.
+static uint64_t take_frame(void) {
     length = fread(job, 1, sizeof job, stdin);
     if (length > WAGONPLAN_JOB_MOST) end("The job is too long.");
     if (take(4) != length - 4) end("The job has another length than it says.");
-    if (take(1) != 1) end("The job isn't of version 1.");
+    uint64_t version = take(1);
+    if (version != 1 && version != 3) end("The job isn't of version 1 or 3.");
+    return version;
 }
 
 static wagonplan_table take_table(void) {
@@ -100,8 +103,9 @@ int main(void) {
     wagonplan_result result;
     size_t width;
     if (!wagonplan_fits()) end("The archive isn't the header's.");
-    take_frame();
+    uint64_t version = take_frame();
     wagonplan_table table = take_table();
+    if (version > 1 && take(1) != 0) end("The job has pins.");
     wagonplan_settings settings = take_settings(&width);
     size_t m = table.n + 1, rank = settings.rank ? settings.rank : wagonplan_default_sdp_rank((uint16_t)m);
     wagonplan_f64 from = take_doubles(start, start_count(&settings, m, rank));

@@ -3,11 +3,11 @@ use Prim.Native.Nat.{ℕ}
 use mathlib.Core.List.{List, [], _∷_}
 use Rattle.laws.specs.Lists.{elem}
 use Rattle.limits.specs.Limits.{mostWagons, mostEntries, mostSigns, mostSignEntries, mostRank, mostWidth, mostDraws, mostStart, searchWorkspace, recordWorkspace, mostBytes, leastAnswer, mostSize}
-use Rattle.sign_calls.specs.Size.{signWords}
+use Rattle.sign_words.specs.Size.{signWords}
 use Rattle.exports.specs.Words.{runWords, settingWords, resultWords}
 
 abbrev pub callsVersion : ℕ
-callsVersion = 3
+callsVersion = 4
 
 -- in the order of `enum wagonplan_sizes` of include/wagonplan.h
 abbrev pub sizes : List ℕ

@@ -4,7 +4,7 @@ use sign_calls::distance;
 use sign_calls::pack_signs;
 ghost use mathlib.Core.Path.{_≡_};
 ghost use Rattle.sign_words.specs.Distance.{onesApart};
-ghost use Rattle.sign_calls.specs.Size.{signWords};
+ghost use Rattle.sign_words.specs.Size.{signWords};
 ghost use Rattle.sign_calls.specs.Numbers.{distanceNumber};
 ghost use Rattle.sign_calls.specs.Answers.{distanceAnswer, PacksSigns};
 ghost use Rattle.exports.specs.Answers.{apartBy, Stays};

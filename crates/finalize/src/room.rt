@@ -12,6 +12,9 @@ ghost use Rattle.limits.specs.Limits.{mostSigns, mostSignEntries, mostRank, mos
 
 const ROW_STARTS: usize = MOST_SIGNS + 1;
 
+// A place more than a factor has.
+const SUMS: usize = MOST_FACTOR + 1;
+
 // Rows or columns of a table.
 pub fn indices() -> [u16; MOST_SIGN_ENTRIES]
     ensures { λ r. ⌜ r ≡ replicate mostSignEntries 0 ⌝ }
@@ -50,6 +53,14 @@ pub fn rows_of_numbers() -> [f64; MOST_FACTOR]
     ensures { λ r. ⌜ mostFactor ≡ length r ⌝ }
 {
     [0.0; MOST_FACTOR]
+}
+
+// The same with a place behind them: beside the others a sweep's sums then start where 16 divides, and rule 2 takes 7 % less (docs/BENCH.md).
+pub fn rows_of_sums() -> [f64; SUMS]
+    ensures { λ r. ⌜ r ≡ replicate (mostFactor + 1) zero64 ⌝ }
+    ensures { λ r. ⌜ mostFactor + 1 ≡ length r ⌝ }
+{
+    [0.0; SUMS]
 }
 
 // A number for each sign.

@@ -1,6 +1,6 @@
 -- Jobs, computed. 01's example: n 1, H_00 = 2, c_0 = −3, rank 0, rule 3 (number 0), sweeps 0 and 0, tolerances 0, W 1, start signs 1.0 1.0,
 -- one draw 1.0 0.0; length field 92.
-use Prim.Native.Nat.{ℕ, _-_, _*_}
+use Prim.Native.Nat.{ℕ, _-_, _*_, _/_, _%_}
 use mathlib.Core.Path.{_≡_, refl}
 use mathlib.Core.List.{List, [], _∷_, _++_, map}
 use lib.ListN.{length, replicate, set, take}
@@ -68,7 +68,7 @@ example-numbers = (refl, refl)
 unfoldable pub refused : List (List ℕ)
 refused =
     -- a wrong length, before a wrong version; a wrong version; n 128; 4,097 entries
-    set (set example 3 91) 4 3 ∷ set example 4 3 ∷ set example 5 128 ∷ set (set example 6 16) 7 1
+    set (set example 3 91) 4 4 ∷ set example 4 4 ∷ set example 5 128 ∷ set (set example 6 16) 7 1
     -- row 1 of 1, before the magnitude; 2 entries, of which the second is out of order; the only entry out of range and cut short; a
     -- second entry cut short behind one out of range
     ∷ set (set example 8 1) 10 1 ∷ set example 7 2 ∷ (0 ∷ 0 ∷ 0 ∷ 13 ∷ 1 ∷ 1 ∷ 0 ∷ 1 ∷ 9 ∷ 9 ∷ replicate 7 0) ∷ (0 ∷ 0 ∷ 0 ∷ 15 ∷ 1 ∷ 1 ∷ 0 ∷ 2 ∷ 9 ∷ 9 ∷ replicate 9 0)
@@ -89,7 +89,7 @@ refusals = refl
 -- ---- pins: n 2, H_01 = H_10 = 3, c = −1, −1; the settings of above, start signs 1.0 each and one draw 1.0 0.0 ..
 
 abbrev lengthened : List ℕ → List ℕ
-lengthened body = 0 ∷ 0 ∷ 0 ∷ length body ∷ body
+lengthened body = 0 ∷ 0 ∷ length body / 256 ∷ length body % 256 ∷ body
 
 abbrev hall : List ℕ
 hall = (2 ∷ 2 ∷ 0 ∷ 2 ∷ 0 ∷ 1 ∷ []) ++ replicate 7 0 ++ (3 ∷ 1 ∷ 0 ∷ []) ++ replicate 7 0 ++ (3 ∷ []) ++ replicate 16 255
@@ -144,9 +144,26 @@ pins-refused =
     ∷ lengthened (hall ++ (3 ∷ 0 ∷ 0 ∷ 1 ∷ 1 ∷ 1 ∷ [])) ∷ lengthened (2 ∷ 0 ∷ 0 ∷ 0 ∷ 1 ∷ 0 ∷ 0 ∷ [])
     -- the magnitude, before wagon 9; store 2, before rank 33; rank 33; signs for all wagons; a version that isn't known
     ∷ set (set (set pinned 10 1) 20 1) 45 9 ∷ set (set pinned 46 2) 47 33 ∷ set pinned 47 33
-    ∷ lengthened (hall ++ (1 ∷ 0 ∷ 0 ∷ []) ++ settings ++ one ++ one ++ one ++ draw 3) ∷ set pinned 4 3
+    ∷ lengthened (hall ++ (1 ∷ 0 ∷ 0 ∷ []) ++ settings ++ one ++ one ++ one ++ draw 3) ∷ set pinned 4 4
     ∷ []
 
 pub pin-refusals : map jobNumber pins-refused ≡ (11 ∷ 11 ∷ 11 ∷ 11 ∷ 11 ∷ 11 ∷ 21 ∷ 21 ∷ 21 ∷ 21 ∷ 21 ∷ 16 ∷ 21 ∷ 17 ∷ 19 ∷ 12 ∷ [])
 unfolding pins-refused pinned bigEndian versions pinCountBy freeBy settingsBy numberBy headNumbers entriesNumbers costsNumbers pinsNumbersBy pinsNumbers pinNumber pinnedBefore runNumbers settingsNumbers drawsNumbers frameNumber versionNumber boundedNumber entryNumber momentumNumber orElse first firstOf anyOf anyBelow total before badEntry unmirrored rootFrom leastRoot defaultRank rankMeant startLength
 pin-refusals = refl
+
+-- ---- larger houses: heads of 127, 128 and 255 wagons in each version, c absent
+
+abbrev begun : ℕ → ℕ → List ℕ
+begun version n = 0 ∷ 0 ∷ 0 ∷ 4 ∷ version ∷ n ∷ 0 ∷ 0 ∷ []
+
+pub larger-heads : map jobNumber (begun 1 127 ∷ begun 1 128 ∷ begun 2 127 ∷ begun 2 128 ∷ begun 3 128 ∷ begun 3 255 ∷ begun 4 128 ∷ []) ≡ (11 ∷ 13 ∷ 11 ∷ 13 ∷ 11 ∷ 11 ∷ 12 ∷ [])
+unfolding bigEndian versions pinCountBy freeBy settingsBy numberBy headNumbers entriesNumbers costsNumbers pinsNumbersBy pinsNumbers pinNumber pinnedBefore runNumbers settingsNumbers drawsNumbers frameNumber versionNumber boundedNumber entryNumber momentumNumber orElse first firstOf anyOf anyBelow total before badEntry unmirrored rootFrom leastRoot defaultRank rankMeant startLength
+larger-heads = refl
+
+-- version 3, n 128, no entries, c 0, no pins; rank 1, the settings of above, signs 0.0 and one draw 0.0
+unfoldable pub larger : List ℕ
+larger = lengthened ((3 ∷ 128 ∷ 0 ∷ 0 ∷ []) ++ replicate 1024 0 ++ (0 ∷ 1 ∷ 3 ∷ []) ++ replicate 32 0 ++ (1 ∷ 2 ∷ []) ++ replicate 1032 0 ++ (0 ∷ 1 ∷ []) ++ replicate 8 0)
+
+pub larger-accepted : jobNumber larger ≡ 0
+unfolding larger bigEndian versions pinCountBy freeBy settingsBy numberBy headNumbers entriesNumbers costsNumbers pinsNumbersBy pinsNumbers pinNumber pinnedBefore runNumbers settingsNumbers drawsNumbers frameNumber versionNumber boundedNumber entryNumber momentumNumber orElse first firstOf anyOf anyBelow total before badEntry unmirrored rootFrom leastRoot defaultRank rankMeant startLength
+larger-accepted = refl

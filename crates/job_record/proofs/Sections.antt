@@ -1,15 +1,16 @@
 -- What holds of a section that is not refused.
 use Prim.Native.Nat.{ℕ, zero, suc, _+_, _*_, _≤_}
 use mathlib.Core.Path.{_≡_, refl, sym, _∙_}
-use mathlib.Core.Bool.{Bool, true, false, _&&_, not}
+use mathlib.Core.Bool.{Bool, true, false, cond, _&&_, not}
 use mathlib.Core.List.{List}
 use native.Mathlib.Omega.{arith}
 use borrow.Author.Tests.{ltb-false, eqb-true, eqb-false, not-false, eq-eqb}
+use lib.Dec.{ltb}
 use lib.ListN.{length}
 use Rattle.laws.specs.Refusal.{first}
 use Rattle.laws.proofs.Refusal.{clear, both, first-head, first-rest}
 use Rattle.laws.proofs.Following.{first-append}
-use Rattle.limits.specs.Limits.{mostWagons, mostEntries, mostRank, mostWidth, mostDraws, lastRule, lastStart, mostBytes}
+use Rattle.limits.specs.Limits.{mostWagons, smallWagons, mostEntries, mostRank, mostWidth, mostDraws, lastRule, lastStart, mostBytes}
 use Rattle.job_reader.specs.Bytes.{bigEndian}
 use Rattle.run_limits.specs.Momentum.{isMomentum}
 use Rattle.job_record.specs.Versions.{known, versions}
@@ -18,9 +19,13 @@ use Rattle.job_record.specs.Number.{frameNumber, versionNumber, headNumb
 use Rattle.job_record.proofs.Bounded.{bounded-passed}
 
 -- no version has more wagons than the library allows
+small-or-most : (large : Bool) → cond large mostWagons smallWagons ≤ mostWagons
+small-or-most true = omega arith
+small-or-most false = omega arith
+
 pub most-wagons : (v : ℕ) → versions .most v ≤ mostWagons
 unfolding versions
-most-wagons v = omega arith
+most-wagons v = small-or-most (ltb 2 v)
 
 -- the frame, the version, n and the entry count
 pub record Head (s : List ℕ) : Type 0 where

@@ -1,9 +1,13 @@
 // The versions of job records, one table (specs/Versions.antt).
 use limits::MOST_WAGONS;
+use limits::SMALL_WAGONS;
 ghost use mathlib.Core.Path.{_≡_};
 ghost use Rattle.job_record.specs.Versions.{known, versions};
 
-const LAST_VERSION: u64 = 2;
+const LAST_VERSION: u64 = 3;
+
+// The last that is of a small house.
+const LAST_SMALL: u64 = 2;
 
 // Versions 1 to the last.
 pub fn is_known(version: u64) -> bool
@@ -19,7 +23,10 @@ pub fn is_known(version: u64) -> bool
 pub fn most_wagons_of(version: u64) -> usize
     ensures { λ r. ⌜ r ≡ versions .most version ⌝ }
 {
-    MOST_WAGONS
+    if LAST_SMALL < version {
+        return MOST_WAGONS;
+    }
+    SMALL_WAGONS
 }
 
 // Whether a version carries pins.

@@ -4,7 +4,7 @@ use Prim.Native.Nat.{ℕ, _+_, _*_, _^_, _/_}
 -- ---- (H, c)
 
 abbrev pub mostWagons : ℕ
-mostWagons = 127
+mostWagons = 255
 
 abbrev pub mostEntries : ℕ
 mostEntries = 4096
@@ -49,17 +49,27 @@ mostFactor = mostSigns * mostRank
 abbrev pub mostStart : ℕ
 mostStart = mostSigns + mostFactor
 
--- the words of a choice, 64 signs in each
+-- a house of at most so many wagons is small: what jobs of versions 1 and 2 have, and whose choices take no more words than before the larger ones
+abbrev pub smallWagons : ℕ
+smallWagons = 127
+
+abbrev pub smallSigns : ℕ
+smallSigns = smallWagons + 1
+
+-- the words of a choice, 64 signs in each; of a small house's
 abbrev pub mostWords : ℕ
 mostWords = (mostSigns + 63) / 64
+
+abbrev pub smallWords : ℕ
+smallWords = (smallSigns + 63) / 64
 
 -- the workspace of a search, and so of a finish, in words: a level, as many choices as there are signs or places
 abbrev pub searchWorkspace : ℕ
 searchWorkspace = mostSigns * mostWords
 
--- the workspace of the record call, in bytes
+-- the workspace of the record call, in bytes: 01's, whatever a search takes
 abbrev pub recordWorkspace : ℕ
-recordWorkspace = mostSigns * mostSigns
+recordWorkspace = 16384
 
 -- ---- a job record, and an answer's slice
 

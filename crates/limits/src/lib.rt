@@ -1,7 +1,7 @@
 // 01's limits, each named once; specs/Limits.antt has the same names. What follows from another limit is computed from it.
 
 // (H, c)
-pub const MOST_WAGONS: usize = 127;
+pub const MOST_WAGONS: usize = 255;
 
 pub const MOST_ENTRIES: usize = 4_096;
 
@@ -31,14 +31,21 @@ pub const MOST_FACTOR: usize = MOST_SIGNS * MOST_RANK;
 
 pub const MOST_START: usize = MOST_SIGNS + MOST_FACTOR;
 
-// The words of a choice, 64 signs in each.
+// A house of at most so many wagons is small: what jobs of versions 1 and 2 have, and whose choices take no more words than before the larger ones.
+pub const SMALL_WAGONS: usize = 127;
+
+pub const SMALL_SIGNS: usize = SMALL_WAGONS + 1;
+
+// The words of a choice, 64 signs in each; of a small house's.
 pub const MOST_WORDS: usize = (MOST_SIGNS + 63) / 64;
+
+pub const SMALL_WORDS: usize = (SMALL_SIGNS + 63) / 64;
 
 // The workspace of a search, and so of a finish, in words: a level, as many choices as there are signs or places.
 pub const SEARCH_WORKSPACE: usize = MOST_SIGNS * MOST_WORDS;
 
-// The workspace of the record call, in bytes.
-pub const RECORD_WORKSPACE: usize = MOST_SIGNS * MOST_SIGNS;
+// The workspace of the record call, in bytes: 01's, whatever a search takes.
+pub const RECORD_WORKSPACE: usize = 16_384;
 
 // A job record, and as many doubles as any job has in its draws.
 pub const MOST_BYTES: usize = 65_536;

@@ -54,7 +54,7 @@ numbers-are : numbers ≡ (0 ∷ 31 ∷ 13 ∷ 14 ∷ 20 ∷ 20 ∷ 20 ∷ 20 �
 unfolding numbers four submatrixNumber inputNumber shortTable indexRefused outside twice badOrder badEntry before first orElse anyOf short anyBelow
 numbers-are = refl
 
--- at 01's limits, with empty slices: size 1,024 accepted, 1,025 is 20; 4,479 entries are 13, and 4,478 are asked of the slices
+-- at the limits, with empty slices: size 1,024 accepted, 1,025 is 20; 4,863 entries are 13, and 4,862 are asked of the slices
 none : Slices
 none = slicesOf [] [] []
 
@@ -62,8 +62,8 @@ limits : List ℕ
 limits =
     submatrixNumber mostSize mostSignEntries 1024 0 none [] [] none
     ∷ submatrixNumber mostSize mostSignEntries 1025 0 none [] [] none
-    ∷ submatrixNumber mostSize mostSignEntries 1024 4479 none [] [] none
-    ∷ submatrixNumber mostSize mostSignEntries 1024 4478 none [] [] none
+    ∷ submatrixNumber mostSize mostSignEntries 1024 4863 none [] [] none
+    ∷ submatrixNumber mostSize mostSignEntries 1024 4862 none [] [] none
     ∷ []
 
 limits-are : limits ≡ (0 ∷ 20 ∷ 13 ∷ 31 ∷ [])

@@ -62,7 +62,7 @@ sweeping k lent = sweep (record { table = hall; k = k; factor-length = lent })
 
 abbrev finishing : Call
 finishing =
-    finish (record { table = hall; width = 1; draw-count = 1; draws = one64 ∷ []; factor-length = 2; b-length = 1; dual-length = 2; workspace-length = 256 })
+    finish (record { table = hall; width = 1; draw-count = 1; draws = one64 ∷ []; factor-length = 2; b-length = 1; dual-length = 2; workspace-length = 1024 })
 
 -- what is looked at, floats as their bits
 pub record Shown : Type 0 where

@@ -15,7 +15,7 @@ pub enum BeamSearched {
 }
 
 // 01's local search from the first m signs of `start`, of which any byte but 0 is −. The signs of the answer go to `out`, as 0 and 1.
-// The workspace holds a level: 256 words at least; a longer one keeps its tail.
+// The workspace holds a level: 1,024 words at least; a longer one keeps its tail.
 pub fn beam_search(
     m: usize,
     count: usize,

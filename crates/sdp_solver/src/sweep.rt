@@ -32,7 +32,7 @@ fn sweep_work(
     ensures { λ r. ⌜ (r ≡ sweepsUpTo k (work (now (rows .entry)) (now (cols .entry)) (now (values .entry)) (now (starts .entry))) run (now (factor .entry)) .run)
         × (now (factor .exit) ≡ sweepsUpTo k (work (now (rows .entry)) (now (cols .entry)) (now (values .entry)) (now (starts .entry))) run (now (factor .entry)) .factor) ⌝ }
 {
-    let mut product = room::rows_of_numbers();
+    let mut product = room::rows_of_sums();
     let mut moved = room::rows_of_numbers();
     let mut dual = room::numbers();
     let m = run.size;

@@ -8,7 +8,6 @@ use native.Mathlib.Omega.{arith}
 use borrow.Author.Tests.{le-ltb}
 use lib.Bits.{bitXor}
 use lib.Count.{ones}
-use lib.Dec.{lit<}
 use lib.ListN.{length, take, drop}
 use lib.Seq.{length-take-le, getD-take}
 use Rattle.laws.specs.Lists.{elem, over}
@@ -17,26 +16,16 @@ use Rattle.laws.specs.Sum.{total}
 use Rattle.laws.proofs.Any.{any-head, any-rest, any-not, any-none}
 use Rattle.laws.proofs.Refusal.{clear, first-skip, first-end}
 use Rattle.laws.proofs.Totals.{total-ext}
-use Rattle.limits.specs.Limits.{mostSigns}
 use Rattle.tables.specs.Check.{badSigns}
 use Rattle.tables.proofs.Checks.{long-enough}
 use Rattle.table_calls.proofs.Accepting.{two-parts, signs-parts, short-open}
 use Rattle.sign_words.specs.Packed.{packed}
 use Rattle.sign_words.specs.Distance.{onesApart}
+use Rattle.sign_words.proofs.Sizes.{few-words, enough-words}
 use Rattle.sign_words.proofs.PackedLaws.{length-packed}
-use Rattle.sign_calls.specs.Size.{signWords}
+use Rattle.sign_words.specs.Size.{signWords}
 use Rattle.sign_calls.specs.Numbers.{distanceShort, distanceNumber, packShort, packNumber}
 use Rattle.sign_calls.specs.Answers.{PacksSigns}
-
--- ---- the words of a choice
-
-pub few-words : (m : ℕ) → signWords m < 65536
-unfolding signWords
-few-words m = lit< tt
-
-pub enough-words : (m : ℕ) → m ≤ mostSigns → m ≤ 64 * signWords m
-unfolding signWords
-enough-words m h = omega arith
 
 -- ---- `distance`
 
@@ -46,7 +35,7 @@ module _ (m : ℕ) (x y : List ℕ) where
   distance-accepted e z count =
       let (s, k) = two-parts (distanceShort m x y) _ (sym e ∙ z) in
       let good : badSigns m ≡ false = clear (badSigns m) 12 k in
-      rw count (long-enough (any-head _ _ s) good, long-enough (any-head _ _ (any-rest _ _ s)) good, few-words m)
+      rw count (long-enough (any-head _ _ s) good, long-enough (any-head _ _ (any-rest _ _ s)) good, omega (arith, few-words m))
 
   pub distance-passes : badSigns m ≡ false → signWords m ≤ length x → signWords m ≤ length y → distanceNumber m x y ≡ 0
   unfolding distanceNumber distanceShort
@@ -77,7 +66,7 @@ module _ (m : ℕ) (signs words : List ℕ) where
       → (m ≤ length signs) × (count ≤ length words) × (count < 65536) × (m ≤ 64 * count)
   pack-room e z count =
       let (good, long, room) = pack-accepted (sym e ∙ z) in
-      rw count (long, room, few-words m, enough-words m (signs-parts m good .1))
+      rw count (long, room, omega (arith, few-words m), enough-words m (signs-parts m good .1))
 
   pub packs-refused : {number : ℕ} → number ≡ packNumber m signs words → (number ≡ 0 → ⊥) → PacksSigns m signs words number words
   packs-refused e n = record { numbered = e; refused = λ _. refl; accepted = λ z. absurd (n z) }

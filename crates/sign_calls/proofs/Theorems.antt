@@ -15,14 +15,15 @@ use Rattle.table_calls.proofs.Accepting.{accepted-is, signs-parts}
 use Rattle.sign_words.specs.Signs.{signDigit, Binary}
 use Rattle.sign_words.specs.Packed.{signIn, unpacked, packed, Tidy}
 use Rattle.sign_words.specs.Distance.{onesApart, placesApart}
+use Rattle.sign_words.proofs.Sizes.{enough-words}
 use Rattle.sign_words.proofs.PackedLaws.{length-packed, sign-packed, tidy-packed, unpacked-packed}
 use Rattle.sign_words.proofs.DistanceLaws.{packed-apart}
 use Rattle.sign_calls.specs.declared.Apart.{Apart}
 use Rattle.sign_calls.specs.declared.Apart.the-variants as A
-use Rattle.sign_calls.specs.Size.{signWords}
+use Rattle.sign_words.specs.Size.{signWords}
 use Rattle.sign_calls.specs.Numbers.{distanceNumber}
 use Rattle.sign_calls.specs.Answers.{distanceAnswer, PacksSigns}
-use Rattle.sign_calls.proofs.Accepting.{enough-words, pack-accepted, distance-passes, first-words}
+use Rattle.sign_calls.proofs.Accepting.{pack-accepted, distance-passes, first-words}
 
 -- an accepted call of `pack_signs`
 module _ (m : ℕ) (signs words : List ℕ) {words′ : List ℕ} (p : PacksSigns m signs words 0 words′) where

@@ -5,7 +5,7 @@ use Prim.Native.Nat.{ℕ}
 use lib.ListN.{take}
 use Rattle.laws.specs.Lists.{over}
 use Rattle.table_calls.specs.Answer.{answered}
-use Rattle.sign_calls.specs.Size.{signWords}
+use Rattle.sign_words.specs.Size.{signWords}
 use Rattle.sign_words.specs.Packed.{packed}
 use Rattle.sign_calls.specs.declared.Apart.{Apart}
 use Rattle.sign_calls.specs.declared.Apart.the-variants as A

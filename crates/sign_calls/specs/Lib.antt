@@ -1,3 +1,2 @@
-pub mod Size
 pub mod Numbers
 pub mod Answers

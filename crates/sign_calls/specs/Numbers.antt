@@ -5,7 +5,7 @@ use Prim.Native.Nat.{ℕ}
 use lib.ListN.{length}
 use Rattle.laws.specs.Refusal.{_if_, first, anyOf, short}
 use Rattle.tables.specs.Check.{badSigns}
-use Rattle.sign_calls.specs.Size.{signWords}
+use Rattle.sign_words.specs.Size.{signWords}
 
 -- `distance`: the words of m signs, of either choice
 unfoldable pub distanceShort : ℕ → List ℕ → List ℕ → Bool

@@ -1,15 +1,14 @@
 // The calls on choices in words. Neither has a `requires`: what can't be used is refused by its number, and a refusal writes nothing.
 mod numbers;
-mod size;
 
 use crate::numbers::distance_number;
 use crate::numbers::pack_number;
-use crate::size::sign_words;
 use sign_words::distance;
 use sign_words::pack::pack;
+use sign_words::size::sign_words;
 ghost use mathlib.Core.Path.{_≡_};
+ghost use Rattle.sign_words.specs.Size.{signWords};
 ghost use Rattle.sign_words.specs.Distance.{onesApart};
-ghost use Rattle.sign_calls.specs.Size.{signWords};
 ghost use Rattle.sign_calls.specs.Numbers.{distanceNumber};
 ghost use Rattle.sign_calls.specs.Answers.{distanceAnswer, PacksSigns};
 

@@ -1,5 +1,5 @@
 // The number of each call, 0 where it is accepted. These write nothing.
-use crate::size::sign_words;
+use sign_words::size::sign_words;
 use tables::check::bad_signs;
 use tables::check::too_short;
 ghost use mathlib.Core.Path.{_≡_};

@@ -7,10 +7,11 @@ use limits::SEARCH_WORKSPACE;
 use local_search::least::keep_least;
 use sign_words::pack::pack;
 use sign_words::pack::unpack;
+use sign_words::size::sign_words;
 use sign_words::words::copy;
 use tables::objective::obj_rounded;
 ghost use mathlib.Core.Path.{_≡_};
-ghost use Prim.Native.Nat.{_≤_};
+ghost use Prim.Native.Nat.{_*_, _≤_};
 ghost use lib.ListN.{length};
 ghost use Rattle.limits.specs.Limits.{mostSigns, mostWords};
 ghost use Rattle.tables.specs.Table.{tableOf, Lent};
@@ -108,7 +109,8 @@ fn search_packed(
     level: &mut [u64],
 ) -> Searched
     requires { ⌜ LevelRoom mostSigns mostWords (length (now current)) width (length (now level))
-        × (1 ≤ width) × (length (now kept) ≡ mostWords) × Sound (length (now current)) (tableOf entries (now rows) (now cols) (now values))
+        × (1 ≤ width) × (length (now kept) ≤ mostWords) × (length (now current) ≤ 64 * length (now kept))
+        × Sound (length (now current)) (tableOf entries (now rows) (now cols) (now values))
         × (objective ≡ objectiveIn (tableOf entries (now rows) (now cols) (now values)) (now current))
         × StartRow (now current) (now kept) (now «current_row»)
         × Lent entries (now rows) (now cols) (now values) ⌝ }
@@ -140,7 +142,47 @@ fn search_packed(
     )
 }
 
-// The same from the signs in `current`, which takes the answer: packed at the start, unpacked at the end.
+// The same from the signs in `current`, which takes the answer: packed into `kept` at the start, unpacked at the end.
+fn search_words(
+    entries: usize,
+    rows: &[u16],
+    cols: &[u16],
+    values: &[i64],
+    width: usize,
+    objective: i64,
+    kept: &mut [u64],
+    current: &mut [u8],
+    current_row: &mut [u64],
+    level: &mut [u64],
+) -> Searched
+    requires { ⌜ LevelRoom mostSigns mostWords (length (now current)) width (length (now level))
+        × (1 ≤ width) × (length (now kept) ≤ mostWords) × (length (now current) ≤ 64 * length (now kept)) × (length (now «current_row») ≡ length (now kept))
+        × Binary (now current) × Sound (length (now current)) (tableOf entries (now rows) (now cols) (now values))
+        × (objective ≡ objectiveIn (tableOf entries (now rows) (now cols) (now values)) (now current))
+        × Lent entries (now rows) (now cols) (now values) ⌝ }
+    ensures { λ r. ⌜ (parentOf (r .least) (now (current .exit)) ≡ searchedIn (tableOf entries (now (rows .entry)) (now (cols .entry)) (now (values .entry))) width
+        (parentOf objective (now (current .entry))) .answer) × (r .rounds ≡ searchedIn (tableOf entries (now (rows .entry)) (now (cols .entry)) (now (values .entry)))
+        width (parentOf objective (now (current .entry))) .rounds) ⌝ }
+{
+    pack(current, kept);
+    copy(current_row, kept);
+    let found = search_packed(
+        entries,
+        rows,
+        cols,
+        values,
+        width,
+        objective,
+        kept,
+        current,
+        current_row,
+        level,
+    );
+    unpack(kept, current);
+    found
+}
+
+// The same in as many words as a choice of so many signs takes.
 fn search_room(
     entries: usize,
     rows: &[u16],
@@ -161,22 +203,19 @@ fn search_room(
 {
     let mut kept: [u64; MOST_WORDS] = [0; MOST_WORDS];
     let mut current_row: [u64; MOST_WORDS] = [0; MOST_WORDS];
-    pack(current, &mut kept);
-    copy(&mut current_row, &kept);
-    let found = search_packed(
+    let words = sign_words(current.len());
+    search_words(
         entries,
         rows,
         cols,
         values,
         width,
         objective,
-        &mut kept,
+        &mut kept[0..words],
         current,
-        &mut current_row,
+        &mut current_row[0..words],
         level,
-    );
-    unpack(&kept, current);
-    found
+    )
 }
 
 // 01's local search from the signs in `kept`, each 0 or 1, which takes the answer; with width 0 the start stands. The rows of a level go to `level`.

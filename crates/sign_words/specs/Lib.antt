@@ -1,3 +1,4 @@
+pub mod Size
 pub mod Signs
 pub mod Packed
 pub mod Distance

@@ -1,4 +1,4 @@
-//! Reads a job record of version 1 or 2, field by field, and refuses it by 01's and 02's numbers.
+//! Reads a job record of version 1 to 3, field by field, and refuses it by 01's and 02's numbers.
 
 use crate::refusals::{
     bad_draw_count, bad_place, bad_rule, too_large, unmirrored, MOST_ENTRIES, MOST_RANK,
@@ -55,7 +55,9 @@ impl Settings {
 }
 
 const FRAME: usize = 65_536;
-const LAST_VERSION: u8 = 2;
+const LAST_VERSION: u8 = 3;
+/// The most wagons of versions 1 and 2.
+const SMALL_WAGONS: usize = 127;
 
 struct Reader<'a> {
     rest: &'a [u8],
@@ -107,7 +109,8 @@ pub fn read(record: &[u8]) -> Result<Job, u8> {
     refuse_if(length != reader.rest.len() as u64, 11)?;
     let version = reader.byte()?;
     refuse_if(version == 0 || version > LAST_VERSION, 12)?;
-    let (h, c) = read_table(&mut reader)?;
+    let most = if version < 3 { SMALL_WAGONS } else { MOST_WAGONS };
+    let (h, c) = read_table(&mut reader, most)?;
     let pins = if version == 1 { Vec::new() } else { read_pins(&mut reader, h.size)? };
     let (settings, width) = read_settings(&mut reader)?;
     let m = h.size - pins.len() + 1;
@@ -119,9 +122,9 @@ pub fn read(record: &[u8]) -> Result<Job, u8> {
     Ok(Job { h, c, pins, settings, start_numbers, width, draw_count, draws })
 }
 
-fn read_table(reader: &mut Reader) -> Result<(Table, Vec<i64>), u8> {
+fn read_table(reader: &mut Reader, most: usize) -> Result<(Table, Vec<i64>), u8> {
     let n = reader.byte()? as usize;
-    refuse_if(n > MOST_WAGONS, 13)?;
+    refuse_if(n > most, 13)?;
     let count = reader.number(2)? as usize;
     refuse_if(count > MOST_ENTRIES, 13)?;
     let mut entries: Vec<Entry> = Vec::with_capacity(count);

@@ -5,8 +5,8 @@ use crate::draws::lent;
 use crate::lent::LentTable;
 use crate::maxcut_oracle::{compute_rounded_sol, dual_variables};
 use crate::refusals::{
-    bad_draw_count, bad_places, first, magnitude, unmirrored, MOST_RANK, MOST_SIGN_ENTRIES,
-    MOST_SIGN_MAGNITUDE,
+    bad_draw_count, bad_places, first, magnitude, unmirrored, MOST_RANK, MOST_SIGNS,
+    MOST_SIGN_ENTRIES, MOST_SIGN_MAGNITUDE,
 };
 use crate::sdp_solver::default_sdp_rank;
 use crate::table::{eighths, sign_bytes, Table};
@@ -35,7 +35,7 @@ impl Call {
     }
 
     fn bad_size(&self) -> bool {
-        self.m == 0 || self.m > 128
+        self.m == 0 || self.m > MOST_SIGNS
     }
 
     fn bad_rank(&self) -> bool {

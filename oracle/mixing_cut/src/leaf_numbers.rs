@@ -3,8 +3,8 @@
 
 use crate::lent::LentTable;
 use crate::refusals::{
-    bad_places, first, magnitude, unmirrored, MOST_ORIGINAL_SIZE, MOST_SIGN_ENTRIES,
-    MOST_SIGN_MAGNITUDE,
+    bad_places, first, magnitude, unmirrored, MOST_ORIGINAL_SIZE, MOST_SIGNS,
+    MOST_SIGN_ENTRIES, MOST_SIGN_MAGNITUDE,
 };
 use crate::words::{In, Out};
 
@@ -16,7 +16,7 @@ pub fn sign_table(words: &mut In, out: &mut Out) -> Done {
     let table = LentTable::read(words, MOST_SIGN_ENTRIES)?;
     out.word(u64::from(first(&[
         (31, &|| table.short(&[])),
-        (13, &|| m == 0 || m > 128 || table.bad_count()),
+        (13, &|| m == 0 || m > MOST_SIGNS || table.bad_count()),
         (14, &|| bad_places(m, &table.entries())),
         (15, &|| unmirrored(&table.entries())),
         (16, &|| magnitude(&table.entries()) > MOST_SIGN_MAGNITUDE),

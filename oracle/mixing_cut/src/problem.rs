@@ -1,6 +1,7 @@
 //! The made-up hall of the timings, so that another program can be given the same one.
 
 use crate::reduced::Reduced;
+use crate::refusals::MOST_WAGONS;
 use crate::table::{sign_matrix, Entry, Table};
 use crate::words::{bits, hex, Out};
 use ndarray::Array2;
@@ -63,6 +64,7 @@ pub struct Size {
 
 impl Size {
     const LARGE: Self = Self { wagons: 127, pairs: 2048 };
+    const MOST: Self = Self { wagons: MOST_WAGONS, pairs: 2048 };
 
     pub fn signs(self) -> usize {
         self.wagons + 1
@@ -81,10 +83,10 @@ pub fn meant<'a>(what: &'a [&'a str]) -> Result<(Size, &'a [&'a str]), String> {
         return Ok((Size::LARGE, what));
     };
     let size = Size { wagons: argument(wagons)?, pairs: argument(pairs)? };
-    let most = Size::LARGE;
+    let most = Size::MOST;
     let possible = (size.wagons * size.wagons.saturating_sub(1) / 2) as u64;
     if size.wagons > most.wagons || size.pairs > most.pairs || size.pairs > possible {
-        return Err("at most 127 wagons and 2,048 of their pairs".to_string());
+        return Err("at most 255 wagons and 2,048 of their pairs".to_string());
     }
     Ok((size, rest))
 }
@@ -137,16 +139,18 @@ pub fn rule_number(rule: u8) -> f64 {
     }
 }
 
-/// A job on the hall: start 0, minimum 0, tolerances 0 and −1, which stop no run of rules 3 and 4.
+/// A job on the hall, of version 3 without pins where it is larger than version 1's: start 0, minimum 0, tolerances 0 and −1, which stop no run of rules 3 and 4.
 fn job(size: Size, rule: u8, rank: usize, most: u32, width: u8, draws: u16, seed: u64) -> Vec<u8> {
     let (h, c) = hall(size);
-    let mut body = vec![1, size.wagons as u8];
+    let larger = size.wagons > Size::LARGE.wagons;
+    let mut body = vec![if larger { 3 } else { 1 }, size.wagons as u8];
     body.extend((h.entries.len() as u16).to_be_bytes());
     for e in &h.entries {
         body.extend([e.row as u8, e.col as u8]);
         body.extend(e.value.to_be_bytes());
     }
     c.iter().for_each(|value| body.extend(value.to_be_bytes()));
+    body.extend(larger.then_some(0));
     body.extend([rank as u8, rule]);
     body.extend(bits(rule_number(rule)).to_be_bytes());
     body.extend(most.to_be_bytes());

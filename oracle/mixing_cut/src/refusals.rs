@@ -2,9 +2,10 @@
 
 use crate::table::Entry;
 
-pub const MOST_WAGONS: usize = 127;
+pub const MOST_WAGONS: usize = 255;
+pub const MOST_SIGNS: usize = MOST_WAGONS + 1;
 pub const MOST_ENTRIES: usize = 4096;
-pub const MOST_SIGN_ENTRIES: usize = 4478;
+pub const MOST_SIGN_ENTRIES: usize = 4862;
 pub const MOST_MAGNITUDE: u128 = 1 << 40;
 pub const MOST_SIGN_MAGNITUDE: u128 = 1 << 42;
 pub const MOST_RANK: usize = 32;

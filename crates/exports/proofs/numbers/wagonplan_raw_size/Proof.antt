@@ -1,7 +1,7 @@
 -- `exports::numbers::wagonplan_raw_size` meets its contract. Assumes nothing.
 use borrow.Author.Needs.{needs}
 use mathlib.Core.Path.{refl}
-use Rattle.sign_calls.specs.Size.{signWords}
+use Rattle.sign_words.specs.Size.{signWords}
 use Rattle.exports.specs.Sizes.{sizeOf}
 use Rattle.exports.proofs.Asked.{not-listed}
 use Rattle.exports.proofs.numbers.wagonplan_raw_size.Statement.{statement}

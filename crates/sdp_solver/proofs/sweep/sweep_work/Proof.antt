@@ -13,11 +13,11 @@ use Rattle.sdp_solver.proofs.sweep.sweep_work.Tie as tie
 size-few : (s : tie.Start) → s .args .run .size * s .args .run .rank ≤ mostSigns * mostRank
 size-few s = mul-le-mul (s .pre .0 .1) (s .pre .0 .3)
 
-product-fits : (c : tie.After-numbers) → c .before .before .before .before .before .before .before .before .args .run .size * c .before .before .before .before .before .before .before .before .args .run .rank ≤ length (c .before .before .rows-of-numbers .result)
-product-fits c = omega (arith, size-few (c .before .before .before .before .before .before .before .before), c .before .before .rows-of-numbers .ensures .1)
+product-fits : (c : tie.After-numbers) → c .before .before .before .before .before .before .before .before .args .run .size * c .before .before .before .before .before .before .before .before .args .run .rank ≤ length (c .before .before .rows-of-sums .result)
+product-fits c = omega (arith, size-few (c .before .before .before .before .before .before .before .before), c .before .before .rows-of-sums .ensures .1)
 
-moved-fits : (c : tie.After-numbers) → c .before .before .before .before .before .before .before .before .args .run .size * c .before .before .before .before .before .before .before .before .args .run .rank ≤ length (c .before .rows-of-numbers2 .result)
-moved-fits c = omega (arith, size-few (c .before .before .before .before .before .before .before .before), c .before .rows-of-numbers2 .ensures .1)
+moved-fits : (c : tie.After-numbers) → c .before .before .before .before .before .before .before .before .args .run .size * c .before .before .before .before .before .before .before .before .args .run .rank ≤ length (c .before .rows-of-numbers .result)
+moved-fits c = omega (arith, size-few (c .before .before .before .before .before .before .before .before), c .before .rows-of-numbers .ensures .1)
 
 dual-fits : (c : tie.After-numbers) → c .before .before .before .before .before .before .before .before .args .run .size ≤ length (c .numbers .result)
 dual-fits c = omega (arith, c .before .before .before .before .before .before .before .before .pre .0 .1, c .numbers .ensures .1)

@@ -1,8 +1,8 @@
 use borrow.Author.Needs.{needs}
 use Rattle.sign_search.proofs.search.search_packed.Statement.{statement}
 use Rattle.sign_search.proofs.search.search_packed.Tie as tie
-use Prim.Native.Nat.{_*_, _≤_}
-use native.Mathlib.Nat.{le-trans, mul-le-mul-right}
+use Prim.Native.Nat.{ℕ, _*_, _≤_}
+use native.Mathlib.Nat.{le-trans, mul-le-mul}
 use native.Mathlib.Omega.{arith}
 use denote.Ref.{now}
 use lib.ListN.{length}
@@ -26,24 +26,25 @@ search-levels-requires c κs =
     let p = c .before .before .before .before .before .before .before .before .before .before .before .before .before .before .pre in
     let r = p .0 in
     let a = c .before .before .before .before .before .before .before .before .before .before .before .before .before .before .args in
-    let first : length (now (a .current)) * mostWords ≤ mostSigns * mostWords = mul-le-mul-right mostWords (r .signs-few) in
-    let wide : a .width * mostWords ≤ mostSigns * mostWords = mul-le-mul-right mostWords (r .width-few) in (
+    let n : ℕ = length (now (a .kept)) in
+    let first : length (now (a .current)) * n ≤ mostSigns * mostWords = mul-le-mul (r .signs-few) (p .2) in
+    let wide : a .width * n ≤ mostSigns * mostWords = mul-le-mul (r .width-few) (p .2) in (
       record {
         some = p .1;
         changes-room = omega (arith, r .signs-few);
         first-objectives = omega (arith, r .signs-few);
-        first-signs = rw (p .2) (le-trans first (r .level-room));
-        signs-held = omega (arith, r .signs-few, p .2);
+        first-signs = le-trans first (r .level-room);
+        signs-held = p .3;
         words-few = omega (arith, p .2);
         objectives-room = omega (arith, r .width-few);
-        signs-room = rw (p .2) (le-trans wide (r .level-room));
+        signs-room = le-trans wide (r .level-room);
         next-objectives-room = omega (arith, r .width-few);
-        next-signs-room = rw (p .2) (omega (arith, wide));
+        next-signs-room = omega (arith, wide);
       },
-      p .3,
-      rw (toZ-ofZ (c .before .before .before .before .before .before .before .before .before .before .before .before .before .before .fits .objective)) (p .4),
-      p .5,
+      p .4,
+      rw (toZ-ofZ (c .before .before .before .before .before .before .before .before .before .before .before .before .before .before .fits .objective)) (p .5),
       p .6,
+      p .7,
     )
 
 same-length : tie.Need-same-length
