@@ -17,11 +17,11 @@ use lib.Dec.{eqb}
 use lib.IntN.{ℤ, pos, natAbs, _+ℤ_, _*ℤ_, *ℤ-zero, +ℤ-idr}
 use Rattle.laws.specs.Sum.{sum, sum₂, only}
 use Rattle.laws.specs.Lists.{elem, elemZ, kept, over, fill, tabulate, putIf, nextIf}
-use Rattle.laws.proofs.Integer.{abs-add, fits-abs, times-one}
-use Rattle.laws.proofs.Sums.{sum-more, sum-ext, sum-only, sum₂-ext, sum-bounded, total-at, only-yes, only-no}
+use Rattle.laws.proofs.Integer.{parts, differences, ring, abs-add, abs-mul, fits-abs, times-one, mul-left-comm}
+use Rattle.laws.proofs.Sums.{Held, sum-more, sum-ext, sum-add, sum-scale, sum-only, sum₂-ext, sum-bounded, total-at, only-yes, only-no}
 use Rattle.laws.proofs.Made.{kept-next, kept-count, length-tabulate, getD-tabulate, tabulate-ext, tabulate-next, tabulate-getD, tabulate-replicate}
-use Rattle.laws.proofs.MapFirst.{getD-mapFirst, length-mapFirst}
-use Rattle.tables.specs.Table.{Table, tableOf, InRange, magnitudeOf, valueAt}
+use Rattle.laws.proofs.MapFirst.{getD-mapFirst}
+use Rattle.tables.specs.Table.{Table, tableOf, InRange, Symmetric, magnitudeOf, valueAt}
 use Rattle.tables.specs.Stored.{rowsOf, colsOf, valuesOf, Wrote, Room}
 use Rattle.tables.specs.Cost.{bit, choiceAt, costEighths}
 use Rattle.tables.specs.Check.{Hall, hallMagnitude}
@@ -31,7 +31,7 @@ use Rattle.tables.proofs.Mirrors.{mirrored-symmetric}
 use Rattle.limits.specs.Limits.{mostWagons, mostEntries, mostMagnitude, mostSize, mostSignEntries}
 use Rattle.reduced.specs.Scatter.{Reducible}
 use Rattle.reduced.specs.Submatrix.{valueIn, reducedPlaces}
-use Rattle.pinned.specs.Pinned.{isFree, freeOf, heldByte, heldAt, freeTable, besideHeld, freeCosts, heldCost, Shrinks, besideTerm, BesideFits}
+use Rattle.pinned.specs.Pinned.{isFree, freeOf, heldByte, heldAt, freeTable, besideHeld, freeCosts, heldCost, Shrinks, besideTerm, heldTerm, BesideFits}
 use Rattle.pinned.proofs.Free.{free-few, free-map}
 use Rattle.pinned.proofs.Halls.{free-reducible, reduce-magnitude}
 
@@ -155,39 +155,113 @@ beside-dense {n} {h} r y i l =
     ∙ sum₂-ext n _ _ (λ a j b d. sym (only-right i a (valueAt h a j) (y j)))
     ∙ one-row n i (λ a j. valueAt h a j *ℤ y j) l
 
-module _ {n : ℕ} {h : Table} (c : ℕ → ℤ) (r : InRange n h) (small : n ≤ mostWagons) (states : List ℕ) {held : List ℕ} (is : held ≡ fill (heldByte states) n (replicate mostWagons 0)) where
-  beside-is : (i : ℕ) → i < n → besideSum h c (choiceAt held) i ≡ besideHeld n h c states i
+-- the code reads the table by columns: the table is its own mirror image
+abbrev turned : Table → Table
+turned h = record { count = h .count; row = h .column; column = h .row; value = h .value }
+
+turned-value : (h : Table) (i j : ℕ) → valueAt (turned h) i j ≡ valueAt h j i
+unfolding valueAt
+turned-value h i j = sum-ext (h .count) _ _ (λ k b. go (eqb (h .column k) i) (eqb (h .row k) j) (h .value k))
+  where
+    go : (s t : Bool) (v : ℤ) → cond s (cond t v (pos 0)) (pos 0) ≡ cond t (cond s v (pos 0)) (pos 0)
+    go true true v = refl
+    go true false v = refl
+    go false true v = refl
+    go false false v = refl
+
+pub turned-range : {n : ℕ} {h : Table} → InRange n h → InRange n (turned h)
+turned-range r = record { rows-in = r .cols-in; cols-in = r .rows-in }
+
+turned-dense : {n : ℕ} {h : Table} → InRange n h → Symmetric n (valueAt h) → (y : ℕ → ℤ) (i : ℕ) → i < n
+    → sum (h .count) (besideTerm (turned h) y i) ≡ sum n (λ j. valueAt h i j *ℤ y j)
+turned-dense {n} {h} r sy y i l =
+    beside-dense (turned-range r) y i l ∙ sum-ext n _ _ (λ j b. ap (λ v. v *ℤ y j) (turned-value h i j ∙ sy .mirror j i b l))
+
+-- ---- the constant: one walk over the wagons
+
+cost-rows : (n : ℕ) (H : ℕ → ℕ → ℤ) (c y : ℕ → ℤ) → sum n (heldTerm c (λ i. sum n (λ j. H i j *ℤ y j)) y) ≡ costEighths n H c y
+unfolding costEighths sum₂
+cost-rows n H c y =
+    sum-ext n _ _ (λ i a. apart (sum n (λ j. H i j *ℤ y j)) (c i) (y i))
+    ∙ sum-add n (λ i. pos 4 *ℤ (y i *ℤ sum n (λ j. H i j *ℤ y j))) (λ i. pos 8 *ℤ (c i *ℤ y i))
+    ∙ ap₂ _+ℤ_
+    (sum-scale n (pos 4) (λ i. y i *ℤ sum n (λ j. H i j *ℤ y j)) ∙ ap (λ z. pos 4 *ℤ z) (sum-ext n _ _ (λ i a. sym (row i))))
+    (sum-scale n (pos 8) (λ i. c i *ℤ y i))
+  where
+    apart : (s a v : ℤ) → (pos 4 *ℤ s +ℤ pos 8 *ℤ a) *ℤ v ≡ pos 4 *ℤ (v *ℤ s) +ℤ pos 8 *ℤ (a *ℤ v)
+    apart s a v = rw (parts s, parts a, parts v) (simp differences (omega ring))
+
+    row : (i : ℕ) → sum n (λ j. H i j *ℤ (y i *ℤ y j)) ≡ y i *ℤ sum n (λ j. H i j *ℤ y j)
+    row i = sum-ext n _ _ (λ j b. mul-left-comm (H i j) (y i) (y j)) ∙ sum-scale n (y i) (λ j. H i j *ℤ y j)
+
+-- a sum of k summands of at most m each
+sum-small : (n m : ℕ) (f : ℕ → ℤ) → ((i : ℕ) → i < n → natAbs (f i) ≤ m) → (k : ℕ) → k ≤ n → natAbs (sum k f) ≤ k * m
+unfolding sum
+sum-small n m f h zero l = omega arith
+sum-small n m f h (suc k) l = omega (arith, sum-small n m f h k (omega arith), abs-add (sum k f) (f k), h k (omega arith))
+
+module _ (n : ℕ) (c s : ℕ → ℤ) (b : List ℕ) (few : n ≤ mostWagons) (small : (i : ℕ) → i < n → natAbs (s i) + 2 * natAbs (c i) ≤ mostMagnitude) where
+  own-le : (i : ℕ) → i < n → natAbs (heldTerm c s (choiceAt b) i) ≤ 4 * mostMagnitude
+  own-le i l = go (elem b i)
+    where
+      go : (x : ℕ) → natAbs ((pos 4 *ℤ s i +ℤ pos 8 *ℤ c i) *ℤ bit x) ≤ 4 * mostMagnitude
+      go zero = rw (*ℤ-zero (pos 4 *ℤ s i +ℤ pos 8 *ℤ c i)) (omega arith)
+      go (suc x) =
+          rw (times-one (pos 4 *ℤ s i +ℤ pos 8 *ℤ c i))
+          (omega (arith, abs-add (pos 4 *ℤ s i) (pos 8 *ℤ c i), abs-mul (pos 4) (s i), abs-mul (pos 8) (c i), small i l))
+
+  pub constant-sums : Held n (heldTerm c s (choiceAt b))
+  unfolding sum
+  constant-sums =
+      record { next = λ k l. fits-abs _ (omega (arith, sum-small n (4 * mostMagnitude) (heldTerm c s (choiceAt b)) own-le (suc k) l)) }
+
+-- ---- the whole
+
+module _ {n : ℕ} {h : Table} {c : ℕ → ℤ} (ok : Hall mostWagons mostEntries mostMagnitude n h c) (states : List ℕ) {held : List ℕ} (is : held ≡ fill (heldByte states) n (replicate mostWagons 0))
+    {sums : List ℤ} (summed : sums ≡ tabulate (λ i. sum (h .count) (besideTerm (turned h) (choiceAt held) i)) mostWagons) where
+  sum-at : (i : ℕ) → i < n → elemZ sums i ≡ sum (h .count) (besideTerm (turned h) (choiceAt held) i)
+  sum-at i l = rw summed (getD-tabulate (λ j. sum (h .count) (besideTerm (turned h) (choiceAt held) j)) mostWagons i (pos 0) (omega (arith, ok .wagons)))
+
+  row-at : (i : ℕ) → i < n → elemZ sums i ≡ sum n (λ j. valueAt h i j *ℤ choiceAt held j)
+  row-at i l = sum-at i l ∙ turned-dense (ok .in-range) (mirrored-symmetric (ok .rising) (ok .mirrored) n) (choiceAt held) i l
+
+  beside-is : (i : ℕ) → i < n → c i +ℤ elemZ sums i ≡ besideHeld n h c states i
   unfolding besideHeld
   beside-is i l =
-      ap (λ z. c i +ℤ z) (beside-dense r (choiceAt held) i l ∙ sum-ext n _ _ (λ j b. ap (λ z. valueAt h i j *ℤ z) (held-at n states is small j b)))
+      ap (λ z. c i +ℤ z) (row-at i l ∙ sum-ext n _ _ (λ j b. ap (λ z. valueAt h i j *ℤ z) (held-at n states is (ok .wagons) j b)))
 
-  module _ {sums : List ℤ} (summed : sums ≡ tabulate (λ i. sum (h .count) (besideTerm h (choiceAt held) i)) mostWagons) where
-    sum-at : (i : ℕ) → i < n → elemZ sums i ≡ sum (h .count) (besideTerm h (choiceAt held) i)
-    sum-at i l = rw summed (getD-tabulate (λ j. sum (h .count) (besideTerm h (choiceAt held) j)) mostWagons i (pos 0) (omega arith))
+  -- what is asked of each wagon's cost
+  pub beside-held-fits : (cs : List ℤ) → c ≡ elemZ cs → n ≤ length cs → (i : ℕ) → i < n → BesideFits cs sums i
+  beside-held-fits cs at there i l =
+      record {
+        cost-there = omega arith;
+        low = omega (arith, ok .wagons);
+        fits = subst (λ (f : ℕ → ℤ). SFits w64 (f i +ℤ elemZ sums i)) at (rw (sum-at i l) (cost-fits (turned h) held n i c l (ok .magnitude)));
+      }
 
-    -- what is asked of each wagon's cost
-    pub beside-held-fits : (cs : List ℤ) → c ≡ elemZ cs → n ≤ length cs → hallMagnitude n h c ≤ mostMagnitude → (i : ℕ) → i < n → BesideFits cs sums i
-    beside-held-fits cs is there bound i l =
-        record { cost-there = omega arith; low = omega arith; fits = subst (λ (f : ℕ → ℤ). SFits w64 (f i +ℤ elemZ sums i)) is (rw (sum-at i l) (cost-fits h held n i c l bound)) }
+  -- and of its share of the constant
+  pub held-small : (i : ℕ) → i < n → natAbs (elemZ sums i) + 2 * natAbs (c i) ≤ mostMagnitude
+  held-small i l =
+      rw (sum-at i l) (omega (arith, beside-abs (turned h) held i (h .count) (le-refl (h .count)), total-at n i (λ j. natAbs (c j)) l, ok .magnitude))
 
-    -- what the code made
-    pub shrinks : {rows cols : List ℕ} {values costs : List ℤ} {rows′ cols′ : List ℕ} {values′ costs′ : List ℤ} {count : ℕ} {constant : ℤ} {free : List ℕ} → free ≡ freeOf n states
-        → constant ≡ costEighths n (valueAt h) c (choiceAt held)
-        → costs′ ≡ over (tabulate (λ k. c (elem free k) +ℤ elemZ sums (elem free k)) (length free)) costs
-        → Wrote (valueIn h free) (reducedPlaces h free) 0 rows cols values rows′ cols′ values′
-        → count ≡ length (reducedPlaces h free)
-        → Shrinks n h c states rows cols values costs rows′ cols′ values′ costs′ count constant
-    unfolding heldCost freeCosts
-    shrinks {costs = costs} f k w e m =
-        record {
-          entries = rw f at e;
-          many = rw f at m;
-          costs-are =
-              (rw f at w) ∙ ap (λ l. over l costs) (tabulate-ext _ _ (length (freeOf n states)) (λ j b.
-              let low = free-map n states .below j b in
-              ap (λ z. c (elem (freeOf n states) j) +ℤ z) (sum-at (elem (freeOf n states) j) low) ∙ beside-is (elem (freeOf n states) j) low));
-          constant-is = k ∙ cost-ext n (valueAt h) c (held-at n states is small);
-        }
+  -- what the code made
+  pub shrinks : {rows cols : List ℕ} {values costs : List ℤ} {rows′ cols′ : List ℕ} {values′ costs′ : List ℤ} {count : ℕ} {constant : ℤ} {free : List ℕ} → free ≡ freeOf n states
+      → constant ≡ sum n (heldTerm c (elemZ sums) (choiceAt held))
+      → costs′ ≡ over (tabulate (λ k. c (elem free k) +ℤ elemZ sums (elem free k)) (length free)) costs
+      → Wrote (valueIn h free) (reducedPlaces h free) 0 rows cols values rows′ cols′ values′
+      → count ≡ length (reducedPlaces h free)
+      → Shrinks n h c states rows cols values costs rows′ cols′ values′ costs′ count constant
+  unfolding heldCost freeCosts
+  shrinks {costs = costs} f k w e m =
+      record {
+        entries = rw f at e;
+        many = rw f at m;
+        costs-are =
+            (rw f at w) ∙ ap (λ l. over l costs) (tabulate-ext _ _ (length (freeOf n states)) (λ j b. beside-is (elem (freeOf n states) j) (free-map n states .below j b)));
+        constant-is =
+            k ∙ sum-ext n _ _ (λ i l. ap (λ z. (pos 4 *ℤ z +ℤ pos 8 *ℤ c i) *ℤ choiceAt held i) (row-at i l))
+            ∙ cost-rows n (valueAt h) c (choiceAt held) ∙ cost-ext n (valueAt h) c (held-at n states is (ok .wagons));
+      }
 
 -- ---- what the parts of the code ask
 
@@ -206,9 +280,6 @@ module _ (n : ℕ) (states : List ℕ) {free : List ℕ} (is : free ≡ freeOf n
 
 pub cost-next : (f : ℕ → ℤ) (k : ℕ) (xs ys : List ℤ) {x : ℤ} → k < length xs → ys ≡ over (tabulate f k) xs → x ≡ f k → set ys k x ≡ over (tabulate f (k + 1)) xs
 cost-next f k xs ys h e g = rw g (tabulate-next f k xs ys (pos 0) h e)
-
-pub held-long : (n : ℕ) (states : List ℕ) {held : List ℕ} → held ≡ fill (heldByte states) n (replicate mostWagons 0) → length held ≡ mostWagons
-held-long n states e = rw e (length-mapFirst (λ j _. heldByte states j) n (replicate mostWagons 0) ∙ length-replicate {A = ℕ} mostWagons 0)
 
 -- ---- the constant is held by an i64
 

@@ -85,6 +85,10 @@ pub record Shrinks (n : ℕ) (h : Table) (c : ℕ → ℤ) (states : List ℕ) (
 abbrev pub besideTerm : Table → (ℕ → ℤ) → ℕ → ℕ → ℤ
 besideTerm h y i l = only i (h .row l) (h .value l *ℤ y (h .column l))
 
+-- what wagon i adds to the constant, in eighths, where s i is what those in 1 add to its cost: half of that, and its own cost, if it is in 1
+abbrev pub heldTerm : (ℕ → ℤ) → (ℕ → ℤ) → (ℕ → ℤ) → ℕ → ℤ
+heldTerm c s y i = (pos 4 *ℤ s i +ℤ pos 8 *ℤ c i) *ℤ y i
+
 -- what the code asks of a wagon whose own cost and what is added to it are in two lists: both are there, and an i64 holds their sum
 pub record BesideFits (c sums : List ℤ) (i : ℕ) : Type 0 where
   pub cost-there : i < length c

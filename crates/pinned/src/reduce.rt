@@ -3,20 +3,19 @@
 use limits::MOST_WAGONS;
 use reduced::from_principal_submatrix::submatrix;
 use tables::check::wide;
-use tables::objective::eval_qubo_objective;
 ghost use mathlib.Core.Path.{_≡_};
-ghost use Prim.Native.Nat.{ℕ, _<_, _≤_};
+ghost use Prim.Native.Nat.{ℕ, _+_, _*_, _<_, _≤_};
 ghost use mir.Syntax.{w64};
 ghost use mir.Val.{SFits};
 ghost use lib.ListN.{length, replicate};
-ghost use lib.IntN.{_+ℤ_, _*ℤ_};
+ghost use lib.IntN.{natAbs, _+ℤ_, _*ℤ_};
 ghost use Rattle.laws.specs.Sum.{sum};
 ghost use Rattle.laws.specs.Lists.{elem, elemZ, fill, tabulate, over, putIf, nextIf};
 ghost use Rattle.tables.specs.Table.{tableOf, Lent, InRange, magnitudeOf};
 ghost use Rattle.tables.specs.Stored.{Room};
 ghost use Rattle.tables.specs.Cost.{bit, choiceAt};
 ghost use Rattle.limits.specs.Limits.{mostWagons, mostMagnitude};
-ghost use Rattle.pinned.specs.Pinned.{isFree, freeOf, heldByte, Reducing, Shrinks, besideTerm, BesideFits};
+ghost use Rattle.pinned.specs.Pinned.{isFree, freeOf, heldByte, Reducing, Shrinks, besideTerm, heldTerm, BesideFits};
 
 // How many wagons are free, how many entries they have, and what the held ones cost.
 pub struct Shrunk {
@@ -145,6 +144,29 @@ fn put_costs(c: &[i64], sums: &[i64; MOST_WAGONS], free: &[u16], to_c: &mut [i64
     }
 }
 
+// What wagon i adds to the constant where it is held in 1, in eighths: its own cost, and half of its sum, since what two wagons cost is in the sums of both.
+fn held_term(c: &[i64], sums: &[i64; MOST_WAGONS], held: &[u8; MOST_WAGONS], i: usize) -> i64
+    requires { ⌜ (i < length (now c)) × (i < mostWagons) × (natAbs (elemZ (now sums) i) + 2 * natAbs (elemZ (now c) i) ≤ mostMagnitude) ⌝ }
+    ensures { λ r. ⌜ r ≡ heldTerm (elemZ (now (c .entry))) (elemZ (now (sums .entry))) (choiceAt (now (held .entry))) i ⌝ }
+{
+    value_if(4 * sums[i] + 8 * c[i], held[i])
+}
+
+// The constant, by the sums of the held wagons.
+fn held_cost(n: usize, c: &[i64], sums: &[i64; MOST_WAGONS], held: &[u8; MOST_WAGONS]) -> i64
+    requires { ⌜ (n ≤ length (now c)) × (n ≤ mostWagons)
+        × ((i : ℕ) → i < n → natAbs (elemZ (now sums) i) + 2 * natAbs (elemZ (now c) i) ≤ mostMagnitude) ⌝ }
+    ensures { λ r. ⌜ r ≡ sum n (heldTerm (elemZ (now (c .entry))) (elemZ (now (sums .entry))) (choiceAt (now (held .entry)))) ⌝ }
+{
+    let mut cost: i64 = 0;
+    let mut i = 0;
+    while i < n {
+        cost += held_term(c, sums, held, i);
+        i += 1;
+    }
+    cost
+}
+
 // The costs of the free wagons, which are given.
 fn reduce_to(
     n: usize,
@@ -167,8 +189,9 @@ fn reduce_to(
         (now («to_rows» .exit)) (now («to_cols» .exit)) (now («to_values» .exit)) (now («to_c» .exit)) (r .count) (r .constant) ⌝ }
 {
     let held = held_choice(n, states);
-    let constant = eval_qubo_objective(n, count, rows, cols, values, c, &held);
-    let sums = beside_sums(count, rows, cols, values, &held);
+    // H is its own mirror image. Read by columns, the entries of a row all ask for the store of one wagon, so that the branch is easily guessed.
+    let sums = beside_sums(count, cols, rows, values, &held);
+    let constant = held_cost(n, c, &sums, &held);
     put_costs(c, &sums, free, to_c);
     let entries = submatrix(count, rows, cols, values, free, to_rows, to_cols, to_values);
     Costs {
