@@ -24,8 +24,8 @@ unfolding best
 best-append b [] r = refl
 best-append b (x ∷ l) r = best-append (cond (below x b) x b) l r
 
-pub start-safe : (change : List ℕ → ℕ → ℤ) (exists : Choice → ℕ → Bool) (fuel : ℕ) (start : Choice) → Searches change exists fuel start → Safe change exists start
-start-safe change exists fuel start p i q e =
+pub start-safe : (change : List ℕ → ℕ → ℤ) (exists : Choice → ℕ → Bool) (fuel : ℕ) (start : Choice) → Searches change exists fuel start → Safe change start
+start-safe change exists fuel start p i q =
     child-fits (length (start .signs)) (p .objective) change (p .floor) (p .height) (p .lawful) (p .bounded) start (refl, p .start-is) i q
 
 module _ (change : List ℕ → ℕ → ℤ) (exists : Choice → ℕ → Bool) (width fuel : ℕ) (start : Choice) where
@@ -36,15 +36,15 @@ module _ (change : List ℕ → ℕ → ℤ) (exists : Choice → ℕ → Bool) 
   pub record Searching (level : List Choice) (kept : Choice) (rounds : ℕ) : Type 0 where
     pub left : List (List Choice)
     pub levels-left : Levels below children width level left
-    pub safe : All (All (Safe change exists)) left
+    pub safe : All (All (Safe change)) left
     pub answer-is : best below kept (concat left) ≡ searchedFrom change exists width fuel start .answer
     pub rounds-are : rounds + length left ≡ searchedFrom change exists width fuel start .rounds
     pub few : searchedFrom change exists width fuel start .rounds < 2 ^ 64
 
-  pub searching-safe : (level : List Choice) (kept : Choice) (rounds : ℕ) → Searching level kept rounds → All (Safe change exists) level
+  pub searching-safe : (level : List Choice) (kept : Choice) (rounds : ℕ) → Searching level kept rounds → All (Safe change) level
   searching-safe level kept rounds p = go level (p .left) (p .levels-left) (p .safe)
     where
-      go : (l : List Choice) (ls : List (List Choice)) → Levels below children width l ls → All (All (Safe change exists)) ls → All (Safe change exists) l
+      go : (l : List Choice) (ls : List (List Choice)) → Levels below children width l ls → All (All (Safe change)) ls → All (Safe change) l
       go l ls none a = tt
       go l ls (more r) a = a .0
 
@@ -64,7 +64,7 @@ module _ (change : List ℕ → ℕ → ℤ) (exists : Choice → ℕ → Bool) 
   unfolding concat
   searching-turn level kept rounds h p = go level (p .left) (p .levels-left) h (p .safe) (p .answer-is) (p .rounds-are)
     where
-      go : (l : List Choice) (ls : List (List Choice)) → Levels below children width l ls → 0 < length l → All (All (Safe change exists)) ls
+      go : (l : List Choice) (ls : List (List Choice)) → Levels below children width l ls → 0 < length l → All (All (Safe change)) ls
           → best below kept (concat ls) ≡ searchedFrom change exists width fuel start .answer → rounds + length ls ≡ searchedFrom change exists width fuel start .rounds
           → Searching (nextLevel below children width l) (best below kept l) (rounds + 1)
       go l ls none q s a r = absurd (omega arith)
@@ -106,8 +106,8 @@ module _ (change : List ℕ → ℕ → ℤ) (exists : Choice → ℕ → Bool) 
       record {
         left = ls;
         levels-left = lv;
-        safe = all-levels (Safe change exists) ls
-            (all-map G (Safe change exists) (λ c h i q e. child-fits m (p .objective) change (p .floor) (p .height) (p .lawful) (p .bounded) c h i (omega (arith, h .0))) (concat ls) goods);
+        safe = all-levels (Safe change) ls
+            (all-map G (Safe change) (λ c h i q. child-fits m (p .objective) change (p .floor) (p .height) (p .lawful) (p .bounded) c h i (omega (arith, h .0))) (concat ls) goods);
         answer-is = sym (ap (λ (f : Found Choice). f .answer) found);
         rounds-are = omega (arith, ap (λ (f : Found Choice). f .rounds) found);
         few = omega (arith, searched-improves below children G up ord fal width fuel start w (p .enough) g .falls-by-rounds, p .low);

@@ -1,6 +1,6 @@
 -- What the level functions ask and leave. The children of a parent in words are those of its `changes`, one for each of its m signs.
 use Prim.Native.Nat.{ℕ, _*_, _≤_, _<_}
-use mathlib.Core.Bool.{true, cond}
+use mathlib.Core.Bool.{cond}
 use mathlib.Core.List.{List, _++_}
 use mathlib.Core.Path.{_≡_}
 use lib.IntN.{ℤ, pos, _+ℤ_}
@@ -26,9 +26,9 @@ flipW changes i c = wordChild (c .objective +ℤ changeOf changes (c .signs) i) 
 abbrev pub listedChildren : List ℤ → ℕ → Choice → List Choice
 listedChildren changes m parent = improving (improvesC (changeOf changes)) (flipW changes) m parent
 
--- their objectives fit 64 bits
-abbrev pub ListedSafe : List ℤ → ℕ → Choice → Type 0
-ListedSafe changes m parent = (i : ℕ) → i < m → improvesC (changeOf changes) parent i ≡ true → SFits w64 (parent .objective +ℤ changeOf changes (parent .signs) i)
+-- the objectives by flipping each of its first m signs fit 64 bits
+abbrev pub ListedSafe : List ℤ → ℕ → ℤ → Type 0
+ListedSafe changes m objective = (i : ℕ) → i < m → SFits w64 (objective +ℤ getD changes i (pos 0))
 
 -- what it takes to put a parent's children into a level with room for `width`, of which `count` are in use
 pub record Expands (changes : List ℤ) (m : ℕ) (parent : Choice) (count width objectives signs : ℕ) : Type 0 where
@@ -38,7 +38,7 @@ pub record Expands (changes : List ℤ) (m : ℕ) (parent : Choice) (count width
   pub signs-room : width * length (parent .signs) ≤ signs
   pub signs-held : m ≤ 64 * length (parent .signs)
   pub changes-many : m ≤ length changes
-  pub safe : ListedSafe changes m parent
+  pub safe : ListedSafe changes m (parent .objective)
 
 -- the level after it has taken in the children, and its count
 pub record Kept (width : ℕ) (before children after : List Choice) (count : ℕ) : Type 0 where
@@ -51,7 +51,7 @@ pub record Appends (changes : List ℤ) (m : ℕ) (start : Choice) (objectives s
   pub signs-room : m * length (start .signs) ≤ signs
   pub signs-held : m ≤ 64 * length (start .signs)
   pub changes-many : m ≤ length changes
-  pub safe : ListedSafe changes m start
+  pub safe : ListedSafe changes m (start .objective)
 
 -- the level with the children behind it, and its count, at most `most`
 pub record Appended (before children after : List Choice) (count most : ℕ) : Type 0 where

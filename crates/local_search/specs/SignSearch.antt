@@ -47,9 +47,9 @@ module _ (change : List ℕ → ℕ → ℤ) where
   abbrev pub childrenC : (Choice → ℕ → Bool) → ℕ → Choice → List Choice
   childrenC exists m = improving exists flipC m
 
-  -- the objectives of a choice's children fit 64 bits
-  abbrev pub Safe : (Choice → ℕ → Bool) → Choice → Type 0
-  Safe exists c = (i : ℕ) → i < length (c .signs) → exists c i ≡ true → SFits w64 (c .objective +ℤ change (c .signs) i)
+  -- the objectives by flipping each sign of a choice fit 64 bits
+  abbrev pub Safe : Choice → Type 0
+  Safe c = (i : ℕ) → i < length (c .signs) → SFits w64 (c .objective +ℤ change (c .signs) i)
 
 -- the search from a choice with its objective
 abbrev pub searchedFrom : (List ℕ → ℕ → ℤ) → (Choice → ℕ → Bool) → ℕ → ℕ → Choice → Found Choice

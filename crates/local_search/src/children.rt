@@ -9,8 +9,8 @@ ghost use Prim.Native.Nat.{suc, _≤_};
 ghost use lib.ListN.{length, take};
 ghost use Rattle.local_search.specs.Level.{levelOf, Ascending};
 ghost use Rattle.local_search.specs.SignSearch.{improvesC, childAt};
-ghost use Rattle.local_search.specs.Children.{changeOf, flipW, listedChildren, parentOf, Appended, Appends, Expands, Kept};
-ghost use Rattle.local_search.specs.Enters.{enters, entersFirst, Untouched};
+ghost use Rattle.local_search.specs.Children.{changeOf, flipW, listedChildren, parentOf, Appended, Appends, Expands, Kept, ListedSafe};
+ghost use Rattle.local_search.specs.Enters.{enters, entersFirst, limitOf, belowLimit, FirstFrom, Untouched};
 
 // Puts child `i` of the parent in, where it enters the level; else nothing is written.
 pub fn consider_child(
@@ -37,6 +37,42 @@ pub fn consider_child(
     count
 }
 
+// The objective below which a child enters the level: its parent's, or the last of a full level where that is lower.
+pub fn entry_limit(objectives: &[i64], count: usize, width: usize, objective: i64) -> i64
+    requires { ⌜ (1 ≤ width) × (count ≤ length (now objectives)) ⌝ }
+    ensures { λ r. ⌜ r ≡ limitOf width count (now (objectives .entry)) objective ⌝ }
+{
+    if count < width {
+        return objective;
+    }
+    let last = objectives[count - 1];
+    if last < objective { last } else { objective }
+}
+
+// The first child from `from` on that enters the level, or `m` where there is none.
+pub fn next_child(
+    changes: &[i64],
+    objective: i64,
+    from: usize,
+    m: usize,
+    objectives: &[i64],
+    count: usize,
+    width: usize,
+) -> usize
+    requires { ⌜ (from ≤ m) × (m ≤ length (now changes)) × ListedSafe (now changes) m objective × (1 ≤ width) × (count ≤ length (now objectives)) ⌝ }
+    ensures { λ r. ⌜ FirstFrom (belowLimit (now (changes .entry)) objective (limitOf width count (now (objectives .entry)) objective)) from m r ⌝ }
+{
+    let limit = entry_limit(objectives, count, width, objective);
+    let mut i = from;
+    while i < m {
+        if objective + changes[i] < limit {
+            return i;
+        }
+        i += 1;
+    }
+    i
+}
+
 // Puts the parent's children in, by index.
 pub fn expand_parent(
     changes: &[i64],
@@ -54,7 +90,7 @@ pub fn expand_parent(
         (levelOf (length (now (parent .entry))) r (now (objectives .exit)) (now (signs .exit))) r ⌝ }
 {
     let mut kept = count;
-    let mut i = 0;
+    let mut i = next_child(changes, objective, 0, m, objectives, kept, width);
     while i < m {
         kept = consider_child(
             changes,
@@ -66,7 +102,7 @@ pub fn expand_parent(
             kept,
             width,
         );
-        i += 1;
+        i = next_child(changes, objective, i + 1, m, objectives, kept, width);
     }
     kept
 }

@@ -38,10 +38,10 @@ module _ (t : Table) (m : ℕ) (o : ℤ) (w : List ℕ) (changes : List ℤ) (is
       ∙ subst (λ (k : ℕ). childrenC (changeOf changes) (improvesC (changeOf changes)) k (parentOf o (unpacked m w)) ≡ tableChildren t k (parentOf o (unpacked m w)))
       (length-unpacked m w) (listed-children t (parentOf o (unpacked m w)) changes is)
 
-  listed-safe : TableSafe t (parentOf o (unpacked m w)) → ListedSafe changes m (parentOf o w)
-  listed-safe safe i h e =
+  listed-safe : TableSafe t (parentOf o (unpacked m w)) → ListedSafe changes m o
+  listed-safe safe i h =
       let inside : i < length (unpacked m w) = omega (arith, length-unpacked m w) in
-      subst (λ (z : ℤ). SFits w64 (o +ℤ z)) (sym (is .are i inside)) (safe i inside (ap (λ (z : ℤ). ltZ z (pos 0)) (sym (is .are i inside)) ∙ e))
+      subst (λ (z : ℤ). SFits w64 (o +ℤ z)) (sym (is .are i inside)) (safe i inside)
 
   pub row-expands : (count width objectives signs : ℕ) → RowExpands t (length w) (parentOf o (unpacked m w)) count width (length changes) objectives signs
       → Expands changes m (parentOf o w) count width objectives signs

@@ -108,7 +108,7 @@ abbrev pub tableChildren : Table → ℕ → Choice → List Choice
 tableChildren t m = childrenC (changeIn t) (improvesC (changeIn t)) m
 
 abbrev pub TableSafe : Table → Choice → Type 0
-TableSafe t c = Safe (changeIn t) (improvesC (changeIn t)) c
+TableSafe t c = Safe (changeIn t) c
 
 -- what it takes to put a parent's children into a level with room for `width` rows of n words, of which `count` are in use
 pub record RowExpands (t : Table) (n : ℕ) (parent : Choice) (count width changes objectives signs : ℕ) : Type 0 where

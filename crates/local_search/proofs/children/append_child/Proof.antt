@@ -29,7 +29,7 @@ add-insert-objective : tie.Need-add-insert-objective
 add-insert-objective c =
     let d = c .before .before in
     let s = d .before .before .before in
-    rw (toZ-ofZ (s .fits .objective), changed d) (s .pre .0 .safe (s .args .i) (omega arith) (rw (changed d) at (c .before .if1 .taken)))
+    rw (toZ-ofZ (s .fits .objective), changed d) (s .pre .0 .safe (s .args .i) (omega arith))
 
 insert-row-requires : tie.Need-insert-row-requires
 insert-row-requires c κs =

@@ -25,7 +25,7 @@ add-insert-child : tie.Need-add-insert-child
 add-insert-child c =
     let d = c .before .before .before in
     let s = d .before .before .before in
-    rw (toZ-ofZ (s .fits .objective), changed d) (s .pre .0 .safe (s .args .i) (omega arith) (rw (changed d) at (c .before .before .if1 .taken)))
+    rw (toZ-ofZ (s .fits .objective), changed d) (s .pre .0 .safe (s .args .i) (omega arith))
 
 returns : tie.Need-returns
 returns c =
