@@ -12,12 +12,14 @@ use lib.IntN.{ℤ, pos, natAbs}
 use Rattle.laws.specs.Refusal.{_if_, first, orElse, firstOf}
 use Rattle.laws.specs.Sum.{total}
 use Rattle.laws.specs.Lists.{elem, elemZ, fill}
+use Rattle.laws.proofs.Refusal.{stop, pass}
 use Rattle.laws.proofs.Following.{answers, moves-on, answers-if, moves-on-if, answers-last, passes-last, firstOf-if, firstOf-stops}
 use Rattle.tables.specs.Table.{tableOf}
 use Rattle.tables.specs.Check.{badEntry, badOrder, unmirrored, Placed, hallMagnitude}
 use Rattle.tables.proofs.Checks.{order-placed}
-use Rattle.job_record.specs.Fields.{entryAt, row, column, value, entries, signedFrom}
-use Rattle.job_record.specs.Number.{endsBefore, entryNumber, entriesNumbers}
+use Rattle.job_record.specs.Fields.{wagons, entryCount, entryAt, row, column, value, entries, signedFrom}
+use Rattle.job_record.specs.Number.{endsBefore, entryNumber, entriesNumbers, costsNumbers, jobTableNumber}
+use Rattle.job_record.specs.Values.{jobCost, Entered, Stored}
 use Rattle.job_record.proofs.Same.{filled, first-same, order-same, mirror-same, total-same}
 
 module _ (s : List ℕ) (n count whole : ℕ) (few : whole ≤ count) (there : entryAt whole ≤ length s) (cut : whole < count → length s < entryAt whole + 10) where
@@ -70,7 +72,7 @@ module _ (s : List ℕ) (n count whole : ℕ) (few : whole ≤ count) (there : e
     order-is = order-same _ _ _ _ (value s) (value s) whole rows-are cols-are n
 
     module _ {bad : Bool} (judgement : bad ≡ badOrder n (elem rows) (elem cols) whole) where
-      pub refused-14 : bad ≡ true → (14 ≡ first (entriesNumbers s n count)) × (_≡_ {A = ℕ} 14 0 → (i : ℕ) → i < count → elemZ values i ≡ value s i)
+      pub refused-14 : bad ≡ true → (14 ≡ first (entriesNumbers s n count)) × (_≡_ {A = ℕ} 14 0 → Entered s count rows₀ cols₀ values₀ rows cols values)
       unfolding entriesNumbers
       refused-14 t = (answers _ _ (bad-one (sym order-is ∙ sym judgement ∙ t)) (λ z. omega arith), λ z. absurd (omega arith))
 
@@ -78,7 +80,7 @@ module _ (s : List ℕ) (n count whole : ℕ) (few : whole ≤ count) (there : e
         ok : badOrder n (row s) (column s) whole ≡ false
         ok = sym order-is ∙ sym judgement ∙ passed
 
-        pub refused-11 : whole < count → (11 ≡ first (entriesNumbers s n count)) × (_≡_ {A = ℕ} 11 0 → (i : ℕ) → i < count → elemZ values i ≡ value s i)
+        pub refused-11 : whole < count → (11 ≡ first (entriesNumbers s n count)) × (_≡_ {A = ℕ} 11 0 → Entered s count rows₀ cols₀ values₀ rows cols values)
         unfolding entriesNumbers
         refused-11 l = (answers _ _ (cut-after ok l) (λ z. omega arith), λ z. absurd (omega arith))
 
@@ -93,14 +95,19 @@ module _ (s : List ℕ) (n count whole : ℕ) (few : whole ≤ count) (there : e
           mirrors-are = rw (← same) (mirror-same _ _ _ _ _ _ whole rows-are cols-are values-in)
 
           pub refused-15 : {u : Bool} → u ≡ unmirrored (tableOf count rows cols values) → u ≡ true
-              → (15 ≡ first (entriesNumbers s n count)) × (_≡_ {A = ℕ} 15 0 → (i : ℕ) → i < count → elemZ values i ≡ value s i)
+              → (15 ≡ first (entriesNumbers s n count)) × (_≡_ {A = ℕ} 15 0 → Entered s count rows₀ cols₀ values₀ rows cols values)
           unfolding entriesNumbers
           refused-15 e t = (moves-on _ _ {x = 0} (none ok all) refl (answers-if 14 _ [] (sym mirrors-are ∙ sym e ∙ t)), λ z. absurd (omega arith))
 
           pub accepted : {u : Bool} → u ≡ unmirrored (tableOf count rows cols values) → u ≡ false
-              → (0 ≡ first (entriesNumbers s n count)) × (_≡_ {A = ℕ} 0 0 → (i : ℕ) → i < count → elemZ values i ≡ value s i)
+              → (0 ≡ first (entriesNumbers s n count)) × (_≡_ {A = ℕ} 0 0 → Entered s count rows₀ cols₀ values₀ rows cols values)
           unfolding entriesNumbers
-          accepted e t = (moves-on _ _ {x = 0} (none ok all) refl (passes-last 15 _ (sym mirrors-are ∙ sym e ∙ t)), λ z i l. values-in i (omega arith))
+          accepted e t = (moves-on _ _ {x = 0} (none ok all) refl (passes-last 15 _ (sym mirrors-are ∙ sym e ∙ t)), λ z. record { in-rows = rw (← same) r; in-cols = rw (← same) k; in-values = rw (← same) v })
+
+-- the values, one by one
+pub values-are : (s : List ℕ) (count : ℕ) {rows₀ cols₀ rows cols : List ℕ} {values₀ values : List ℤ} → Entered s count rows₀ cols₀ values₀ rows cols values → count ≤ length values₀
+    → (i : ℕ) → i < count → elemZ values i ≡ value s i
+values-are s count {values₀ = values₀} e room i l = rw (e .in-values) (filled (value s) values₀ (pos 0) count room i l)
 
 -- c and the magnitude
 module _ (s : List ℕ) (n count : ℕ) {c : List ℤ} (c₀ values : List ℤ) (k : c ≡ fill (signedFrom s (entryAt count)) n c₀) (fk : n ≤ length c₀)
@@ -111,3 +118,20 @@ module _ (s : List ℕ) (n count : ℕ) {c : List ℤ} (c₀ values : List ℤ) 
         total-same (λ i. natAbs (elemZ values i)) (λ i. natAbs (value s i)) count (λ i l. ap natAbs (v i l)),
         total-same (λ i. natAbs (elemZ c i)) (λ i. natAbs (signedFrom s (entryAt count) i)) n (λ i l. rw (k, filled (signedFrom s (entryAt count)) c₀ (pos 0) n fk i l)),
       )
+
+-- H and c of a head that is there
+module _ (s : List ℕ) {n count : ℕ} (is-n : n ≡ wagons s) (is-count : count ≡ entryCount s) where
+  pub table-refused : {x : ℕ} → x ≡ first (entriesNumbers s n count) → (x ≡ 0 → ⊥) → x ≡ jobTableNumber s
+  table-refused e some = rw (← is-n, ← is-count) (stop _ _ e some)
+
+  pub table-passed : {x y : ℕ} → x ≡ first (entriesNumbers s n count) → x ≡ 0 → y ≡ first (costsNumbers s n count) → y ≡ jobTableNumber s
+  table-passed e z f = rw (← is-n, ← is-count) (pass _ _ e z f)
+
+  pub stored : {rows₀ cols₀ rows cols : List ℕ} {values₀ values c₀ c : List ℤ} → Entered s count rows₀ cols₀ values₀ rows cols values → c ≡ fill (signedFrom s (entryAt count)) n c₀ → Stored s rows₀ cols₀ values₀ c₀ rows cols values c
+  stored {rows₀} {cols₀} {values₀ = values₀} {c₀ = c₀} e k =
+      record {
+        in-rows = e .in-rows ∙ ap (λ (m : ℕ). fill (row s) m rows₀) is-count;
+        in-cols = e .in-cols ∙ ap (λ (m : ℕ). fill (column s) m cols₀) is-count;
+        in-values = e .in-values ∙ ap (λ (m : ℕ). fill (value s) m values₀) is-count;
+        in-c = k ∙ ap (λ (m : ℕ). fill (signedFrom s (entryAt m)) n c₀) is-count ∙ ap (λ (m : ℕ). fill (jobCost s) m c₀) is-n;
+      }

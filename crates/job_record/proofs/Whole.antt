@@ -7,7 +7,7 @@ use Rattle.laws.proofs.Refusal.{stop, pass, both}
 use Rattle.laws.proofs.Following.{first-append}
 use Rattle.job_record.specs.Versions.{Format, versions}
 use Rattle.job_record.specs.Fields.{wagons, entryCount, freeBy, settingsBy}
-use Rattle.job_record.specs.Number.{headNumbers, entriesNumbers, costsNumbers, pinsNumbersBy, runNumbers, numberBy, jobNumber}
+use Rattle.job_record.specs.Number.{headNumbers, entriesNumbers, costsNumbers, jobTableNumber, pinsNumbersBy, runNumbers, numberBy, jobNumber}
 use Rattle.job_record.specs.Values.{freeWagons, settingsPlace}
 
 pub or-join : (a b c : ℕ) → orElse a (orElse b c) ≡ orElse (orElse a b) c
@@ -18,7 +18,7 @@ or-join (suc a) b c = refl
 -- by any table of versions: head, entries and c, pins, the rest
 pub parts : (format : Format) (s : List ℕ) → numberBy format s
     ≡ orElse (first (headNumbers format s))
-    (orElse (orElse (first (entriesNumbers s (wagons s) (entryCount s))) (first (costsNumbers s (wagons s) (entryCount s))))
+    (orElse (jobTableNumber s)
     (orElse (first (pinsNumbersBy format s)) (first (runNumbers s (freeBy format s) (settingsBy format s)))))
 unfolding numberBy
 parts format s =
@@ -32,16 +32,13 @@ parts format s =
     ∙ ap (orElse (first entries)) (first-append costs (pins ++ run) ∙ ap (orElse (first costs)) (first-append pins run))
     ∙ or-join _ _ _)
 
-module _ (s : List ℕ) {n count h : ℕ} (is-n : n ≡ wagons s) (is-count : count ≡ entryCount s) (head : h ≡ first (headNumbers versions s)) (h0 : h ≡ 0)
-    {t : ℕ} (table : t ≡ orElse (first (entriesNumbers s n count)) (first (costsNumbers s n count))) where
-  is-table : t ≡ orElse (first (entriesNumbers s (wagons s) (entryCount s))) (first (costsNumbers s (wagons s) (entryCount s)))
-  is-table = rw (← is-n, ← is-count) table
-
+module _ (s : List ℕ) {h : ℕ} (head : h ≡ first (headNumbers versions s)) (h0 : h ≡ 0)
+    {t : ℕ} (table : t ≡ jobTableNumber s) where
   pub at-table : (t ≡ 0 → ⊥) → t ≡ jobNumber s
-  at-table x = rw (parts versions s) (pass _ _ head h0 (stop _ _ is-table x))
+  at-table x = rw (parts versions s) (pass _ _ head h0 (stop _ _ table x))
 
   pub at-rest : t ≡ 0 → {r : ℕ} → r ≡ orElse (first (pinsNumbersBy versions s)) (first (runNumbers s (freeWagons s) (settingsPlace s))) → r ≡ jobNumber s
-  at-rest t0 e = rw (parts versions s) (pass _ _ head h0 (pass _ _ is-table t0 e))
+  at-rest t0 e = rw (parts versions s) (pass _ _ head h0 (pass _ _ table t0 e))
 
 pub at-head : (s : List ℕ) {h : ℕ} → h ≡ first (headNumbers versions s) → (h ≡ 0 → ⊥) → h ≡ jobNumber s
 at-head s e x = rw (parts versions s) (stop _ _ e x)

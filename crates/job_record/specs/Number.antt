@@ -6,7 +6,7 @@ use mathlib.Core.List.{List, [], _∷_, _++_}
 use lib.ListN.{length}
 use lib.Dec.{leb, ltb, eqb}
 use Rattle.laws.specs.Lists.{anyBelow}
-use Rattle.laws.specs.Refusal.{_if_, first, firstOf}
+use Rattle.laws.specs.Refusal.{_if_, orElse, first, firstOf}
 use Rattle.limits.specs.Limits.{mostEntries, mostMagnitude, mostRank, mostWidth, mostDraws, lastRule, lastStart, mostBytes}
 use Rattle.tables.specs.Check.{badEntry, unmirrored, hallMagnitude}
 use Rattle.job_reader.specs.Bytes.{bigEndian}
@@ -76,6 +76,10 @@ costsNumbers s n count =
     11 if endsBefore s (costsEnd n count)
     ∷ 16 if ltb mostMagnitude (hallMagnitude n (entries s count) (signedFrom s (entryAt count)))
     ∷ []
+
+-- entries and c, as many as the head says
+abbrev pub jobTableNumber : List ℕ → ℕ
+jobTableNumber s = orElse (first (entriesNumbers s (wagons s) (entryCount s))) (first (costsNumbers s (wagons s) (entryCount s)))
 
 -- the pin count at `at`, then each pin
 unfoldable pub pinsNumbers : List ℕ → ℕ → ℕ → List ℕ

@@ -1,16 +1,18 @@
 -- What an accepted job record holds.
-use Prim.Native.Nat.{ℕ, _+_, _*_}
+use Prim.Native.Nat.{ℕ, _+_, _*_, _≤_}
 use mathlib.Core.List.{List}
 use mathlib.Core.Path.{_≡_}
-use lib.ListN.{replicate}
+use lib.ListN.{length, replicate}
 use lib.IntN.{ℤ}
 use lib.Ieee.{Float}
 use Rattle.laws.specs.Lists.{fill}
+use Rattle.limits.specs.Limits.{mostWagons, mostEntries}
 use Rattle.tables.specs.Table.{Table}
 use Rattle.reduced.specs.Indices.{putEach}
 use Rattle.job_reader.specs.Bytes.{bigEndian}
 use Rattle.job_record.specs.Versions.{Format, versions}
 use Rattle.job_record.specs.Fields.{wagons, entryCount, entryAt, row, column, value, entries, signedFrom, doubleFrom, pinsPlace, pinWagon, pinStore, freeState, pinCountBy, freeBy, settingsBy, rankAt, ruleAt, ruleNumberAt, mostAt, minimumAt, objectiveToleranceAt, stationarityToleranceAt, widthAt, startAt, rankOf, startCountOf, drawsAfter}
+use Rattle.job_record.specs.Number.{jobNumber}
 use Rattle.job_record.specs.declared.job.Job.{Job}
 
 -- how many pins, and the wagons that no pin holds
@@ -92,9 +94,27 @@ jobDrawn s = bigEndian s (drawsPlace s) 2 * jobRank s
 abbrev pub jobDraw : List ℕ → ℕ → Float
 jobDraw s = doubleFrom s (drawsPlace s + 2)
 
+-- lists with room for the H and c of any job
+pub record TableRoom (rows cols : List ℕ) (values c : List ℤ) : Type 0 where
+  pub rows-room : mostEntries ≤ length rows
+  pub cols-room : mostEntries ≤ length cols
+  pub values-room : mostEntries ≤ length values
+  pub c-room : mostWagons ≤ length c
+
+-- so many entries, stored over the fronts of lent lists
+pub record Entered (s : List ℕ) (count : ℕ) (rows₀ cols₀ : List ℕ) (values₀ : List ℤ) (rows cols : List ℕ) (values : List ℤ) : Type 0 where
+  pub in-rows : rows ≡ fill (row s) count rows₀
+  pub in-cols : cols ≡ fill (column s) count cols₀
+  pub in-values : values ≡ fill (value s) count values₀
+
 -- H and c, stored over the fronts of lent lists
 pub record Stored (s rows₀ cols₀ : List ℕ) (values₀ c₀ : List ℤ) (rows cols : List ℕ) (values c : List ℤ) : Type 0 where
   pub in-rows : rows ≡ fill (row s) (entryCount s) rows₀
   pub in-cols : cols ≡ fill (column s) (entryCount s) cols₀
   pub in-values : values ≡ fill (value s) (entryCount s) values₀
   pub in-c : c ≡ fill (jobCost s) (wagons s) c₀
+
+-- a job, judged: its number, and H and c stored where it is accepted
+pub record Judged (s rows₀ cols₀ : List ℕ) (values₀ c₀ : List ℤ) (number : ℕ) (rows cols : List ℕ) (values c : List ℤ) : Type 0 where
+  pub numbered : number ≡ jobNumber s
+  pub kept : number ≡ 0 → Stored s rows₀ cols₀ values₀ c₀ rows cols values c

@@ -1,13 +1,10 @@
-// An accepted job: its settings, and its tables read into slices.
+// An accepted job: its settings, and its start, draws and states read into slices.
 use crate::arrays::read_doubles;
-use crate::arrays::read_entries;
-use crate::arrays::read_signed;
 use crate::pins::Behind;
 use crate::pins::behind_pins;
 use crate::pins::pins_number;
 use crate::pins::set_free;
 use crate::places::costs_end;
-use crate::places::entry_at;
 use crate::reading::HeadValues;
 use crate::reading::SettingsValues;
 use crate::reading::head_values;
@@ -25,10 +22,10 @@ ghost use mathlib.Core.Path.{_≡_};
 ghost use Prim.Native.Nat.{_+_, _*_, _≤_, _<_, _^_};
 ghost use lib.ListN.{length};
 ghost use Rattle.laws.specs.Lists.{fill, over};
-ghost use Rattle.limits.specs.Limits.{mostWagons, mostEntries, mostRank, mostStart, mostDrawn};
+ghost use Rattle.limits.specs.Limits.{mostWagons, mostRank, mostStart, mostDrawn};
 ghost use Rattle.job_record.specs.Number.{jobNumber};
 ghost use Rattle.job_record.specs.Reading.{HeadThere, settingsFrom, settingsValues};
-ghost use Rattle.job_record.specs.Values.{pinCount, freeWagons, settingsPlace, drawsPlace, jobStates, jobOf, jobRank, jobStartCount, jobStart, jobDrawn, jobDraw, Stored};
+ghost use Rattle.job_record.specs.Values.{pinCount, freeWagons, settingsPlace, drawsPlace, jobStates, jobOf, jobRank, jobStartCount, jobStart, jobDrawn, jobDraw};
 
 // The fields of one number each: n, the entries, the pins and the wagons that they leave free; the rank as given (0 means the default rank),
 // the rule's code, the start's kind.
@@ -168,20 +165,6 @@ pub fn read_draws(job: &[u8], draws: &mut [f64])
     let first = place_after(drawn, at);
     let count = value_of(drawn) as usize * p.rank;
     read_doubles(job, first, count, draws);
-}
-
-// H and c, over the fronts of the slices.
-pub fn read_table(job: &[u8], rows: &mut [u16], cols: &mut [u16], values: &mut [i64], c: &mut [i64])
-    requires { ⌜ (jobNumber (now job) ≡ 0) × (mostEntries ≤ length (now rows)) × (mostEntries ≤ length (now cols)) × (mostEntries ≤ length (now values)) × (mostWagons ≤ length (now c)) ⌝ }
-    ensures { λ _. ⌜ Stored (now (job .entry)) (now (rows .entry)) (now (cols .entry)) (now (values .entry)) (now (c .entry))
-        (now (rows .exit)) (now (cols .exit)) (now (values .exit)) (now (c .exit)) ⌝ }
-{
-    let head = accepted_head(job);
-    let count = head.count as usize;
-    let n = head.n as usize;
-    let costs = entry_at(count);
-    read_entries(job, count, rows, cols, values);
-    read_signed(job, costs, n, c);
 }
 
 // The states of its wagons, a byte each, over the front of `states`.

@@ -1,4 +1,4 @@
-// The number of a job record: the first refusal in reading order, or 0.
+// The number of a job record: the first refusal in reading order, or 0. H and c are stored as they are judged.
 use crate::arrays::read_entries;
 use crate::arrays::read_signed;
 use crate::pins::behind_pins;
@@ -28,13 +28,13 @@ ghost use mathlib.Core.Bool.{not};
 ghost use Prim.Native.Nat.{ℕ, _+_, _≤_, _<_};
 ghost use lib.ListN.{length};
 ghost use Rattle.laws.specs.Refusal.{first, orElse};
-ghost use Rattle.laws.specs.Lists.{elemZ};
+ghost use Rattle.laws.specs.Lists.{elemZ, fill};
 ghost use Rattle.limits.specs.Limits.{mostWagons, mostEntries};
 ghost use Rattle.job_record.specs.Versions.{known, versions};
-ghost use Rattle.job_record.specs.Fields.{wagons, entryCount, entryAt, value};
+ghost use Rattle.job_record.specs.Fields.{wagons, entryCount, entryAt, value, signedFrom};
 ghost use Rattle.job_record.specs.Reading.{HeadThere, fieldNumber, frameJudged, headJudged};
-ghost use Rattle.job_record.specs.Number.{entriesNumbers, costsNumbers, pinsNumbersBy, runNumbers, jobNumber};
-ghost use Rattle.job_record.specs.Values.{freeWagons, settingsPlace};
+ghost use Rattle.job_record.specs.Number.{entriesNumbers, costsNumbers, jobTableNumber, pinsNumbersBy, runNumbers};
+ghost use Rattle.job_record.specs.Values.{freeWagons, settingsPlace, TableRoom, Entered, Stored, Judged};
 
 // The length of the rest, in a record of `len` bytes.
 fn frame_number(len: usize, rest: Field) -> u8
@@ -118,7 +118,8 @@ fn entries_number(
 ) -> u8
     requires { ⌜ (8 ≤ length (now job)) × (n ≤ mostWagons) × (count ≤ length (now rows)) × (count ≤ length (now cols)) × (count ≤ length (now values)) ⌝ }
     ensures { λ r. ⌜ (r ≡ first (entriesNumbers (now (job .entry)) n count))
-        × (r ≡ 0 → (k : ℕ) → k < count → elemZ (now (values .exit)) k ≡ value (now (job .entry)) k) ⌝ }
+        × (r ≡ 0 → Entered (now (job .entry)) count (now (rows .entry)) (now (cols .entry)) (now (values .entry))
+        (now (rows .exit)) (now (cols .exit)) (now (values .exit))) ⌝ }
 {
     let whole = whole_entries(job, count);
     read_entries(job, whole, rows, cols, values);
@@ -134,35 +135,45 @@ fn entries_number(
     0
 }
 
-// c, then the magnitude of it and of the entries' values.
-fn costs_number(job: &[u8], n: usize, count: usize, values: &[i64]) -> u8
-    requires { ⌜ (n ≤ mostWagons) × (count ≤ mostEntries) × (count ≤ length (now values)) × ((k : ℕ) → k < count → elemZ (now values) k ≡ value (now job) k) ⌝ }
-    ensures { λ r. ⌜ r ≡ first (costsNumbers (now (job .entry)) n count) ⌝ }
+// c, then the magnitude of it and of the entries' values. What is not refused is stored.
+fn costs_number(job: &[u8], n: usize, count: usize, values: &[i64], c: &mut [i64]) -> u8
+    requires { ⌜ (n ≤ mostWagons) × (count ≤ mostEntries) × (count ≤ length (now values)) × (n ≤ length (now c))
+        × ((k : ℕ) → k < count → elemZ (now values) k ≡ value (now job) k) ⌝ }
+    ensures { λ r. ⌜ (r ≡ first (costsNumbers (now (job .entry)) n count))
+        × (r ≡ 0 → now (c .exit) ≡ fill (signedFrom (now (job .entry)) (entryAt count)) n (now (c .entry))) ⌝ }
 {
     if job.len() < costs_end(n, count) {
         return 11;
     }
-    let mut c = [0i64; limits::MOST_WAGONS];
-    read_signed(job, entry_at(count), n, &mut c);
-    if hall_too_large(MOST_MAGNITUDE, n, count, values, &c) {
+    read_signed(job, entry_at(count), n, c);
+    if hall_too_large(MOST_MAGNITUDE, n, count, values, c) {
         return 16;
     }
     0
 }
 
 // The entries and c.
-fn table_number(job: &[u8], n: usize, count: usize) -> u8
-    requires { ⌜ (8 ≤ length (now job)) × (n ≤ mostWagons) × (count ≤ mostEntries) ⌝ }
-    ensures { λ r. ⌜ r ≡ orElse (first (entriesNumbers (now (job .entry)) n count)) (first (costsNumbers (now (job .entry)) n count)) ⌝ }
+fn table_number(
+    job: &[u8],
+    head: HeadValues,
+    rows: &mut [u16],
+    cols: &mut [u16],
+    values: &mut [i64],
+    c: &mut [i64],
+) -> u8
+    requires { ⌜ HeadThere (now job) head × (8 ≤ length (now job)) × (wagons (now job) ≤ mostWagons) × (entryCount (now job) ≤ mostEntries)
+        × TableRoom (now rows) (now cols) (now values) (now c) ⌝ }
+    ensures { λ r. ⌜ (r ≡ jobTableNumber (now (job .entry)))
+        × (r ≡ 0 → Stored (now (job .entry)) (now (rows .entry)) (now (cols .entry)) (now (values .entry)) (now (c .entry))
+        (now (rows .exit)) (now (cols .exit)) (now (values .exit)) (now (c .exit))) ⌝ }
 {
-    let mut rows = [0u16; limits::MOST_ENTRIES];
-    let mut cols = [0u16; limits::MOST_ENTRIES];
-    let mut values = [0i64; limits::MOST_ENTRIES];
-    let entries = entries_number(job, n, count, &mut rows, &mut cols, &mut values);
+    let n = head.n as usize;
+    let count = head.count as usize;
+    let entries = entries_number(job, n, count, rows, cols, values);
     if entries != 0 {
         return entries;
     }
-    costs_number(job, n, count, &values)
+    costs_number(job, n, count, values, c)
 }
 
 // Behind c: the pins, then the rest for the free wagons.
@@ -178,9 +189,17 @@ fn rest_number(job: &[u8], head: HeadValues) -> u8
     run_number(job, b.free, b.settings)
 }
 
-// The first number of a job record in the order of reading, 0 where it is accepted.
-pub fn job_number(job: &[u8]) -> u8
-    ensures { λ r. ⌜ r ≡ jobNumber (now (job .entry)) ⌝ }
+// The first number of a job record in the order of reading, 0 where it is accepted; H and c then stand over the fronts of the slices.
+pub fn judge_job(
+    job: &[u8],
+    rows: &mut [u16],
+    cols: &mut [u16],
+    values: &mut [i64],
+    c: &mut [i64],
+) -> u8
+    requires { ⌜ TableRoom (now rows) (now cols) (now values) (now c) ⌝ }
+    ensures { λ r. ⌜ Judged (now (job .entry)) (now (rows .entry)) (now (cols .entry)) (now (values .entry)) (now (c .entry)) r
+        (now (rows .exit)) (now (cols .exit)) (now (values .exit)) (now (c .exit)) ⌝ }
 {
     let head = read_head(job);
     let number = head_number(job.len(), head);
@@ -188,9 +207,7 @@ pub fn job_number(job: &[u8]) -> u8
         return number;
     }
     let v = head_values(head);
-    let n = v.n as usize;
-    let count = v.count as usize;
-    let table = table_number(job, n, count);
+    let table = table_number(job, v, rows, cols, values, c);
     if table != 0 {
         return table;
     }

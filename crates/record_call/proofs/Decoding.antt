@@ -1,6 +1,6 @@
 -- From what the calls of a run promise to what an accepted job's run is. Assumes nothing.
---     full-costs   H and c, read into slices of which the fronts are lent on
---     reduced-read, own-read    the (H, c) of the run
+--     at-fronts, cut    H and c, stored at the fronts of slices, and lent on from there
+--     reduced-run, unpinned-run    the (H, c) of the run
 --     run-fields, lifted-choice    the answer
 --     opened-run, swept-run, unswept-run, finished    open, sweep and finish of a decoded job
 use Prim.Native.Nat.{ℕ, zero, suc, _+_, _*_, _≤_, _<_}
@@ -44,16 +44,23 @@ use Rattle.run_contract.specs.Calls.{Settings, openNumberOf, openSize, openRank
 use Rattle.answer_record.specs.declared.answer.Answer.{Answer}
 use Rattle.job_record.specs.Fields.{wagons, entryCount, row, column, value}
 use Rattle.job_record.specs.Number.{jobNumber}
-use Rattle.job_record.specs.Values.{pinCount, freeWagons, jobStates, jobBy, jobOf, jobCost, jobRank, jobStartCount, jobStart, jobDrawn, jobDraw, Stored}
+use Rattle.job_record.specs.Values.{pinCount, freeWagons, jobStates, jobBy, jobOf, jobCost, jobRank, jobStartCount, jobStart, jobDrawn, jobDraw, TableRoom, Stored}
 use Rattle.job_record.specs.declared.job.Job.{Job}
 use Rattle.job_record.proofs.Same.{filled}
 use Rattle.job_record.proofs.Products.{area}
 use Rattle.job_record.proofs.Accepted.{fields, start-fits, drawn-fits}
 use Rattle.record_call.specs.Record.{jobCosts, reducedCosts, runCosts, pinnedCost, jobSettings, jobDraws, opened, stopped, jobResult, jobChoice, fieldsOf, jobFields, wholeChoice}
-use Rattle.record_call.specs.Decoded.{Decoded, CostsRoom, CostsRead, FiguresFit}
-use Rattle.record_call.proofs.Freed.{same-costs, rows-long, cols-long, values-long, costs-long, choice-long, states-whole, job-hall, many-free, run-n, run-hall, no-pins, constant-none}
+use Rattle.record_call.specs.Decoded.{Decoded, AtFronts, OwnCosts, FiguresFit}
+use Rattle.record_call.proofs.Freed.{same-costs, rows-long, cols-long, values-long, costs-long, choice-long, states-whole, job-hall, many-free, run-n, run-hall, no-pins, constant-none, whole-none}
 use Rattle.record_call.proofs.Figures.{rank-low, figures-fit}
 use Rattle.record_call.proofs.Accepted.{opens, sweeps, start-whole, stopped-is, stops, factor-whole, finishes, few, rank-is, rank-few, size-is}
+
+-- (H, c) reduced into slices, whose fronts hold that of the run; and the constant
+pub record ReducedRun (s : List ℕ) (t : Shrunk) (rows cols : List ℕ) (values c : List ℤ) : Type 0 where
+  pub many : t .free ≡ length (freeOf (jobCosts s .n) (jobStates s))
+  pub few : t .count ≤ mostEntries
+  pub costs-are : costTable (t .free) (t .count) (take (t .count) rows) (take (t .count) cols) (take (t .count) values) (take (t .free) c) ≡ runCosts s
+  pub constant-is : t .constant ≡ pinnedCost s
 
 -- ---- reading
 
@@ -71,17 +78,37 @@ module _ (s : List ℕ) (e : jobNumber s ≡ 0) where
   unfolding jobBy
   count-of = refl
 
-  -- H and c at the fronts of slices that they were read into
-  pub full-costs : (j : Job) {rows₀ cols₀ : List ℕ} {values₀ c₀ : List ℤ} {rows cols : List ℕ} {values c : List ℤ} → j ≡ jobOf s → Stored s rows₀ cols₀ values₀ c₀ rows cols values c
-      → mostEntries ≤ length rows₀ → mostEntries ≤ length cols₀ → mostEntries ≤ length values₀ → mostWagons ≤ length c₀
-      → costTable (j .n) (j .count) (take (j .count) rows) (take (j .count) cols) (take (j .count) values) (take (j .n) c) ≡ jobCosts s
+  -- H and c at the fronts of slices that they were stored into
+  pub at-fronts : {rows₀ cols₀ : List ℕ} {values₀ c₀ : List ℤ} {rows cols : List ℕ} {values c : List ℤ} → Stored s rows₀ cols₀ values₀ c₀ rows cols values c → TableRoom rows₀ cols₀ values₀ c₀ → AtFronts s rows cols values c
   unfolding jobCosts
-  full-costs j {rows₀} {cols₀} {values₀} {c₀} is stored fr fk fv fc =
+  at-fronts {rows₀} {cols₀} {values₀} {c₀} stored room =
       let f = fields s e in
+      record {
+        accepted = e;
+        room =
+            record {
+              rows-room = rw (stored .in-rows, length-fill (row s) rows₀ (entryCount s)) (room .rows-room);
+              cols-room = rw (stored .in-cols, length-fill (column s) cols₀ (entryCount s)) (room .cols-room);
+              values-room = rw (stored .in-values, length-fill (value s) values₀ (entryCount s)) (room .values-room);
+              c-room = rw (stored .in-c, length-fill (jobCost s) c₀ (wagons s)) (room .c-room);
+            };
+        costs-are =
+            same-costs refl refl (rw (stored .in-rows) (front (row s) rows₀ 0 (entryCount s) (omega (arith, f .short, room .rows-room))))
+            (rw (stored .in-cols) (front (column s) cols₀ 0 (entryCount s) (omega (arith, f .short, room .cols-room))))
+            (rw (stored .in-values) (front (value s) values₀ (pos 0) (entryCount s) (omega (arith, f .short, room .values-room))))
+            (rw (stored .in-c) (front (jobCost s) c₀ (pos 0) (wagons s) (omega (arith, f .few, room .c-room))));
+      }
+
+  -- and cut from there
+  pub cut : {rows cols : List ℕ} {values c : List ℤ} → AtFronts s rows cols values c → (j : Job) → j ≡ jobOf s → OwnCosts s j (take (j .count) rows) (take (j .count) cols) (take (j .count) values) (take (j .n) c)
+  cut {rows} {cols} {values} {c} a j is =
       let n : j .n ≡ wagons s = ap (λ (x : Job). x .n) is ∙ n-of in
       let count : j .count ≡ entryCount s = ap (λ (x : Job). x .count) is ∙ count-of in
-      same-costs n count (rw (count, stored .in-rows) (front (row s) rows₀ 0 (entryCount s) (omega (arith, f .short)))) (rw (count, stored .in-cols) (front (column s) cols₀ 0 (entryCount s) (omega (arith, f .short))))
-      (rw (count, stored .in-values) (front (value s) values₀ (pos 0) (entryCount s) (omega (arith, f .short)))) (rw (n, stored .in-c) (front (jobCost s) c₀ (pos 0) (wagons s) (omega (arith, f .few))))
+      record {
+        accepted = e;
+        job-is = is;
+        costs-are = same-costs n count (ap (λ (k : ℕ). take k rows) count) (ap (λ (k : ℕ). take k cols) count) (ap (λ (k : ℕ). take k values) count) (ap (λ (k : ℕ). take k c) n) ∙ a .costs-are;
+      }
 
   pub start-read : (numbers : ℕ) (start₀ start : List Float) → numbers ≡ jobStartCount s → start ≡ fill (jobStart s) (jobStartCount s) start₀ → mostStart ≤ length start₀ → take numbers start ≡ tabulate (jobStart s) (jobStartCount s)
   start-read numbers start₀ start count-is stored fs = rw (count-is, stored) (front (jobStart s) start₀ zero64 (jobStartCount s) (omega (arith, start-fits s e)))
@@ -140,22 +167,12 @@ module _ (s : List ℕ) (e : jobNumber s ≡ 0) where
     pub own-reducing : Reducing (own .n) (own .count) (own .rows) (own .cols) (own .values) (own .c) states
     own-reducing = rw (same, is) job-reducing
 
-    own-few : own .count ≤ mostEntries
-    own-few = rw same (job-hall s e .entries)
-
-    pub own-room : {free rows cols : List ℕ} {values c : List ℤ} → CostsRoom free rows cols values c
-        → (own .n ≤ length free) × Room 0 (own .count) rows cols values × (own .n ≤ length c)
-    own-room r =
-        let n : own .n ≤ mostWagons = rw same (job-hall s e .wagons) in (
-          omega (arith, n, r .free-room),
-          record { rows-room = omega (arith, own-few, r .rows-room); cols-room = omega (arith, own-few, r .cols-room); values-room = omega (arith, own-few, r .values-room) },
-          omega (arith, n, r .c-room),
-        )
+    pub own-wagons : (free free′ : List ℕ) → free′ ≡ over (freeOf (own .n) states) free → free′ ≡ over (freeOf (jobCosts s .n) (jobStates s)) free
+    own-wagons free free′ made = made ∙ rw (same, is)
 
     -- reduced
-    module _ {free free′ rows cols : List ℕ} {values c : List ℤ} {rows′ cols′ : List ℕ} {values′ c′ : List ℤ} {t : Shrunk} (r : CostsRoom free rows cols values c)
-        (wagons : free′ ≡ over (freeOf (own .n) states) free) (many : t .free ≡ length (freeOf (own .n) states))
-        (made : Shrinks (own .n) (quadratic own) (linear own) states rows cols values c rows′ cols′ values′ c′ (t .count) (t .constant)) where
+    module _ {rows cols : List ℕ} {values c : List ℤ} {rows′ cols′ : List ℕ} {values′ c′ : List ℤ} (t : Shrunk) (many : t .free ≡ length (freeOf (own .n) states))
+        (made : Shrinks (own .n) (quadratic own) (linear own) states rows cols values c rows′ cols′ values′ c′ (t .count) (t .constant)) (r : TableRoom rows cols values c) where
       count-few : t .count ≤ mostEntries
       unfolding freeTable
       count-few = omega (arith, made .many, reduce-hall (own-reducing .hall) states .entries)
@@ -167,47 +184,57 @@ module _ (s : List ℕ) (e : jobNumber s ≡ 0) where
       unfolding runCosts
       run-is = rw (is, same)
 
-      pub reduced-read : CostsRead s free t free′ rows′ cols′ values′ c′
+      pub reduced-run : ReducedRun s t rows′ cols′ values′ c′
       unfolding reducedCosts pinnedCost
-      reduced-read =
+      reduced-run =
           record {
-            wagons-are = wagons ∙ rw (same, is);
             many = many ∙ rw (same, is);
             few = count-few;
             costs-are = same-costs many (made .many) (rows-front made room) (cols-front made room) (values-front made room) (rw many (costs-front made)) ∙ run-is;
             constant-is = made .constant-is ∙ rw (same, is);
           }
 
-    -- as they are, where no wagon is pinned
-    module _ (none : pinCount s ≡ 0) where
-      pub own-read : {free free′ : List ℕ} {rows cols : List ℕ} {values c : List ℤ} {t : Shrunk} → free′ ≡ over (freeOf (own .n) states) free → t .free ≡ length (freeOf (own .n) states) → t .count ≡ own .count
-          → t .constant ≡ pos 0 → take (t .count) rows ≡ own .rows → take (t .count) cols ≡ own .cols → take (t .count) values ≡ own .values → take (own .n) c ≡ own .c
-          → CostsRead s free t free′ rows cols values c
-      own-read {c = c} {t = t} wagons many count constant rs ks vs cs =
-          let n : t .free ≡ own .n = many ∙ (rw (same, is) (many-free s e ∙ sym (run-n s e) ∙ ap (λ (x : CostTable). x .n) (no-pins s e none))) in
-          record {
-            wagons-are = wagons ∙ rw (same, is);
-            many = many ∙ rw (same, is);
-            few = omega (arith, count, own-few);
-            costs-are = same-costs n count rs ks vs (rw n cs) ∙ same ∙ sym (no-pins s e none);
-            constant-is = constant ∙ sym (constant-none s e none);
-          }
-
-  pub none-pinned : (j : Job) → j ≡ jobOf s → j .pins ≡ 0 → pinCount s ≡ 0
+  none-pinned : (j : Job) → j ≡ jobOf s → j .pins ≡ 0 → pinCount s ≡ 0
   none-pinned j is none = sym pins-of ∙ sym (ap (λ (x : Job). x .pins) is) ∙ none
+
+  -- as they are, where no wagon is pinned
+  module _ {j : Job} {rows cols : List ℕ} {values c : List ℤ} (o : OwnCosts s j rows cols values c) (none : j .pins ≡ 0) where
+    no-pin : pinCount s ≡ 0
+    no-pin = none-pinned j (o .job-is) none
+
+    pub unpinned-run : costTable (j .free) (j .count) rows cols values c ≡ runCosts s
+    unpinned-run =
+        let n : j .free ≡ j .n = job-free j (o .job-is) ∙ many-free s e ∙ sym (run-n s e) ∙ ap (λ (t : CostTable). t .n) (no-pins s e no-pin) ∙ sym (job-n j (o .job-is)) in
+        same-costs n refl refl refl refl refl ∙ o .costs-are ∙ sym (no-pins s e no-pin)
+
+    pub unpinned-figures : {x : FinishResult} → x ≡ jobResult (runCosts s) s → (j .n < 256) × (x .rank < 256) × FiguresFit (pos 0) x
+    unpinned-figures q =
+        rw (job-n j (o .job-is), q)
+        (omega (arith, job-hall s e .wagons), omega (arith, rank-low s e), subst (λ (k : ℤ). FiguresFit k (jobResult (runCosts s) s)) (constant-none s e no-pin) (figures-fit s e))
+
+    pub unpinned-fields : {x : FinishResult} {a : Answer} → x ≡ jobResult (runCosts s) s → a ≡ fieldsOf (j .n) (pos 0) x → a ≡ jobFields s
+    unfolding jobFields
+    unpinned-fields q f = f ∙ rw (job-n j (o .job-is), q, constant-none s e no-pin)
+
+    pub unpinned-choice : (b b′ : List ℕ) → b′ ≡ over (jobChoice (runCosts s) s) b → b′ ≡ over (wholeChoice s) b
+    unpinned-choice b b′ made = made ∙ ap (λ (x : List ℕ). over x b) (sym (whole-none s e no-pin))
 
   -- ---- the answer
 
-  module _ {free free′ rows cols : List ℕ} {values c : List ℤ} {t : Shrunk} (r : CostsRead s free t free′ rows cols values c) where
+  -- the free wagons, cut from the front of the slice
+  pub free-fits : (j : Job) → j ≡ jobOf s → j .free ≤ mostWagons
+  free-fits j is = omega (arith, job-free j is, Free.free-few (jobCosts s .n) (jobStates s), job-hall s e .wagons)
+
+  pub free-cut : (j : Job) → j ≡ jobOf s → (free free′ : List ℕ) → free′ ≡ over (freeOf (jobCosts s .n) (jobStates s)) free → take (j .free) free′ ≡ freeOf (jobCosts s .n) (jobStates s)
+  free-cut j is free free′ made = rw made (take-at (freeOf (jobCosts s .n) (jobStates s)) _ (j .free) (sym (job-free j is)))
+
+  module _ {rows cols : List ℕ} {values c : List ℤ} {t : Shrunk} (r : ReducedRun s t rows cols values c) where
     pub run-few : t .free ≤ mostWagons
     unfolding runCosts reducedCosts
     run-few = omega (arith, r .many, run-hall s e .wagons)
 
     pub run-table : (j : Job) → j ≡ jobOf s → costTable (j .free) (t .count) (take (t .count) rows) (take (t .count) cols) (take (t .count) values) (take (t .free) c) ≡ runCosts s
     run-table j is = same-costs (job-free j is ∙ sym (r .many)) refl refl refl refl refl ∙ r .costs-are
-
-    pub free-cut : take (t .free) free′ ≡ freeOf (jobCosts s .n) (jobStates s)
-    free-cut = rw (r .wagons-are) (take-at (freeOf (jobCosts s .n) (jobStates s)) _ (t .free) (sym (r .many)))
 
     -- an i64 holds the constant
     run-held : toZ w64 (ofZ w64 (t .constant)) ≡ t .constant

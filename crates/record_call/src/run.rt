@@ -7,7 +7,6 @@ use job_record::job::job_start_count;
 use job_record::job::read_draws;
 use job_record::job::read_start;
 use job_record::job::read_states;
-use job_record::job::read_table;
 use job_record::pins::FREE;
 use limits::MOST_DRAWN;
 use limits::MOST_ENTRIES;
@@ -16,8 +15,6 @@ use limits::MOST_SIGNS;
 use limits::MOST_START;
 use limits::MOST_WAGONS;
 use pinned::lift::lift_choice;
-use pinned::reduce::Shrunk;
-use pinned::reduce::free_wagons;
 use pinned::reduce::reduce;
 use run_contract::FinishResult;
 use run_record::OpenSettings;
@@ -36,7 +33,7 @@ ghost use Rattle.run_contract.specs.PlainRun.{recordOf};
 ghost use Rattle.job_record.specs.Number.{jobNumber};
 ghost use Rattle.job_record.specs.Values.{jobStates, jobOf, jobDrawn};
 ghost use Rattle.record_call.specs.Record.{runCosts, jobSettings, jobDraws, stopped, jobResult, jobChoice, fieldsOf, jobFields, wholeChoice};
-ghost use Rattle.record_call.specs.Decoded.{Decoded, CostsRoom, CostsRead, FiguresFit};
+ghost use Rattle.record_call.specs.Decoded.{Decoded, AtFronts, OwnCosts, FreeRun, FiguresFit};
 
 // The job's open and, where its most is above 0, a sweep up to the most.
 fn run_job(
@@ -187,75 +184,6 @@ fn fields_of(n: usize, constant: i64, x: FinishResult) -> Answer
     }
 }
 
-// The (H, c) of the free wagons, where wagons are pinned: all are read, and reduced into the slices.
-fn read_reduced(
-    job: &[u8],
-    j: Job,
-    states: &[u8],
-    free: &mut [u16],
-    rows: &mut [u16],
-    cols: &mut [u16],
-    values: &mut [i64],
-    c: &mut [i64],
-) -> Shrunk
-    requires { ⌜ (jobNumber (now job) ≡ 0) × (j ≡ jobOf (now job)) × (now states ≡ jobStates (now job)) × CostsRoom (now free) (now rows) (now cols) (now values) (now c) ⌝ }
-    ensures { λ r. ⌜ CostsRead (now (job .entry)) (now (free .entry)) r (now (free .exit)) (now (rows .exit)) (now (cols .exit)) (now (values .exit)) (now (c .exit)) ⌝ }
-{
-    let mut all_rows = [0u16; MOST_ENTRIES];
-    let mut all_cols = [0u16; MOST_ENTRIES];
-    let mut all_values = [0i64; MOST_ENTRIES];
-    let mut all_c = [0i64; MOST_WAGONS];
-    read_table(
-        job,
-        &mut all_rows,
-        &mut all_cols,
-        &mut all_values,
-        &mut all_c,
-    );
-    let n = j.n;
-    let count = j.count;
-    reduce(
-        n,
-        count,
-        &all_rows[..count],
-        &all_cols[..count],
-        &all_values[..count],
-        &all_c[..n],
-        states,
-        free,
-        rows,
-        cols,
-        values,
-        c,
-    )
-}
-
-// The (H, c) of the run, over the fronts of the slices, and the free wagons; where no wagon is pinned it is the job's own.
-fn read_costs(
-    job: &[u8],
-    j: Job,
-    states: &[u8],
-    free: &mut [u16],
-    rows: &mut [u16],
-    cols: &mut [u16],
-    values: &mut [i64],
-    c: &mut [i64],
-) -> Shrunk
-    requires { ⌜ (jobNumber (now job) ≡ 0) × (j ≡ jobOf (now job)) × (now states ≡ jobStates (now job)) × CostsRoom (now free) (now rows) (now cols) (now values) (now c) ⌝ }
-    ensures { λ r. ⌜ CostsRead (now (job .entry)) (now (free .entry)) r (now (free .exit)) (now (rows .exit)) (now (cols .exit)) (now (values .exit)) (now (c .exit)) ⌝ }
-{
-    if j.pins != 0 {
-        return read_reduced(job, j, states, free, rows, cols, values, c);
-    }
-    read_table(job, rows, cols, values, c);
-    let all = free_wagons(j.n, states, free);
-    Shrunk {
-        free: all,
-        count: j.count,
-        constant: 0,
-    }
-}
-
 // The finish of an accepted job over the (H, c) of its run: start and draws are read.
 fn finish_read(
     job: &[u8],
@@ -293,30 +221,41 @@ fn finish_read(
     )
 }
 
-// The answer of an accepted job: its fields, and the choice of all wagons over the front of b.
-pub fn job_answer(job: &[u8], b: &mut [u8], workspace: &mut [u64]) -> Answer
-    requires { ⌜ (jobNumber (now job) ≡ 0) × (mostWagons ≤ length (now b)) × (searchWorkspace ≤ length (now workspace)) ⌝ }
-    ensures { λ r. ⌜ (r ≡ jobFields (now (job .entry))) × (now (b .exit) ≡ over (wholeChoice (now (job .entry))) (now (b .entry))) ⌝ }
+// The fields of a job with pins: H and c are reduced into arrays, where the run is; the free wagons and their choice go over the fronts of
+// `free` and `chosen`.
+fn finish_reduced(
+    job: &[u8],
+    j: Job,
+    rows: &[u16],
+    cols: &[u16],
+    values: &[i64],
+    c: &[i64],
+    states: &[u8],
+    free: &mut [u16],
+    chosen: &mut [u8],
+    workspace: &mut [u64],
+) -> Answer
+    requires { ⌜ OwnCosts (now job) j (now rows) (now cols) (now values) (now c) × (now states ≡ jobStates (now job))
+        × (mostWagons ≤ length (now free)) × (mostWagons ≤ length (now chosen)) × (searchWorkspace ≤ length (now workspace)) ⌝ }
+    ensures { λ r. ⌜ FreeRun (now (job .entry)) (now (free .entry)) (now (chosen .entry)) r (now (free .exit)) (now (chosen .exit)) ⌝ }
 {
-    let mut rows = [0u16; MOST_ENTRIES];
-    let mut cols = [0u16; MOST_ENTRIES];
-    let mut values = [0i64; MOST_ENTRIES];
-    let mut c = [0i64; MOST_WAGONS];
-    let mut states = [FREE; MOST_WAGONS];
-    let mut free = [0u16; MOST_WAGONS];
-    let mut chosen = [0u8; MOST_WAGONS];
-    let j = job_of(job);
-    let n = j.n;
-    read_states(job, &mut states);
-    let t = read_costs(
-        job,
-        j,
-        &states[..n],
-        &mut free,
-        &mut rows,
-        &mut cols,
-        &mut values,
-        &mut c,
+    let mut to_rows = [0u16; MOST_ENTRIES];
+    let mut to_cols = [0u16; MOST_ENTRIES];
+    let mut to_values = [0i64; MOST_ENTRIES];
+    let mut to_c = [0i64; MOST_WAGONS];
+    let t = reduce(
+        j.n,
+        j.count,
+        rows,
+        cols,
+        values,
+        c,
+        states,
+        free,
+        &mut to_rows,
+        &mut to_cols,
+        &mut to_values,
+        &mut to_c,
     );
     let count = t.count;
     let some = t.free;
@@ -324,13 +263,97 @@ pub fn job_answer(job: &[u8], b: &mut [u8], workspace: &mut [u64]) -> Answer
         job,
         j,
         count,
-        &rows[..count],
-        &cols[..count],
-        &values[..count],
-        &c[..some],
+        &to_rows[..count],
+        &to_cols[..count],
+        &to_values[..count],
+        &to_c[..some],
+        chosen,
+        workspace,
+    );
+    fields_of(j.n, t.constant, x)
+}
+
+// The answer of a job with pins: its fields, and over the front of b the choice of the free wagons with the pinned ones in their stores.
+fn pinned_answer(
+    job: &[u8],
+    j: Job,
+    rows: &[u16],
+    cols: &[u16],
+    values: &[i64],
+    c: &[i64],
+    b: &mut [u8],
+    workspace: &mut [u64],
+) -> Answer
+    requires { ⌜ OwnCosts (now job) j (now rows) (now cols) (now values) (now c) × (mostWagons ≤ length (now b)) × (searchWorkspace ≤ length (now workspace)) ⌝ }
+    ensures { λ r. ⌜ (r ≡ jobFields (now (job .entry))) × (now (b .exit) ≡ over (wholeChoice (now (job .entry))) (now (b .entry))) ⌝ }
+{
+    let mut states = [FREE; MOST_WAGONS];
+    let mut free = [0u16; MOST_WAGONS];
+    let mut chosen = [0u8; MOST_WAGONS];
+    let n = j.n;
+    let some = j.free;
+    read_states(job, &mut states);
+    let fields = finish_reduced(
+        job,
+        j,
+        rows,
+        cols,
+        values,
+        c,
+        &states[..n],
+        &mut free,
         &mut chosen,
         workspace,
     );
     lift_choice(n, &states[..n], &free[..some], &chosen, b);
-    fields_of(n, t.constant, x)
+    fields
+}
+
+// The answer over H and c; where no wagon is pinned the run is on them as they are.
+fn costs_answer(
+    job: &[u8],
+    j: Job,
+    rows: &[u16],
+    cols: &[u16],
+    values: &[i64],
+    c: &[i64],
+    b: &mut [u8],
+    workspace: &mut [u64],
+) -> Answer
+    requires { ⌜ OwnCosts (now job) j (now rows) (now cols) (now values) (now c) × (mostWagons ≤ length (now b)) × (searchWorkspace ≤ length (now workspace)) ⌝ }
+    ensures { λ r. ⌜ (r ≡ jobFields (now (job .entry))) × (now (b .exit) ≡ over (wholeChoice (now (job .entry))) (now (b .entry))) ⌝ }
+{
+    if j.pins != 0 {
+        return pinned_answer(job, j, rows, cols, values, c, b, workspace);
+    }
+    let x = finish_read(job, j, j.count, rows, cols, values, c, b, workspace);
+    fields_of(j.n, 0, x)
+}
+
+// The answer of an accepted job, whose H and c stand at the fronts of the slices: its fields, and the choice of all wagons over the front of b.
+pub fn job_answer(
+    job: &[u8],
+    rows: &[u16],
+    cols: &[u16],
+    values: &[i64],
+    c: &[i64],
+    b: &mut [u8],
+    workspace: &mut [u64],
+) -> Answer
+    requires { ⌜ AtFronts (now job) (now rows) (now cols) (now values) (now c) × (mostWagons ≤ length (now b)) × (searchWorkspace ≤ length (now workspace)) ⌝ }
+    ensures { λ r. ⌜ (r ≡ jobFields (now (job .entry))) × (now (b .exit) ≡ over (wholeChoice (now (job .entry))) (now (b .entry))) ⌝ }
+{
+    let j = job_of(job);
+    let n = j.n;
+    let count = j.count;
+    costs_answer(
+        job,
+        j,
+        &rows[..count],
+        &cols[..count],
+        &values[..count],
+        &c[..n],
+        b,
+        workspace,
+    )
 }
