@@ -57,7 +57,7 @@ enum {
     WAGONPLAN_SETTING_WORDS = 8,
     WAGONPLAN_RESULT_WORDS = 11,
 
-    WAGONPLAN_STACK = 524288 // bytes of stack that a call may take
+    WAGONPLAN_STACK = 589824 // bytes of stack that a call may take
 };
 
 // What `wagonplan_size` can be asked for.
