@@ -29,6 +29,9 @@ pub both-left : {p q : ℕ} {f s : Bool} (a b x y : Float) → a ≡ x → b ≡
     → p + q ≡ stands x + stands y
 both-left a b x y ea eb ef es ep eq = rw (ep, eq, ef, es, ea, eb) refl
 
+pub none-left : (a b x y : Float) → a ≡ x → b ≡ y → wrote a ≡ true → wrote b ≡ true → 0 ≡ stands x + stands y
+none-left a b x y ea eb wa wb = rw (← ea, ← eb, wa, wb) refl
+
 module _ (cols : List ℕ) (values : List Float) (starts : List ℕ) (rank : ℕ) (beta : Float) where
   -- a row that doesn't see the one before it has the norm that it had before that was made anew
   pub norm-away : (xs : List Float) (i : ℕ) → i * rank + rank ≤ length xs → meetsNext cols starts i ≡ false

@@ -17,7 +17,6 @@ ghost use Rattle.coordinate_sweep.specs.Sweep.{momentumRow, normalized, 
 use super::left_of;
 use super::set_momentum;
 use super::update_at;
-use super::writes;
 use factor::rows::row;
 use factor::rows::scale;
 use factor::sums::squared_norm;
@@ -98,14 +97,13 @@ pub fn renew_pair(factor: &mut [f64], g: &[f64], h: &[f64], i: usize, beta: f64)
 {
     let a = ieee::sqrt(squared_norm(g));
     let b = ieee::sqrt(squared_norm(h));
-    let left = left_of(writes(a)) + left_of(writes(b));
     if moves(a, b, beta) {
         move_pair(factor, g, h, i, 1.0 / a, 1.0 / b, beta);
-    } else {
-        update_at(factor, g, i, a, beta);
-        update_at(factor, h, i + 1, b, beta);
+        return 0;
     }
-    left
+    let first = update_at(factor, g, i, a, beta);
+    let second = update_at(factor, h, i + 1, b, beta);
+    left_of(first) + left_of(second)
 }
 
 // Whether column i is found by now, after one more.
