@@ -200,6 +200,7 @@ static const char *list_name, *text;
 static size_t line_at, line_length;
 static Words line_words, group_words;
 static Argument group[TABLE]; // the last table or job, for `~`
+static int lost, lost_run;    // whether a line with one, or one that leaves a run, was passed over since
 static Argument arguments[ARGUMENTS];
 static size_t argument_count;
 
@@ -290,6 +291,7 @@ static Argument read_argument(Words *w, char kind) {
 static void read_group(const char *kinds) {
     size_t count = strlen(kinds);
     if (!mark('~')) {
+        lost = 0;
         room_for_line(&group_words);
         for (size_t k = 0; k < count; k++) group[k] = read_argument(&group_words, kinds[k]);
     }
@@ -553,20 +555,27 @@ static void replay_line(const char *line) {
     if (*text) give_up("a word too many");
 }
 
-// A line that goes on with the one before: by its table or job, or by the run.
-static int leans(const char *line) { return strstr(line, " ~ ") || !strncmp(line, "sweep ", 6) || !strncmp(line, "finish ", 7); }
+static int begins(const char *line, const char *name) { return !strncmp(line, name, strlen(name)); }
+
+// Passes over a line that is too long, or that goes on with one that was: by its table or job, or by the run.
+static int passed_over(const char *line, size_t longest) {
+    int leans = strstr(line, " ~ ") != 0, of_run = begins(line, "sweep ") || begins(line, "finish ");
+    int passed = longest < line_length || (lost && leans) || (lost_run && of_run);
+    if (passed && !leans) lost = 1;
+    if (begins(line, "open ") || begins(line, "run ")) lost_run = passed;
+    else if (passed && of_run) lost_run = 1;
+    return passed;
+}
 
 static void replay_list(FILE *list, size_t longest) {
     char *line = 0;
     size_t room = 0;
     ssize_t length;
-    int passed_over = 0;
     for (line_at = 1; (length = getline(&line, &room, list)) > 0; line_at++) {
         line[strcspn(line, "\n")] = 0;
         if (!*line || *line == '#') continue;
         line_length = (size_t)length;
-        passed_over = longest < line_length || (passed_over && leans(line));
-        if (!passed_over) replay_line(line);
+        if (!passed_over(line, longest)) replay_line(line);
     }
     free(line);
 }
