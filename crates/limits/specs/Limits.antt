@@ -88,3 +88,20 @@ leastAnswer = 60 + mostWagons
 
 abbrev pub mostSize : ℕ
 mostSize = 1024
+
+-- ---- 02's later requests: the blocks of one call, the wagons of a house that is walked in full, the runs that share a turn and the sweeps of one
+
+abbrev pub mostBlocks : ℕ
+mostBlocks = 16
+
+abbrev pub mostWalked : ℕ
+mostWalked = 16
+
+abbrev pub mostRuns : ℕ
+mostRuns = 8
+
+abbrev pub leastTurn : ℕ
+leastTurn = 8
+
+abbrev pub mostTurn : ℕ
+mostTurn = 10000

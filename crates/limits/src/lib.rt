@@ -57,3 +57,14 @@ pub const LEAST_ANSWER: usize = 60 + MOST_WAGONS;
 
 // The reduced pair's original size; its table has at most as many entries as a sign table.
 pub const MOST_SIZE: usize = 1_024;
+
+// 02's later requests: the blocks of one call, the wagons of a house that is walked in full, the runs that share a turn and the sweeps of one.
+pub const MOST_BLOCKS: usize = 16;
+
+pub const MOST_WALKED: usize = 16;
+
+pub const MOST_RUNS: usize = 8;
+
+pub const LEAST_TURN: u32 = 8;
+
+pub const MOST_TURN: u32 = 10_000;
