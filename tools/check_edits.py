@@ -2,7 +2,7 @@
 """Says why each edit of crates/*/must-fail and crates/*/edits was refused, from the logs that `rt ci` and tools/try_edits.py leave under
 target/must-fail.
 
-  tools/check_edits.py [--list]
+  tools/check_edits.py [--list] [--more]      --more: those of crates/*/more, which the gate leaves out, after tools/try_edits.py --folder more
 
 An edit counts only where a fact fails: something that the edited crate has to prove and that doesn't hold (controls, which must be proved, aside). Where the proof as it stands no longer
 fits the code (a step that has another name now, a name that isn't there), the refusal shows nothing. The exit status is 0 where every edit of the
@@ -44,7 +44,8 @@ def complaint(log):
 
 def main():
     tally, bad, listed = collections.Counter(), [], "--list" in sys.argv[1:]
-    found = [edit for folder in ("must-fail", "edits") for edit in glob.glob(os.path.join(TOP, "crates", "*", folder, "*.edit"))]
+    folders = ("more",) if "--more" in sys.argv[1:] else ("must-fail", "edits")
+    found = [edit for folder in folders for edit in glob.glob(os.path.join(TOP, "crates", "*", folder, "*.edit"))]
     named = sorted((edit.split(os.sep)[-3], os.path.basename(edit)[: -len(".edit")]) for edit in found)
     edits = [(crate, label) for crate, label in named if not label.startswith("control_")]
     bad += [f"{crate}/{label}: stands in must-fail and in edits" for (crate, label), count in collections.Counter(named).items() if count > 1]

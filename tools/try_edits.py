@@ -2,7 +2,7 @@
 """Tries the edits of crates/NAME/edits/*.edit (the form of must-fail edits): the prover must refuse each. An edit whose name begins with
 `control_` changes nothing that is promised, and must be proved.
 
-  tools/try_edits.py [--jobs N] [--folder edits] [NAME...]
+  tools/try_edits.py [--jobs N] [--folder edits] [NAME...]      --folder more: those that the gate leaves out
 
 Run after `rt ci`, `rt prove` or `rt check`. Each edit is tried by `rt dev` on a temporary copy, over an incremental folder that holds the crate's
 modules as the build of this run checked them (target/rlib/NAME.rlib), so that only what the edit touches is checked. Before its edits each crate
@@ -60,7 +60,7 @@ class Room:
     def __init__(self, base):
         self.root = tempfile.mkdtemp(dir=base)
         shutil.copy(os.path.join(TOP, "crates.txt"), self.root)
-        shutil.copytree(os.path.join(TOP, "crates"), os.path.join(self.root, "crates"), ignore=shutil.ignore_patterns("must-fail", "edits"))
+        shutil.copytree(os.path.join(TOP, "crates"), os.path.join(self.root, "crates"), ignore=shutil.ignore_patterns("must-fail", "edits", "more"))
         os.mkdir(os.path.join(self.root, "target"))
         shutil.copytree(os.path.join(TOP, "target", "stamp"), os.path.join(self.root, "target", "stamp"))
         os.symlink(os.path.join(TOP, "target", "rlib"), os.path.join(self.root, "target", "rlib"))
@@ -115,7 +115,7 @@ def function_of(name, edit):
             if not inside or "}" in behind:
                 return None
             module = file[len("src/"):-len(".rt")]
-            there.add(tuple(([] if module == "lib" else module.split("/")) + [opened[-1].group(1)]))
+            there.add(tuple(([] if module in ("lib", "main") else module.split("/")) + [opened[-1].group(1)]))
     return there.pop() if len(there) == 1 else None
 
 
