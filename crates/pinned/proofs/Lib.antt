@@ -2,6 +2,8 @@ pub mod Free
 pub mod Lifting
 pub mod Costs
 pub mod Halls
+pub mod Renumber
 pub mod AllFree
+pub mod Walk
 pub mod Steps
 pub mod Examples

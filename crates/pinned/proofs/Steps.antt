@@ -28,12 +28,11 @@ use Rattle.tables.specs.Check.{Hall, hallMagnitude}
 use Rattle.tables.proofs.Places.{only-sum, over-places}
 use Rattle.tables.proofs.Choices.{cost-ext}
 use Rattle.tables.proofs.Mirrors.{mirrored-symmetric}
-use Rattle.limits.specs.Limits.{mostWagons, mostEntries, mostMagnitude, mostSize, mostSignEntries}
-use Rattle.reduced.specs.Scatter.{Reducible}
+use Rattle.limits.specs.Limits.{mostWagons, mostEntries, mostMagnitude}
 use Rattle.reduced.specs.Submatrix.{valueIn, reducedPlaces}
 use Rattle.pinned.specs.Pinned.{isFree, freeOf, heldByte, heldAt, freeTable, besideHeld, freeCosts, heldCost, Shrinks, besideTerm, heldTerm, BesideFits}
 use Rattle.pinned.proofs.Free.{free-few, free-map}
-use Rattle.pinned.proofs.Halls.{free-reducible, reduce-magnitude}
+use Rattle.pinned.proofs.Halls.{reduce-magnitude}
 
 -- ---- the free wagons
 
@@ -274,9 +273,6 @@ module _ (n : ℕ) (states : List ℕ) {free : List ℕ} (is : free ≡ freeOf n
 
   pub free-short : length free ≤ n
   free-short = rw is (free-few n states)
-
-  pub free-over : {limit : ℕ} {h : Table} {c : ℕ → ℤ} → Hall mostWagons mostEntries limit n h c → Reducible mostSize mostSignEntries h free
-  free-over ok = rw is (free-reducible ok states (omega (arith, ok .wagons)) (omega (arith, ok .entries)))
 
 pub cost-next : (f : ℕ → ℤ) (k : ℕ) (xs ys : List ℤ) {x : ℤ} → k < length xs → ys ≡ over (tabulate f k) xs → x ≡ f k → set ys k x ≡ over (tabulate f (k + 1)) xs
 cost-next f k xs ys h e g = rw g (tabulate-next f k xs ys (pos 0) h e)

@@ -1,12 +1,12 @@
 -- (H, c) reduced by wagons that are held in their stores (02, Note 1): n wagons, the table h of the quadratic costs H, the linear costs c,
 -- and a state for each wagon: 0 or 1, it is held in that store; 2 or more, it is free.
 use mathlib.Core.Path.{_≡_}
-use mathlib.Core.Bool.{Bool, false, cond}
+use mathlib.Core.Bool.{Bool, true, false, cond}
 use mathlib.Core.List.{List}
-use Prim.Native.Nat.{ℕ, _≤_, _<_}
+use Prim.Native.Nat.{ℕ, suc, _≤_, _<_}
 use mir.Syntax.{w64}
 use mir.Val.{SFits}
-use lib.ListN.{length, take}
+use lib.ListN.{length, set, take}
 use lib.Dec.{ltb}
 use lib.IntN.{ℤ, pos, _+ℤ_, _*ℤ_}
 use Rattle.laws.specs.Sum.{sum, only}
@@ -94,3 +94,29 @@ pub record BesideFits (c sums : List ℤ) (i : ℕ) : Type 0 where
   pub cost-there : i < length c
   pub low : i < mostWagons
   pub fits : SFits w64 (elemZ c i +ℤ elemZ sums i)
+
+-- the place of wagon i among the free ones; the limit where it is held
+unfoldable pub placeOf : List ℕ → ℕ → ℕ
+placeOf states i = cond (isFree states i) (length (freeOf i states)) mostWagons
+
+-- entry l is free where its row and its column are, by a list of places
+unfoldable pub freeEntry : List ℕ → (ℕ → ℕ) → (ℕ → ℕ) → ℕ → Bool
+freeEntry places row column l = cond (ltb (elem places (row l)) mostWagons) (ltb (elem places (column l)) mostWagons) false
+
+-- of so many entries those from `end` on are not kept, and the one before it is
+pub record LastFree (keep : ℕ → Bool) (count end : ℕ) : Type 0 where
+  pub inside : end ≤ count
+  pub beyond : (l : ℕ) → end ≤ l → l < count → keep l ≡ false
+  pub last : (l : ℕ) → suc l ≡ end → keep l ≡ true
+
+-- x stands at place `at` if it is kept; no other place moves
+pub record Put {A : Type 0} (keep : Bool) (at : ℕ) (x : A) (xs ys : List A) : Type 0 where
+  pub here : keep ≡ true → ys ≡ set xs at x
+  pub others : (v : A) → set ys at v ≡ set xs at v
+
+-- the free entries over the fronts of the slices, under the places of their wagons; how many they are
+pub record Renumbered (places : List ℕ) (h : Table) (rows cols : List ℕ) (values : List ℤ) (rows′ cols′ : List ℕ) (values′ : List ℤ) (count : ℕ) : Type 0 where
+  pub rows-are : rows′ ≡ over (kept (freeEntry places (h .row) (h .column)) (λ l. elem places (h .row l)) (h .count)) rows
+  pub cols-are : cols′ ≡ over (kept (freeEntry places (h .row) (h .column)) (λ l. elem places (h .column l)) (h .count)) cols
+  pub values-are : values′ ≡ over (kept (freeEntry places (h .row) (h .column)) (h .value) (h .count)) values
+  pub many : count ≡ length (kept (freeEntry places (h .row) (h .column)) (h .value) (h .count))

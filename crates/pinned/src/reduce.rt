@@ -1,7 +1,8 @@
 // `reduce`: the quadratic and linear costs among the free wagons, and the constant that the held ones cost. A wagon's state is 0 or 1 where it is held in
 // that store, above 1 where it is free.
+use crate::entries::free_entries;
+use crate::entries::free_places;
 use limits::MOST_WAGONS;
-use reduced::from_principal_submatrix::submatrix;
 use tables::check::wide;
 ghost use mathlib.Core.Path.{_≡_};
 ghost use Prim.Native.Nat.{ℕ, _+_, _*_, _<_, _≤_};
@@ -193,7 +194,17 @@ fn reduce_to(
     let sums = beside_sums(count, cols, rows, values, &held);
     let constant = held_cost(n, c, &sums, &held);
     put_costs(c, &sums, free, to_c);
-    let entries = submatrix(count, rows, cols, values, free, to_rows, to_cols, to_values);
+    let places = free_places(n, states);
+    let entries = free_entries(
+        count,
+        rows,
+        cols,
+        values,
+        &places,
+        to_rows,
+        to_cols,
+        to_values,
+    );
     Costs {
         count: entries,
         constant,

@@ -1,7 +1,8 @@
 use borrow.Author.Needs.{needs}
 use Rattle.pinned.proofs.reduce.reduce_to.Statement.{statement}
 use Rattle.pinned.proofs.reduce.reduce_to.Tie as tie
-use Rattle.pinned.proofs.Steps.{wider, turned-range, free-low, free-short, free-over, beside-held-fits, held-small, shrinks}
+use Rattle.pinned.proofs.Steps.{wider, turned-range, free-low, free-short, beside-held-fits, held-small, shrinks}
+use Rattle.pinned.proofs.Walk.{entries-wrote, entries-many}
 use Rattle.limits.specs.Limits.{mostWagons}
 use Rattle.laws.proofs.Integer.{held}
 use native.Mathlib.Omega.{arith}
@@ -32,11 +33,13 @@ put-costs-requires c κs =
       omega (arith, free-short (a .n) (now (a .states)) (p .1), p .3),
     )
 
-submatrix-requires : tie.Need-submatrix-requires
-submatrix-requires c κs =
-    let a = c .before .before .before .before .before .before .before .before .before .before .before .before .before .before .before .before .before .before .before .args in
-    let p = c .before .before .before .before .before .before .before .before .before .before .before .before .before .before .before .before .before .before .before .pre in
-    (p .0 .lent, free-over (a .n) (now (a .states)) (p .1) (p .0 .hall), p .2)
+free-places-requires : tie.Need-free-places-requires
+free-places-requires c κs = search needs
+
+free-entries-requires : tie.Need-free-entries-requires
+free-entries-requires c κs =
+    let p = c .before .before .before .before .before .before .before .before .before .before .before .before .before .before .before .before .before .before .before .before .before .pre in
+    (p .0 .lent, wider mostWagons (p .0 .hall .in-range) (p .0 .hall .wagons), omega (arith, p .0 .hall .entries), p .2)
 
 same-length : tie.Need-same-length
 same-length c = search needs
@@ -52,9 +55,11 @@ same-length-4 c = search needs
 
 returns : tie.Need-returns
 returns c =
-    let a = c .before .before .before .before .before .before .before .before .before .before .before .before .before .before .before .before .before .before .before .before .before .before .before .before .before .args in
-    let p = c .before .before .before .before .before .before .before .before .before .before .before .before .before .before .before .before .before .before .before .before .before .before .before .before .before .pre in
-    rw (held _ (c .before .before .before .before .before .before .before .before .before .before .before .before .before .held-cost .ok)) (shrinks (p .0 .hall) (now (a .states)) (c .before .before .before .before .before .before .before .before .before .before .before .before .before .before .before .before .before .before .held-choice .ensures) (c .before .before .before .before .before .before .before .before .before .before .before .before .before .before .before .before .beside-sums .ensures) (p .1) (c .before .before .before .before .before .before .before .before .before .before .before .before .before .held-cost .ensures) (c .before .before .before .before .before .before .before .before .before .before .put-costs .ensures) (c .before .before .before .before .before .submatrix .ensures .0) (c .before .before .before .before .before .submatrix .ensures .1))
+    let a = c .before .before .before .before .before .before .before .before .before .before .before .before .before .before .before .before .before .before .before .before .before .before .before .before .before .before .before .args in
+    let p = c .before .before .before .before .before .before .before .before .before .before .before .before .before .before .before .before .before .before .before .before .before .before .before .before .before .before .before .pre in
+    let places = c .before .before .before .before .before .before .before .before .before .before .free-places .ensures in
+    let entries = c .before .before .before .before .before .free-entries .ensures in
+    rw (held _ (c .before .before .before .before .before .before .before .before .before .before .before .before .before .before .before .held-cost .ok)) (shrinks (p .0 .hall) (now (a .states)) (c .before .before .before .before .before .before .before .before .before .before .before .before .before .before .before .before .before .before .before .before .held-choice .ensures) (c .before .before .before .before .before .before .before .before .before .before .before .before .before .before .before .before .before .before .beside-sums .ensures) (p .1) (c .before .before .before .before .before .before .before .before .before .before .before .before .before .before .before .held-cost .ensures) (c .before .before .before .before .before .before .before .before .before .before .before .before .put-costs .ensures) (entries-wrote (p .0 .hall) (now (a .states)) places (p .1) (p .2) entries) (entries-many (p .0 .hall) (now (a .states)) places (p .1) (p .2) entries))
 
 pub reduce-to-spec : {M : Type 1} → statement M
 reduce-to-spec =
@@ -64,7 +69,8 @@ reduce-to-spec =
     beside-sums-requires
     held-cost-requires
     put-costs-requires
-    submatrix-requires
+    free-places-requires
+    free-entries-requires
     same-length
     same-length-2
     same-length-3
