@@ -35,7 +35,7 @@ extern "C" {
 // ---- sizes --------------------------------------------------------------------------------------
 
 enum {
-    WAGONPLAN_VERSION = 4, // of these declarations; `wagonplan_version` answers the archive's
+    WAGONPLAN_VERSION = 5, // of these declarations; `wagonplan_version` answers the archive's
 
     WAGONPLAN_JOB_MOST = 65536,         // bytes of a job record
     WAGONPLAN_WAGONS_MOST = 255,        // n; 127 in jobs of version 1 or 2
@@ -48,11 +48,12 @@ enum {
     WAGONPLAN_START_MOST = 8448,        // doubles that a start takes
     WAGONPLAN_FACTOR_MOST = 8192,       // doubles of a factor: m * rank
     WAGONPLAN_WORKSPACE = 16384,        // bytes of workspace to lend with a job record, at least
-    WAGONPLAN_SEARCH_WORKSPACE = 1024,  // words of 64 bits of workspace to lend to a finish or a search, at least
+    WAGONPLAN_SEARCH_WORKSPACE = 1024,  // words of 64 bits of workspace to lend to a finish, a search or a search by blocks, at least
     WAGONPLAN_ANSWER = 315,             // bytes of answer slice to lend, at least: a record of 255 wagons
     WAGONPLAN_REFUSAL = 6,              // bytes of a refusal: 00 00 00 02 01 and the number
     WAGONPLAN_REDUCED_MOST = 1024,      // original size of a reduced problem
     WAGONPLAN_SIGN_WORDS = 4,           // words of a choice of signs, at most (wagonplan_sign_words)
+    WAGONPLAN_BLOCKS_MOST = 16,         // blocks of one call
     WAGONPLAN_RUN_WORDS = 13,           // words of a run record, of settings and of a result, as the raw functions take them
     WAGONPLAN_SETTING_WORDS = 8,
     WAGONPLAN_RESULT_WORDS = 11,
@@ -78,7 +79,8 @@ enum wagonplan_sizes {
     WAGONPLAN_SIZE_SETTING_WORDS,
     WAGONPLAN_SIZE_RESULT_WORDS,
     WAGONPLAN_SIZE_SEARCH_WORKSPACE,
-    WAGONPLAN_SIZE_SIGN_WORDS
+    WAGONPLAN_SIZE_SIGN_WORDS,
+    WAGONPLAN_SIZE_BLOCKS
 };
 
 // ---- slices and tables --------------------------------------------------------------------------
@@ -209,6 +211,10 @@ uint8_t wagonplan_raw_from_principal_submatrix(size_t size, size_t count, const 
                                                uint16_t *out_cols, size_t, int64_t *out_values, size_t, size_t *entries);
 uint8_t wagonplan_raw_lift_solution(size_t size, const uint16_t *variable_map, size_t, const uint16_t *fixed_index, size_t, const double *fixed_value, size_t,
                                     const double *reduced_solution, size_t, double *lifted, size_t);
+uint8_t wagonplan_raw_block_search(size_t n, size_t count, const uint16_t *rows, size_t, const uint16_t *cols, size_t, const int64_t *values, size_t,
+                                   const int64_t *c, size_t, const uint16_t *pinned, size_t, const uint8_t *stores, size_t, const uint8_t *present, size_t,
+                                   const uint16_t *block_sizes, size_t, const uint16_t *block_wagons, size_t, size_t width, uint8_t *choice, size_t,
+                                   int64_t *falls, size_t, uint64_t *workspace, size_t);
 double wagonplan_raw_sqrt(double x);
 double wagonplan_raw_eighth(int64_t v);
 double wagonplan_raw_double_of(uint64_t bits);
@@ -246,7 +252,7 @@ static inline int wagonplan_fits(void) {
            && wagonplan_size(WAGONPLAN_SIZE_REDUCED) == WAGONPLAN_REDUCED_MOST && wagonplan_size(WAGONPLAN_SIZE_RUN_WORDS) == WAGONPLAN_RUN_WORDS
            && wagonplan_size(WAGONPLAN_SIZE_SETTING_WORDS) == WAGONPLAN_SETTING_WORDS
            && wagonplan_size(WAGONPLAN_SIZE_RESULT_WORDS) == WAGONPLAN_RESULT_WORDS && wagonplan_size(WAGONPLAN_SIZE_SIGN_WORDS) == WAGONPLAN_SIGN_WORDS
-           && wagonplan_size(WAGONPLAN_SIZE_SEARCH_WORKSPACE) == WAGONPLAN_SEARCH_WORKSPACE;
+           && wagonplan_size(WAGONPLAN_SIZE_SEARCH_WORKSPACE) == WAGONPLAN_SEARCH_WORKSPACE && wagonplan_size(WAGONPLAN_SIZE_BLOCKS) == WAGONPLAN_BLOCKS_MOST;
 }
 
 // A job record. Numbers are big-endian, doubles are their bits; m is one more than the free wagons, which are n less the pins; r is the rank (see below).
@@ -442,6 +448,29 @@ static inline uint8_t wagonplan_lift_solution(size_t size, wagonplan_u16 variabl
                                                              fixed_value.len, reduced_solution.at, reduced_solution.len, lifted.at, lifted.len));
 }
 
+// A house that is cleared block by block. The wagons of `pinned` may not move: each has a store, 0 or 1, in the same place of `stores`. `present` has a byte 0 or 1
+// for each of n wagons, where they stand; pinned wagons are first set to their stores. There are as many blocks as `block_sizes` has places, at most
+// WAGONPLAN_BLOCKS_MOST; block k has block_sizes[k] wagons, which stand in `block_wagons` behind those of block k - 1, in any order, each once. Blocks may share
+// wagons, be empty, and name pinned wagons, which they then move.
+typedef struct {
+    wagonplan_u16 pinned;
+    wagonplan_u8 stores, present;
+    wagonplan_u16 block_sizes, block_wagons;
+} wagonplan_house;
+
+// Searches each block in turn with all other wagons held where they are, then all wagons that aren't pinned, each time by the local search of width 1 to
+// WAGONPLAN_WIDTH_MOST from where the wagons stand. n bytes of choice, where they stand in the end; into falls[k] by how many eighths block k lowered the cost, 0 or more.
+// The workspace is that of a finish.
+static inline uint8_t wagonplan_block_search(const wagonplan_table *t, const wagonplan_house *house, size_t width, wagonplan_u8_mut choice,
+                                             wagonplan_i64_mut falls, wagonplan_u64_mut workspace) {
+    unsigned mode = wagonplan_enter();
+    return wagonplan_leave(mode, wagonplan_raw_block_search(
+                                     t->n, t->count, t->rows.at, t->rows.len, t->cols.at, t->cols.len, t->values.at, t->values.len, t->c.at, t->c.len,
+                                     house->pinned.at, house->pinned.len, house->stores.at, house->stores.len, house->present.at, house->present.len,
+                                     house->block_sizes.at, house->block_sizes.len, house->block_wagons.at, house->block_wagons.len, width, choice.at,
+                                     choice.len, falls.at, falls.len, workspace.at, workspace.len));
+}
+
 // The correctly rounded square root; NaN below 0.
 static inline double wagonplan_sqrt(double x) {
     unsigned mode = wagonplan_enter();
@@ -487,9 +516,10 @@ static inline const char *wagonplan_sentence(uint8_t number) {
     case 16: return "The magnitude is above 2^40: the entries' absolute values, plus twice those of c; for a sign table above 2^42 eighths.";
     case 17: return "The rank is above 32, or 0 with a start by a factor.";
     case 18: return "The rule is above 4, or the momentum is not a finite number from 0 to below 1.";
-    case 19: return "W is above 128, the start is none of 0 to 2, or the draws are not 1 to 1,000.";
+    case 19: return "W is above 128, or 0 where blocks are searched, the start is none of 0 to 2, or the draws are not 1 to 1,000.";
     case 20: return "The original size is above 1,024, or a map or fixed index is out of range or mapped twice.";
     case 21: return "A pinned wagon is out of range or pinned twice, or its store is above 1.";
+    case 22: return "A byte of the present choice is above 1, there are more than 16 blocks, or a wagon is out of range or twice within a block.";
     case 31: return "A lent slice is too short.";
     case 32: return "The stage is wrong: a sweep when stopped, or a finish before.";
     case 33: return "The run record contradicts itself or the table.";

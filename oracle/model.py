@@ -347,6 +347,29 @@ def search(table, width, start):
     return best[0], best[1], levels
 
 
+# ---- by block, then the house (02, Note 6) ----------------------------------------------------
+
+
+def searched_among(n, entries, c, width, moving, b):
+    """The wagons that move searched with all others held where b has them: the choice, and by how much its full cost falls, in eighths."""
+    free, h, costs, _ = reduced(n, entries, c, {i: b[i] for i in range(n) if i not in moving})
+    start = [1 - 2 * b[i] for i in free] + [1]
+    found = search(sign_table(len(free), h, costs), width, start)[0]
+    after = list(b)
+    for i, store in zip(free, decode(found), strict=True):
+        after[i] = store
+    return after, cost(entries, c, b) - cost(entries, c, after)
+
+
+def by_blocks(n, entries, c, pins, present, blocks, width):
+    """The last choice, and each block's fall in eighths. A block moves the wagons that it names, a pinned one too."""
+    b, falls = [pins.get(i, present[i]) for i in range(n)], []
+    for block in blocks:
+        b, fall = searched_among(n, entries, c, width, set(block), b)
+        falls.append(fall)
+    return searched_among(n, entries, c, width, set(range(n)) - set(pins), b)[0], falls
+
+
 # ---- the run --------------------------------------------------------------------------------
 
 OPEN, STOPPED = 0, 1

@@ -600,6 +600,33 @@ class Commands(Case):
         self.ends(run("hall", "moves", *files[:2], files[0], files[3]), 1, "The answer is wrong")
         self.ends(run("hall", "moves", *files[:3]), 1, "usage: hall")
 
+    def test_clear(self):
+        pair = "wagon a -1\nwagon b -1\npair a b 3\n"
+        said = lambda text: run("hall", "clear", self.file("house.txt", text))
+        done = said(pair + "present left a b\nblock one a\n")
+        self.ends(done, 0)
+        self.assertEqual(done.stdout.decode().splitlines(), [
+            "1 wagon of 2 moves: a from the left to the right.", "Before, it costs 0.", "Block one: the cost falls by 1 (a).", "Then all wagons: nothing to gain.", "Left store: b.",
+            "Right store: a.", "This costs -1. No single wagon moved to the other store makes it cheaper, nor all of them at once."])
+        done = said(pair + "present right a b\npin a left\nblock none\nblock free b\n")
+        self.ends(done, 0)
+        self.assertEqual(done.stdout.decode().splitlines(), [
+            "1 wagon of 2 moves: a from the right to the left.", "Before, it costs 1.", "First to their pinned stores: a; then it costs -1.", "Block none: nothing to gain (no wagon).",
+            "Block free: nothing to gain (b).", "Then all wagons that are not pinned: nothing to gain.", "Left store: a.", "Right store: b.",
+            "This costs -1. No single free wagon moved to the other store makes it cheaper, nor all free ones at once."])
+        done = said(pair + "present left a b\npin a left\nblock one a\n")
+        self.ends(done, 0)
+        self.assertIn("Pinned, and moved all the same, as a block names them: a.", done.stdout.decode())
+        self.ends(run("hall", "clear", REPAIRS), 0)
+        self.ends(said(pair + "present left a\nblock one a\n"), 1, "they don't name b.")
+        self.ends(said(pair + "present left a b\nwidth 0\n"), 1, "a width of at least 1.")
+        for line, sentence in (
+                ("present left a a\n", "wagon a stands in the left store already"), ("present here a\n", "a wagon stands in the store left or right, not here"), ("block x a a\n", "wagon a stands in block x already"),
+                ("block x\nblock x\n", "there are two blocks named x"), ("block x c\n", "no wagon above is named c"),
+                ("".join(f"block x{k} a\n" for k in range(17)), "block x16 is number 17; a hall has at most 16 blocks"), ("present left\n", "it is written `present left|right WAGON..`")):
+            self.ends(said(pair + line), 1, sentence)
+        self.ends(run("hall", "clear", self.file("house.txt", pair + "present left a b\n"), WAGONPLAN_ARCHIVE=os.path.join(self.folder, "none.a")), 1, "Blocks are cleared by the archive")
+
     def test_job_on_standard_input(self):
         done = run("plan", given=record.job_of(hall.read_hall(DOORWAY)))
         self.ends(done, 0)

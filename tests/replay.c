@@ -153,6 +153,12 @@ static uint8_t from_principal_submatrix(Argument *a) {
 }
 static uint8_t lift_solution(Argument *a) { return wagonplan_lift_solution(number(a), u16(a + 1), u16(a + 2), f64(a + 3), f64(a + 4), f64_mut(a + 5)); }
 
+static uint8_t block_search(Argument *a) {
+    wagonplan_table t = table(a);
+    wagonplan_house house = {u16(a + 6), u8(a + 7), u8(a + 8), u16(a + 9), u16(a + 10)};
+    return wagonplan_block_search(&t, &house, number(a + 11), u8_mut(a + 12), i64_mut(a + 13), u64_mut(a + 14));
+}
+
 static uint8_t give_double(Argument *a, double x) { return memcpy(a->at, &x, 8), 0; }
 static uint8_t give_word(Argument *a, uint64_t x) { return memcpy(a->at, &x, 8), 0; }
 static uint8_t root(Argument *a) { return give_double(a + 1, wagonplan_sqrt(double_of(a))); }
@@ -180,6 +186,7 @@ static const Call calls[] = {
     {"pack_signs", "nbC", pack_signs, 0},
     {"from_principal_submatrix", "QkkHHIv", from_principal_submatrix, 0},
     {"lift_solution", "nkkddD", lift_solution, 0},
+    {"block_search", "TkbbkhnBIw", block_search, 0},
     {"sqrt", "ne", root, 0},
     {"eighth", "ne", eighth, 0},
     {"double_of", "ne", double_from, 0},

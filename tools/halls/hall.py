@@ -11,8 +11,8 @@ COUNTING = [3, 4]  # the rules whose sweeps count the rows that they leave stand
 STARTS = ["random", "factor", "signs"]
 
 # 01's limits, and the characters of a name, so that it can be read in the picture.
-WAGONS, ENTRIES, MAGNITUDE, RANK, WIDTH, DRAWS, SWEEPS = 255, 4096, 2**40, 32, 128, 1000, 2**32 - 1
-NAMES = {"wagon": 24, "row": 16}
+WAGONS, ENTRIES, MAGNITUDE, RANK, WIDTH, DRAWS, SWEEPS, BLOCKS = 255, 4096, 2**40, 32, 128, 1000, 2**32 - 1, 16
+NAMES = {"wagon": 24, "row": 16, "block": 16}
 
 
 class Hall:
@@ -20,6 +20,7 @@ class Hall:
         self.path, self.title = path, shown(os.path.splitext(os.path.basename(path))[0])
         self.names, self.costs, self.pairs, self.magnitude = [], [], {}, 0
         self.rows, self.retractable, self.pins = {}, set(), {}  # pins: the store of each wagon that may not move
+        self.present, self.blocks = {}, {}  # the store that each wagon stands in now; a block's wagons by its name
         self.rank, self.rule, self.number, self.most, self.minimum, self.tolerances, self.width = 0, 3, 0.0, 200, 0, (0.0, 1e-6), 128
         self.start, self.start_numbers, self.seed, self.draw_count, self.draws = 0, None, "1", 30, []
         self.places, self.lines = {}, {}  # a wagon's index by its name; the last line of each word, the line of each draw
@@ -73,6 +74,25 @@ class Hall:
         if i in self.pins:
             raise Refused(f"wagon {shown(name)} is pinned to the {STORES[self.pins[i]]} store already")
         self.pins[i] = STORES.index(store)
+
+    def set_present(self, store, *wagons):
+        if store not in STORES:
+            raise Refused(f"a wagon stands in the store {' or '.join(STORES)}, not {shown(store)}")
+        for name in wagons:
+            i = self.place(name)
+            if i in self.present:
+                raise Refused(f"wagon {shown(name)} stands in the {STORES[self.present[i]]} store already")
+            self.present[i] = STORES.index(store)
+
+    def block(self, name, *wagons):
+        self.new_name(name, self.blocks, "block")
+        members = [self.place(wagon) for wagon in wagons]
+        for k, i in enumerate(members):
+            if i in members[:k]:
+                raise Refused(f"wagon {shown(wagons[k])} stands in block {shown(name)} already")
+        if len(self.blocks) == BLOCKS:
+            raise Refused(f"block {shown(name)} is number {BLOCKS + 1}; a hall has at most {BLOCKS} blocks")
+        self.blocks[name] = members
 
     def set_rank(self, rank):
         self.rank = count("rank", rank, 0, RANK)
@@ -167,6 +187,8 @@ LINES = {
     "row": ("NAME WAGON..", 2, MANY, Hall.row),
     "retractable": ("WAGON..", 1, MANY, Hall.set_retractable),
     "pin": ("NAME left|right", 2, 2, Hall.pin),
+    "present": ("left|right WAGON..", 2, MANY, Hall.set_present),
+    "block": ("NAME WAGON..", 1, MANY, Hall.block),
     "rank": ("R", 1, 1, Hall.set_rank),
     "rule": ("NAME [NUMBER]", 1, 2, Hall.set_rule),
     "sweeps": ("MOST [MINIMUM]", 1, 2, Hall.set_sweeps),

@@ -21,14 +21,15 @@ def with_rows(job, hall, answer):
     return {**answer, "standing": made["standing"] if hall.rule in COUNTING else None}
 
 
-def built(folder):
-    """The program of rows.c; built for each use, so that it is never an older archive's."""
+def built(folder, name="rows"):
+    """The program of rows.c, or of blocks.c; built for each use, so that it is never an older archive's."""
     archive = os.environ.get("WAGONPLAN_ARCHIVE") or os.path.join(TOP, "target", "libwagonplan.a")
+    what = {"rows": "Rows are counted", "blocks": "Blocks are cleared"}[name]
     if not os.path.exists(archive):
-        raise Wrong(f"Rows are counted by the archive {archive}, which isn't there. tools/archive.sh proves and builds it; WAGONPLAN_ARCHIVE may name another.")
-    program, source = os.path.join(folder, "rows"), os.path.join(TOP, "tools", "halls", "rows.c")
+        raise Wrong(f"{what} by the archive {archive}, which isn't there. tools/archive.sh proves and builds it; WAGONPLAN_ARCHIVE may name another.")
+    program, source = os.path.join(folder, name), os.path.join(TOP, "tools", "halls", f"{name}.c")
     flags = ["-std=c99", "-O2", "-Wall", "-Wextra", "-pedantic", "-Werror", "-I", os.path.join(TOP, "include")]
-    output(["gcc", *flags, "-o", program, source, archive], b"", "Rows are counted by a small program that it builds.")
+    output(["gcc", *flags, "-o", program, source, archive], b"", f"{what} by a small program that it builds.")
     return program
 
 

@@ -12,6 +12,6 @@ past [] i l = refl
 past (x ∷ xs) zero l = absurd (omega (arith, l))
 past (x ∷ xs) (suc i) l = past xs i (omega (arith, l))
 
-pub not-listed : (which : ℕ) → 17 ≤ which → 0 ≡ sizeOf which
+pub not-listed : (which : ℕ) → length sizes ≤ which → 0 ≡ sizeOf which
 unfolding sizeOf
 not-listed which l = past sizes which l

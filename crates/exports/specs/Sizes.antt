@@ -2,12 +2,12 @@
 use Prim.Native.Nat.{ℕ}
 use mathlib.Core.List.{List, [], _∷_}
 use Rattle.laws.specs.Lists.{elem}
-use Rattle.limits.specs.Limits.{mostWagons, mostEntries, mostSigns, mostSignEntries, mostRank, mostWidth, mostDraws, mostStart, searchWorkspace, recordWorkspace, mostBytes, leastAnswer, mostSize}
+use Rattle.limits.specs.Limits.{mostWagons, mostEntries, mostSigns, mostSignEntries, mostRank, mostWidth, mostDraws, mostStart, searchWorkspace, recordWorkspace, mostBytes, leastAnswer, mostSize, mostBlocks}
 use Rattle.sign_words.specs.Size.{signWords}
 use Rattle.exports.specs.Words.{runWords, settingWords, resultWords}
 
 abbrev pub callsVersion : ℕ
-callsVersion = 4
+callsVersion = 5
 
 -- in the order of `enum wagonplan_sizes` of include/wagonplan.h
 abbrev pub sizes : List ℕ
@@ -29,6 +29,7 @@ sizes =
     ∷ resultWords
     ∷ searchWorkspace
     ∷ signWords mostSigns
+    ∷ mostBlocks
     ∷ []
 
 -- 0 where there is no such size

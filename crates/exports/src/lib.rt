@@ -1,5 +1,6 @@
 // Every public call as C makes it (include/wagonplan.h): slices as a pointer and a length, the number as the result, values through what is lent for
 // them. None has a `requires`.
+pub mod blocks; // blocks.rt: blocks of wagons, then the house
 pub mod choices; // choices.rt: the calls on choices in words
 pub mod factors; // factors.rt: the calls on a sign table and a factor
 pub mod numbers; // numbers.rt: root, eighths, bits, default rank; version and sizes

@@ -3,6 +3,7 @@ use crate::words::RESULT_WORDS;
 use crate::words::RUN_WORDS;
 use crate::words::SETTING_WORDS;
 use limits::LEAST_ANSWER;
+use limits::MOST_BLOCKS;
 use limits::MOST_BYTES;
 use limits::MOST_DRAWS;
 use limits::MOST_ENTRIES;
@@ -63,7 +64,7 @@ pub extern "C" fn wagonplan_raw_default_sdp_rank(m: u16) -> u16
 pub extern "C" fn wagonplan_raw_version() -> u32
     ensures { λ r. ⌜ r ≡ callsVersion ⌝ }
 {
-    4
+    5
 }
 
 // The size that is asked for, 0 where there is none.
@@ -71,7 +72,7 @@ pub extern "C" fn wagonplan_raw_version() -> u32
 pub extern "C" fn wagonplan_raw_size(which: u32) -> usize
     ensures { λ r. ⌜ r ≡ sizeOf which ⌝ }
 {
-    let sizes: [usize; 17] = [
+    let sizes: [usize; 18] = [
         MOST_BYTES,
         MOST_WAGONS,
         MOST_ENTRIES,
@@ -89,8 +90,9 @@ pub extern "C" fn wagonplan_raw_size(which: u32) -> usize
         RESULT_WORDS,
         SEARCH_WORKSPACE,
         MOST_WORDS,
+        MOST_BLOCKS,
     ];
-    if which < 17 {
+    if which < 18 {
         return sizes[which as usize];
     }
     0

@@ -46,10 +46,10 @@ differ-free n states b b′ d s =
 
 -- ---- whole numbers
 
-add-le : (a b k : ℤ) → a ≤ℤ b → (a +ℤ k) ≤ℤ (b +ℤ k)
+pub add-le : (a b k : ℤ) → a ≤ℤ b → (a +ℤ k) ≤ℤ (b +ℤ k)
 add-le a b k h = omega (integers, add-parts a k, add-parts b k)
 
-same-fall : (a b k : ℤ) → a -ℤ b ≡ (a +ℤ k) -ℤ (b +ℤ k)
+pub same-fall : (a b k : ℤ) → a -ℤ b ≡ (a +ℤ k) -ℤ (b +ℤ k)
 same-fall a b k = rw (parts a, parts b, parts k) (simp differences (omega ring))
 
 -- ---- a lifted choice looks at the bytes of the free wagons only

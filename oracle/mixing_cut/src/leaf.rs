@@ -1,6 +1,7 @@
 //! One function of the six files per line: a word that names it, its arguments, ` = `, its result.
 
 use crate::answer::{step_rule, Start, SEED};
+use crate::blocks::House;
 use crate::draws::lent;
 use crate::job::Settings;
 use crate::leaf_calls;
@@ -60,6 +61,7 @@ pub fn leaf(line: &str) -> Result<String, String> {
         "rounded_call" => leaf_calls::rounded,
         "submatrix" => submatrix,
         "lift" => lift,
+        "blocks" => blocks,
         "sign_table_number" => leaf_numbers::sign_table,
         "submatrix_number" => leaf_numbers::submatrix,
         "lift_number" => leaf_numbers::lift,
@@ -368,6 +370,33 @@ fn submatrix(words: &mut In, out: &mut Out) -> Done {
     let problem = ReducedProblem::from_principal_submatrix(&q, map, fixed);
     Table::of_matrix(&problem.reduced_q).put(out);
     Ok(())
+}
+
+/// H, c, the width, pinned wagons and their stores, the present choice, then the blocks.
+fn blocks(words: &mut In, out: &mut Out) -> Done {
+    let h = table(words)?;
+    let (c, width) = (words.wholes()?, words.count()?);
+    let (pinned, stores, present) = (words.counts()?, bits(words)?, bits(words)?);
+    let blocks = words.slice(In::counts)?;
+    want(c.len() == h.size && present.len() == h.size, "one c and one byte for each wagon")?;
+    want(pinned.len() == stores.len(), "one store for each pinned wagon")?;
+    want(width > 0, "a width above 0")?;
+    let named = || blocks.iter().flatten().chain(&pinned);
+    want(named().all(|&i| i < h.size), "a wagon is out of range")?;
+    let house = House { h, c, width, pins: pinned.into_iter().zip(stores).collect() };
+    let (choice, falls) = house.clear(&present, &blocks);
+    out.bytes(&choice);
+    out.count(falls.len());
+    falls.into_iter().for_each(|fall| out.whole(fall));
+    Ok(())
+}
+
+/// Bytes 0 and 1.
+fn bits(words: &mut In) -> Result<Vec<u8>, String> {
+    words.slice(|words| match words.word()? {
+        word @ (0 | 1) => Ok(word as u8),
+        word => Err(format!("{word} is neither 0 nor 1")),
+    })
 }
 
 fn lift(words: &mut In, out: &mut Out) -> Done {

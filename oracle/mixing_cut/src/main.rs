@@ -6,6 +6,7 @@ include!(concat!(env!("OUT_DIR"), "/sources.rs"));
 
 mod answer;
 mod bench;
+mod blocks;
 mod draws;
 mod job;
 mod leaf;

@@ -32,7 +32,7 @@ pub fn without_pins(job: &Job) -> (Job, Held) {
 }
 
 /// The sum of row i's entries in the columns asked for.
-fn row_sum(h: &Table, i: usize, asked: impl Fn(usize) -> bool) -> i64 {
+pub fn row_sum(h: &Table, i: usize, asked: impl Fn(usize) -> bool) -> i64 {
     h.entries.iter().filter(|e| e.row == i && asked(e.col)).map(|e| e.value).sum()
 }
 

@@ -1,0 +1,4 @@
+pub mod Blocks
+pub mod Numbers
+pub mod Contracts
+pub mod Call
