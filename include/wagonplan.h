@@ -35,7 +35,7 @@ extern "C" {
 // ---- sizes --------------------------------------------------------------------------------------
 
 enum {
-    WAGONPLAN_VERSION = 5, // of these declarations; `wagonplan_version` answers the archive's
+    WAGONPLAN_VERSION = 6, // of these declarations; `wagonplan_version` answers the archive's
 
     WAGONPLAN_JOB_MOST = 65536,         // bytes of a job record
     WAGONPLAN_WAGONS_MOST = 255,        // n; 127 in jobs of version 1 or 2
@@ -192,6 +192,8 @@ uint8_t wagonplan_raw_compute_rounded_sol(size_t m, size_t count, const uint16_t
                                           int64_t *objective);
 uint8_t wagonplan_raw_dual_variables(size_t m, size_t count, const uint16_t *rows, size_t, const uint16_t *cols, size_t, const int64_t *values, size_t,
                                      size_t rank, const double *factor, size_t, double *out, size_t);
+uint8_t wagonplan_raw_dual_variables_divided(size_t m, size_t count, const uint16_t *rows, size_t, const uint16_t *cols, size_t, const int64_t *values,
+                                             size_t, size_t rank, const double *factor, size_t, double *out, size_t);
 uint8_t wagonplan_raw_obj_rounded(size_t m, size_t count, const uint16_t *rows, size_t, const uint16_t *cols, size_t, const int64_t *values, size_t,
                                   const uint8_t *signs, size_t, int64_t *value);
 uint8_t wagonplan_raw_floor_eighths(size_t m, size_t count, const uint16_t *rows, size_t, const uint16_t *cols, size_t, const int64_t *values, size_t,
@@ -371,6 +373,14 @@ static inline uint8_t wagonplan_dual_variables(const wagonplan_sign_table *t, si
                                                               rank, factor.at, factor.len, out.at, out.len));
 }
 
+// The same, each divided by its row's product with itself: equation 8 of arXiv 0807.4423. The rank is given, 1 to WAGONPLAN_RANK_MOST; 0 is 17. A row that is
+// zero, or whose squares are too small or too large for a double, gives what the division gives: NaN, an infinity or 0.
+static inline uint8_t wagonplan_dual_variables_divided(const wagonplan_sign_table *t, size_t rank, wagonplan_f64 factor, wagonplan_f64_mut out) {
+    unsigned mode = wagonplan_enter();
+    return wagonplan_leave(mode, wagonplan_raw_dual_variables_divided(t->m, t->count, t->rows.at, t->rows.len, t->cols.at, t->cols.len, t->values.at,
+                                                                      t->values.len, rank, factor.at, factor.len, out.at, out.len));
+}
+
 // The objective of m signs, in eighths.
 static inline uint8_t wagonplan_obj_rounded(const wagonplan_sign_table *t, wagonplan_u8 signs, int64_t *value) {
     unsigned mode = wagonplan_enter();
@@ -514,7 +524,7 @@ static inline const char *wagonplan_sentence(uint8_t number) {
     case 14: return "An entry is out of range, or not above the one before it.";
     case 15: return "An entry's mirror is absent or unequal.";
     case 16: return "The magnitude is above 2^40: the entries' absolute values, plus twice those of c; for a sign table above 2^42 eighths.";
-    case 17: return "The rank is above 32, or 0 with a start by a factor.";
+    case 17: return "The rank is above 32, or 0 where it must be given: with a start by a factor, and for divided multipliers.";
     case 18: return "The rule is above 4, or the momentum is not a finite number from 0 to below 1.";
     case 19: return "W is above 128, or 0 where blocks are searched, the start is none of 0 to 2, or the draws are not 1 to 1,000.";
     case 20: return "The original size is above 1,024, or a map or fixed index is out of range or mapped twice.";

@@ -999,6 +999,7 @@ LEAVES = {
     "rounded": leaf_rounded,
     "sols": leaf_sols,
     "dual_call": leaf_dual_call,
+    "divided_call": leaf_dual_call,
     "rounded_call": leaf_rounded_call,
     "submatrix": leaf_submatrix,
     "lift": leaf_lift,

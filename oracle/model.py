@@ -858,6 +858,27 @@ def leaf_dual_call(w):
     return out(number) if number else out(0, duals(entries, rows))
 
 
+def leaf_divided_call(w):
+    """02, Note 7: each numerator over the whole table divided by its row's product with itself; a rank of 0 is 17, and the factor's length is then not tested."""
+    m = w.u()
+    count, entries, short = lent_entries(w)
+    rank, factor, room = w.u(), w.slice(w.f), w.u()
+    bad, wrong = not 1 <= m <= MOST_SIGNS, not 1 <= rank <= 32
+    short = count <= MOST_SIGN_ENTRIES and short or not bad and (room < m or not wrong and len(factor) < m * rank)
+    number = first(
+        (31, lambda: short),
+        (13, lambda: bad or count > MOST_SIGN_ENTRIES),
+        (14, lambda: n14(m, entries)),
+        (15, lambda: n15(entries)),
+        (16, lambda: sum(abs(v) for _, _, v in entries) > 2**42),
+        (17, lambda: wrong),
+    )
+    if number:
+        return out(number)
+    rows = [factor[i * rank : i * rank + rank] for i in range(m)]
+    return out(0, [div(above, dot(v, v)) for above, v in zip(duals(entries, rows), rows)])
+
+
 def leaf_rounded_call(w):
     m, entries, rank, meant, rows, short, numbers = called(w)
     count, draws, room = w.u(), w.slice(w.f), w.u()
@@ -964,6 +985,7 @@ LEAVES = {
     "rounded": leaf_rounded,
     "sols": leaf_sols,
     "dual_call": leaf_dual_call,
+    "divided_call": leaf_divided_call,
     "rounded_call": leaf_rounded_call,
     "submatrix": leaf_submatrix,
     "lift": leaf_lift,

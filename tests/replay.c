@@ -124,6 +124,10 @@ static uint8_t dual_variables(Argument *a) {
     wagonplan_sign_table t = sign_table(a);
     return wagonplan_dual_variables(&t, number(a + 5), f64(a + 6), f64_mut(a + 7));
 }
+static uint8_t dual_variables_divided(Argument *a) {
+    wagonplan_sign_table t = sign_table(a);
+    return wagonplan_dual_variables_divided(&t, number(a + 5), f64(a + 6), f64_mut(a + 7));
+}
 static uint8_t obj_rounded(Argument *a) {
     wagonplan_sign_table t = sign_table(a);
     return wagonplan_obj_rounded(&t, u8(a + 5), place(a + 6));
@@ -176,6 +180,7 @@ static const Call calls[] = {
     {"beam_search", "QnbBwvv", beam_search, 0},
     {"compute_rounded_sol", "QndndBv", compute_rounded_sol, 0},
     {"dual_variables", "QndD", dual_variables, 0},
+    {"dual_variables_divided", "QndD", dual_variables_divided, 0},
     {"obj_rounded", "Qbv", obj_rounded, 0},
     {"floor_eighths", "Qv", floor_eighths, 0},
     {"entrywise_lower_bound", "Qe", entrywise_lower_bound, 0},

@@ -4,7 +4,7 @@
   tests/make/all.py                      writes tests/lists/*.txt
   tests/make/all.py --check              compares them with what is stored, and writes nothing
   tests/make/all.py KIND COUNT SEED      prints seeded lines instead: KIND is `ranks` (COUNT tables at every rank and rule), `jobs`, `pins` (jobs of version 2), `larger` (of version 3),
-                                         `runs`, `larger-calls` (calls and scripts on 129 to 256 signs), `reduced` or `blocks`
+                                         `runs`, `larger-calls` (calls and scripts on 129 to 256 signs), `reduced`, `blocks` or `divided`
 
 The same COUNT and SEED give the same lines.
 """
@@ -15,6 +15,7 @@ import sys
 sys.dont_write_bytecode = True
 sys.path.insert(0, os.path.join(os.path.dirname(os.path.abspath(__file__)), "..", "..", "oracle"))
 import blocks  # noqa: E402
+import divided  # noqa: E402
 import doubles  # noqa: E402
 import edges  # noqa: E402
 import factors  # noqa: E402
@@ -45,9 +46,10 @@ def add_tables(lines):
     tables.add_faults(lines)
 
 
-LISTS = {"tables": add_tables, "factors": factors.add, "steps": steps.add, "standing": standing.add, "edges": edges.add, "runs": runs.add, "jobs": jobs.add, "pins": pins.add, "larger": larger.add, "words": words.add, "blocks": blocks.add}
+LISTS = {"tables": add_tables, "factors": factors.add, "steps": steps.add, "standing": standing.add, "edges": edges.add, "runs": runs.add, "jobs": jobs.add, "pins": pins.add, "larger": larger.add, "words": words.add,
+         "blocks": blocks.add, "divided": divided.add}
 SEEDED = {"ranks": steps.seeded, "jobs": random_jobs.seeded, "pins": random_jobs.seeded_pins, "larger": random_jobs.seeded_larger, "runs": runs.seeded,
-          "larger-calls": larger.seeded_calls, "reduced": reduced.seeded, "blocks": blocks.seeded}
+          "larger-calls": larger.seeded_calls, "reduced": reduced.seeded, "blocks": blocks.seeded, "divided": divided.seeded}
 
 
 def stored(check):

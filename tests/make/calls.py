@@ -80,6 +80,13 @@ def factor_number(s):
     return first((31, short), *lent.numbers(), (17, lambda: bad_rank), (19, lambda: bad_draws))
 
 
+def divided_number(s):
+    """`dual_variables_divided`: the rank is given, 0 is 17."""
+    lent, bad_rank = Lent(s, "signs"), not 1 <= s["rank"] <= 32
+    short = lambda: lent.short(out=s["m"]) or not lent.bad_size and not bad_rank and len(s["factor"]) < s["m"] * s["rank"]
+    return first((31, short), *lent.numbers(), (17, lambda: bad_rank))
+
+
 def sign_table_number(s):
     """The slices for the sign table rest on n and on the count."""
     lent, room = Lent(s, "wagons"), s["count"] + 3 * s["n"] + 1
@@ -130,6 +137,10 @@ def rounded_case(s):
 
 def dual_case(s):
     return "dual_call", [*lent_case(s), s["out"]]
+
+
+def divided_case(s):
+    return "divided_call", [*lent_case(s), s["out"]]
 
 
 def table_case(s):
@@ -183,6 +194,7 @@ CALLS = {
     "beam_search": Call(SIGNED, "width start out workspace", beam_number, lambda s: ("beam", [*matrix(s, "m"), s["width"], list(s["start"][: s["m"]])]), beam_back),
     "compute_rounded_sol": Call(SIGNED, "rank factor draw_count draws out", factor_number, rounded_case, rounded_back, rounded_case),
     "dual_variables": Call(SIGNED, "rank factor out", factor_number, dual_case, dual_back, dual_case),
+    "dual_variables_divided": Call(SIGNED, "rank factor out", divided_number, divided_case, dual_back, divided_case),
     "obj_rounded": Call(
         SIGNED, "signs", lambda s: table_number(s, "signs", signs=s["m"]), lambda s: ("obj_rounded", [*matrix(s, "m"), list(s["signs"][: s["m"]])]), list),
     "floor_eighths": Call(SIGNED, "", lambda s: table_number(s, "signs"), lambda s: ("floor", matrix(s, "m")), list, table_case),

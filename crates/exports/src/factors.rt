@@ -5,7 +5,8 @@ ghost use Rattle.tables.specs.Table.{tableOf};
 ghost use Rattle.run_limits.specs.Rank.{rankMeant};
 ghost use Rattle.rounding.specs.Rounding.{roundedSol, roundedObjective};
 ghost use Rattle.maxcut_oracle.specs.Whole.{wholeMultipliers};
-ghost use Rattle.factor_calls.specs.Numbers.{roundedNumber, dualNumber};
+ghost use Rattle.factor_calls.specs.Numbers.{roundedNumber, dualNumber, dividedNumber};
+ghost use Rattle.factor_calls.specs.Equation8.{dividedMultipliers};
 ghost use Rattle.factor_calls.specs.Answers.{RoundsFactor, Multiplies};
 ghost use Rattle.exports.specs.Answers.{eighthsBy, Stays};
 
@@ -66,4 +67,22 @@ pub extern "C" fn wagonplan_raw_dual_variables(
         (now (out .entry)) r (now (out .exit)) ⌝ }
 {
     factor_calls::dual_variables(m, count, rows, cols, values, rank, factor, out)
+}
+
+#[no_mangle]
+pub extern "C" fn wagonplan_raw_dual_variables_divided(
+    m: usize,
+    count: usize,
+    rows: &[u16],
+    cols: &[u16],
+    values: &[i64],
+    rank: usize,
+    factor: &[f64],
+    out: &mut [f64],
+) -> u8
+    ensures { λ r. ⌜ Multiplies (dividedNumber m count (now (rows .entry)) (now (cols .entry)) (now (values .entry)) rank (length (now (factor .entry))) (length (now (out .entry))))
+        (dividedMultipliers (tableOf count (now (rows .entry)) (now (cols .entry)) (now (values .entry))) m rank (now (factor .entry)))
+        (now (out .entry)) r (now (out .exit)) ⌝ }
+{
+    factor_calls::dual_variables_divided(m, count, rows, cols, values, rank, factor, out)
 }

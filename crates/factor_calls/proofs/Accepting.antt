@@ -1,39 +1,33 @@
 -- What holds where a call is accepted, and how its 31 is put together.
 -- Assumes nothing.
-use mathlib.Core.Path.{_≡_, refl}
+use mathlib.Core.Path.{_≡_, refl, sym, ap, _∙_}
 use mathlib.Core.Bool.{Bool, true, false, _&&_}
-use mathlib.Core.List.{List}
-use Prim.Native.Nat.{ℕ, _*_, _≤_}
-use borrow.Author.Tests.{ltb-false}
+use mathlib.Core.List.{List, [], _∷_}
+use Prim.Native.Nat.{ℕ, zero, suc, _*_, _≤_}
+use native.Mathlib.Omega.{arith}
+use borrow.Author.Tests.{ltb-false, ne-eqb}
 use lib.Dec.{ltb, eqb}
 use lib.ListN.{length}
 use lib.IntN.{ℤ}
 use lib.Ieee.{Float}
-use Rattle.laws.specs.Refusal.{short}
+use Rattle.laws.specs.Refusal.{_if_, first, anyOf, short}
 use Rattle.laws.proofs.Refusal.{clear, first-head, first-rest}
-use Rattle.laws.proofs.Any.{any-head, any-rest, any-not, any-none}
+use Rattle.laws.proofs.Any.{any-head, any-rest, any-not, any-none, any-skip, any-last}
 use Rattle.limits.specs.Limits.{mostSigns, mostSignEntries, mostSignMagnitude, mostRank, mostDraws}
 use Rattle.tables.specs.Table.{Table, Lent, tableOf}
-use Rattle.laws.proofs.Made.{length-tabulate}
-use Rattle.maxcut_oracle.specs.Whole.{numerator, wholeMultipliers}
 use Rattle.rounding.specs.Rounding.{leastDraw, roundedSol}
 use Rattle.rounding.proofs.Least.{length-signsOf}
-use Rattle.tables.specs.Check.{Accepted}
+use Rattle.tables.specs.Check.{Accepted, shortTable}
 use Rattle.tables.proofs.Checks.{long-enough, table-lent, table-accepted}
 use Rattle.run_limits.specs.Rank.{rankMeant}
-use Rattle.table_calls.specs.Numbers.{badSigns}
+use Rattle.table_calls.specs.Numbers.{badSigns, signTableNumber}
 use Rattle.table_calls.proofs.Accepting.{signs-passes, signs-parts}
-use Rattle.factor_calls.specs.Numbers.{badRank, badDraws, factorRefused, factorShort, drawsRefused, drawsShort, roundedShort, roundedNumber, dualShort, dualNumber}
+use Rattle.factor_calls.specs.Numbers.{badRank, badDraws, factorRefused, factorShort, drawsRefused, drawsShort, roundedShort, roundedNumber, dualShort, dualNumber, badGivenRank, givenFactorShort, dividedShort, dividedNumber, givenRank}
 
 -- a draw's signs are m
 pub length-roundedSol : (factor : List Float) (rank m : ℕ) (draws : List Float) (t : Table) (count : ℕ) → length (roundedSol factor rank m draws t count) ≡ m
 unfolding roundedSol
 length-roundedSol factor rank m draws t count = length-signsOf factor rank m draws (leastDraw factor rank m draws t count)
-
--- the multipliers are m
-pub length-multipliers : (t : Table) (m rank : ℕ) (factor : List Float) → length (wholeMultipliers t m rank factor) ≡ m
-unfolding wholeMultipliers
-length-multipliers t m rank factor = length-tabulate (numerator t rank factor) m
 
 -- a length that rests on a refused number isn't tested, and any other is
 pub factor-untested : (m rank lent : ℕ) → factorRefused m rank ≡ true → false ≡ factorShort m rank lent
@@ -131,3 +125,43 @@ module _ (m count : ℕ) (rows cols : List ℕ) (values : List ℤ) (rank factor
         factor-long = long-enough (any-head _ _ (any-rest _ _ s)) (any-not _ _ signs (any-not _ _ low any-none));
         out-long = long-enough (any-head _ _ (any-rest _ _ (any-rest _ _ s))) signs;
       }
+
+-- `dual_variables_divided` refuses what `dual_variables` refuses, a rank of 0 counted as one above the most
+rank-alike : (rank : ℕ) → badRank (givenRank rank) ≡ badGivenRank rank
+unfolding givenRank badGivenRank anyOf
+rank-alike zero = refl
+rank-alike (suc r) = sym (any-skip (eqb (suc r) 0) (badRank (suc r) ∷ []) (ne-eqb (suc r) 0 (λ e. absurd (omega arith))) ∙ any-last (badRank (suc r)))
+
+untested : (b : Bool) (a c lent : ℕ) → short (anyOf (b ∷ true ∷ [])) a lent ≡ short (anyOf (b ∷ true ∷ [])) c lent
+unfolding short anyOf
+untested true a c lent = refl
+untested false a c lent = refl
+
+factor-alike : (m rank lent : ℕ) → factorShort m (givenRank rank) lent ≡ givenFactorShort m rank lent
+unfolding givenRank badGivenRank factorShort factorRefused givenFactorShort rankMeant anyOf
+factor-alike m zero lent = untested (badSigns m) (m * suc mostRank) (m * zero) lent
+factor-alike m (suc r) lent = ap (λ (b : Bool). short (anyOf (badSigns m ∷ b ∷ [])) (m * suc r) lent) (rank-alike (suc r))
+
+module _ (m count : ℕ) (rows cols : List ℕ) (values : List ℤ) (rank factor out : ℕ) where
+  pub divided-as-dual : dualNumber m count rows cols values (givenRank rank) factor out ≡ dividedNumber m count rows cols values rank factor out
+  unfolding dualNumber dualShort dividedNumber dividedShort
+  divided-as-dual =
+      ap (λ (b : Bool). first (31 if anyOf (shortTable mostSignEntries count (length rows) (length cols) (length values) ∷ b ∷ short (badSigns m) m out ∷ []) ∷ signTableNumber m count rows cols values ∷ 17 if badRank (givenRank rank) ∷ [])) (factor-alike m rank factor)
+      ∙ ap (λ (b : Bool). first (31 if anyOf (shortTable mostSignEntries count (length rows) (length cols) (length values) ∷ givenFactorShort m rank factor ∷ short (badSigns m) m out ∷ []) ∷ signTableNumber m count rows cols values ∷ 17 if b ∷ [])) (rank-alike rank)
+
+pub given-some : (rank : ℕ) → (rank ≡ 0 → ⊥) → rank ≡ givenRank rank
+unfolding givenRank
+given-some zero d = absurd (d refl)
+given-some (suc r) d = refl
+
+given : (m count : ℕ) (rows cols : List ℕ) (values : List ℤ) (rank factor out : ℕ) → DualUsable m count rows cols values (givenRank rank) factor out
+    → DualUsable m count rows cols values rank factor out × (rankMeant m rank ≡ rank)
+unfolding givenRank rankMeant
+given m count rows cols values zero factor out u = absurd (let low : suc mostRank ≤ mostRank = u .rank-low in omega arith)
+given m count rows cols values (suc r) factor out u = (u, refl)
+
+-- what `dual_variables_divided` works on
+pub divided-accepted : (m count : ℕ) (rows cols : List ℕ) (values : List ℤ) (rank factor out : ℕ) → dividedNumber m count rows cols values rank factor out ≡ 0
+    → DualUsable m count rows cols values rank factor out × (rankMeant m rank ≡ rank)
+divided-accepted m count rows cols values rank factor out ok =
+    given m count rows cols values rank factor out (dual-accepted m count rows cols values (givenRank rank) factor out (divided-as-dual m count rows cols values rank factor out ∙ ok))

@@ -1,4 +1,5 @@
 pub mod Accepting
 pub mod Cursor
+pub mod Quotients
 pub mod Theorems
 pub mod Examples

@@ -1,8 +1,8 @@
--- The first numbers of `compute_rounded_sol` and `dual_variables` on a sign table given directly (01, "Numbers from the state" and "Numbers from the input"), or 0:
+-- The first numbers of `compute_rounded_sol`, `dual_variables` and `dual_variables_divided` on a sign table given directly (01, "Numbers from the state" and "Numbers from the input"), or 0:
 -- 31, 13 to 16, 17, and 19 of the draws. A length that rests on a number which is itself refused isn't tested.
 use mathlib.Core.Bool.{Bool, _&&_}
 use mathlib.Core.List.{List, [], _∷_}
-use Prim.Native.Nat.{ℕ, _*_}
+use Prim.Native.Nat.{ℕ, zero, suc, _*_}
 use lib.Dec.{ltb, eqb}
 use lib.ListN.{length}
 use lib.IntN.{ℤ}
@@ -69,3 +69,32 @@ dualNumber m count rows cols values rank factor out =
     ∷ signTableNumber m count rows cols values
     ∷ 17 if badRank rank
     ∷ [])
+
+-- 17 of `dual_variables_divided`, whose rank is given: 0 too
+unfoldable pub badGivenRank : ℕ → Bool
+badGivenRank rank = anyOf (eqb rank 0 ∷ badRank rank ∷ [])
+
+-- 31 of its factor
+unfoldable pub givenFactorShort : ℕ → ℕ → ℕ → Bool
+givenFactorShort m rank lent = short (anyOf (badSigns m ∷ badGivenRank rank ∷ [])) (m * rank) lent
+
+unfoldable pub dividedShort : ℕ → ℕ → ℕ → ℕ → ℕ → ℕ → ℕ → ℕ → Bool
+dividedShort m count rows cols values rank factor out =
+    anyOf
+    (shortTable mostSignEntries count rows cols values
+    ∷ givenFactorShort m rank factor
+    ∷ short (badSigns m) m out
+    ∷ [])
+
+unfoldable pub dividedNumber : ℕ → ℕ → List ℕ → List ℕ → List ℤ → ℕ → ℕ → ℕ → ℕ
+dividedNumber m count rows cols values rank factor out =
+    first
+    (31 if dividedShort m count (length rows) (length cols) (length values) rank factor out
+    ∷ signTableNumber m count rows cols values
+    ∷ 17 if badGivenRank rank
+    ∷ [])
+
+-- the rank by which the code looks for that number: 0 is as one above the most
+unfoldable pub givenRank : ℕ → ℕ
+givenRank zero = suc mostRank
+givenRank (suc r) = suc r

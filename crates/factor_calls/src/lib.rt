@@ -1,10 +1,11 @@
 // The calls on a sign table given directly that take a factor. None has a `requires`: what can't be used is refused by its number, and a
 // refusal writes nothing.
 mod numbers;
-mod whole; // whole.rt: the multipliers over the whole table
+mod whole; // whole.rt: the multipliers over the whole table, divided or not
 
 use limits::MOST_RANK;
 use limits::MOST_SIGNS;
+use numbers::divided_number;
 use numbers::dual_number;
 use numbers::rounded_number;
 use run_limits::rank_meant;
@@ -19,7 +20,8 @@ ghost use Rattle.tables.specs.Table.{tableOf, Lent, InRange, Rising, magnitudeO
 ghost use Rattle.run_limits.specs.Rank.{rankMeant};
 ghost use Rattle.rounding.specs.Rounding.{roundedSol, roundedObjective};
 ghost use Rattle.maxcut_oracle.specs.Whole.{wholeMultipliers};
-ghost use Rattle.factor_calls.specs.Numbers.{roundedNumber, dualNumber};
+ghost use Rattle.factor_calls.specs.Numbers.{roundedNumber, dualNumber, dividedNumber};
+ghost use Rattle.factor_calls.specs.Equation8.{dividedMultipliers, multipliersBy};
 ghost use Rattle.factor_calls.specs.Answers.{RoundsFactor, Multiplies};
 
 // Room for a direction, or for a row's sums.
@@ -124,8 +126,9 @@ pub fn compute_rounded_sol(
     Eighths::Value(objective)
 }
 
-// The multipliers of accepted arguments, with room for a row's sums.
+// The multipliers of accepted arguments, divided or not, with room for a row's sums.
 fn multiply(
+    divided: bool,
     m: usize,
     count: usize,
     rows: &[u16],
@@ -137,10 +140,11 @@ fn multiply(
 )
     requires { ⌜ Lent count (now rows) (now cols) (now values) × InRange m (tableOf count (now rows) (now cols) (now values)) × Rising (tableOf count (now rows) (now cols) (now values)) ⌝ }
     requires { ⌜ (m * rank ≤ length (now factor)) × (m ≤ length (now out)) × (rank ≤ mostRank) ⌝ }
-    ensures { λ _. ⌜ now (out .exit) ≡ over (wholeMultipliers (tableOf count (now (rows .entry)) (now (cols .entry)) (now (values .entry))) m rank (now (factor .entry))) (now (out .entry)) ⌝ }
+    ensures { λ _. ⌜ now (out .exit) ≡ over (multipliersBy divided (tableOf count (now (rows .entry)) (now (cols .entry)) (now (values .entry))) m rank (now (factor .entry))) (now (out .entry)) ⌝ }
 {
     let mut sums = direction_room();
     whole_multipliers(
+        divided,
         m,
         count,
         rows,
@@ -175,6 +179,31 @@ pub fn dual_variables(
         return number;
     }
     let meant = rank_meant(m, rank);
-    multiply(m, count, rows, cols, values, meant, factor, out);
+    multiply(false, m, count, rows, cols, values, meant, factor, out);
+    0
+}
+
+// Equation 8 of arXiv 0807.4423 with its denominator: what `dual_variables` gives, each row's divided by the row's product with itself, in the
+// first places of `out`; the number, 0 where the call is accepted. The rank is given: 0 is refused. A row of zeros, of NaN, or too small or too
+// large to be squared gives what the division gives.
+pub fn dual_variables_divided(
+    m: usize,
+    count: usize,
+    rows: &[u16],
+    cols: &[u16],
+    values: &[i64],
+    rank: usize,
+    factor: &[f64],
+    out: &mut [f64],
+) -> u8
+    ensures { λ r. ⌜ Multiplies (dividedNumber m count (now (rows .entry)) (now (cols .entry)) (now (values .entry)) rank (length (now (factor .entry))) (length (now (out .entry))))
+        (dividedMultipliers (tableOf count (now (rows .entry)) (now (cols .entry)) (now (values .entry))) m rank (now (factor .entry)))
+        (now (out .entry)) r (now (out .exit)) ⌝ }
+{
+    let number = divided_number(m, count, rows, cols, values, rank, factor.len(), out.len());
+    if number != 0 {
+        return number;
+    }
+    multiply(true, m, count, rows, cols, values, rank, factor, out);
     0
 }

@@ -11,7 +11,7 @@ use tables::check::table_number;
 use tables::check::too_short;
 ghost use mathlib.Core.Path.{_≡_};
 ghost use lib.ListN.{length};
-ghost use Rattle.factor_calls.specs.Numbers.{badRank, badDraws, factorShort, drawsRefused, drawsShort, roundedShort, roundedNumber, dualShort, dualNumber};
+ghost use Rattle.factor_calls.specs.Numbers.{badRank, badDraws, factorShort, drawsRefused, drawsShort, roundedShort, roundedNumber, dualShort, dualNumber, givenRank, dividedNumber};
 
 // 17.
 fn bad_rank(rank: usize) -> bool
@@ -191,4 +191,30 @@ pub fn dual_number(
         return 17;
     }
     0
+}
+
+// A rank that is given: 0 stands for one that is refused.
+fn given_rank(rank: usize) -> usize
+    ensures { λ r. ⌜ r ≡ givenRank rank ⌝ }
+{
+    if rank == 0 {
+        return MOST_RANK + 1;
+    }
+    rank
+}
+
+// The first number of `dual_variables_divided`, or 0: that of `dual_variables`, but for the rank 0.
+pub fn divided_number(
+    m: usize,
+    count: usize,
+    rows: &[u16],
+    cols: &[u16],
+    values: &[i64],
+    rank: usize,
+    factor: usize,
+    out: usize,
+) -> u8
+    ensures { λ r. ⌜ r ≡ dividedNumber m count (now (rows .entry)) (now (cols .entry)) (now (values .entry)) rank factor out ⌝ }
+{
+    dual_number(m, count, rows, cols, values, given_rank(rank), factor, out)
 }

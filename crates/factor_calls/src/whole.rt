@@ -1,16 +1,18 @@
-// 002's `dual_variables(Q, V)`: over the whole table, the diagonal in it, in one pass over the entries. The result field of a run is
-// `maxcut_oracle::objective::dual_variables`.
+// 002's `dual_variables(Q, V)`: over the whole table, the diagonal in it, in one pass over the entries; and the same with equation 8's denominator. The
+// result field of a run is `maxcut_oracle::objective::dual_variables`.
 
 ghost use mathlib.Core.Path.{_≡_};
 ghost use Prim.Native.Nat.{_+_, _*_, _≤_};
 ghost use lib.ListN.{length};
 ghost use Rattle.laws.specs.Lists.{elem};
 ghost use Rattle.laws.specs.Rows.{rowOf};
-ghost use Rattle.ieee.specs.Floats.{eighthOf};
+ghost use Rattle.ieee.specs.Floats.{_/ᶠ_, eighthOf};
 ghost use Rattle.tables.specs.Table.{tableOf, Lent, InRange, Rising};
 ghost use Rattle.sign_table.specs.Walk.{At, inRow};
 ghost use Rattle.factor.specs.Vectors.{addScaled};
-ghost use Rattle.maxcut_oracle.specs.Whole.{wholeRow, wholeMultipliers};
+ghost use Rattle.factor.specs.Norms.{dotOf};
+ghost use Rattle.maxcut_oracle.specs.Whole.{wholeRow};
+ghost use Rattle.factor_calls.specs.Equation8.{valueOf, multipliersBy};
 use factor::rows::add_scaled;
 use factor::rows::clear;
 use factor::rows::row;
@@ -64,8 +66,37 @@ fn whole_row(
     e
 }
 
+// A row's sums times the row, divided by the row's product with itself: both products in one pass.
+fn quotient(sums: &[f64], v: &[f64]) -> f64
+    requires { ⌜ length (now sums) ≡ length (now v) ⌝ }
+    ensures { λ r. ⌜ r ≡ dotOf (now (sums .entry)) (now (v .entry)) /ᶠ dotOf (now (v .entry)) (now (v .entry)) ⌝ }
+{
+    let mut above = 0.0;
+    let mut below = 0.0;
+    let mut i = 0;
+    while i < v.len() {
+        let x = v[i];
+        above = above + sums[i] * x;
+        below = below + x * x;
+        i += 1;
+    }
+    above / below
+}
+
+// A row's multiplier, from its sums.
+fn value_of(divided: bool, sums: &[f64], v: &[f64]) -> f64
+    requires { ⌜ length (now sums) ≡ length (now v) ⌝ }
+    ensures { λ r. ⌜ r ≡ valueOf divided (now (sums .entry)) (now (v .entry)) ⌝ }
+{
+    if divided {
+        return quotient(sums, v);
+    }
+    dot(sums, v)
+}
+
 // The multipliers of m rows over the whole table. What is left in `sums` is free.
 pub fn whole_multipliers(
+    divided: bool,
     m: usize,
     count: usize,
     rows: &[u16],
@@ -78,13 +109,13 @@ pub fn whole_multipliers(
 )
     requires { ⌜ Lent count (now rows) (now cols) (now values) × InRange m (tableOf count (now rows) (now cols) (now values)) × Rising (tableOf count (now rows) (now cols) (now values)) ⌝ }
     requires { ⌜ (m * rank ≤ length (now factor)) × (length (now sums) ≡ rank) × (length (now dual) ≡ m) ⌝ }
-    ensures { λ _. ⌜ now (dual .exit) ≡ wholeMultipliers (tableOf count (now (rows .entry)) (now (cols .entry)) (now (values .entry))) m rank (now (factor .entry)) ⌝ }
+    ensures { λ _. ⌜ now (dual .exit) ≡ multipliersBy divided (tableOf count (now (rows .entry)) (now (cols .entry)) (now (values .entry))) m rank (now (factor .entry)) ⌝ }
 {
     let mut i = 0;
     let mut from = 0;
     while i < m {
         from = whole_row(m, count, rows, cols, values, rank, factor, i, from, sums);
-        dual[i] = dot(sums, row(factor, rank, i));
+        dual[i] = value_of(divided, sums, row(factor, rank, i));
         i += 1;
     }
 }

@@ -58,6 +58,7 @@ pub fn leaf(line: &str) -> Result<String, String> {
         "rounded" => rounded,
         "sols" => sols,
         "dual_call" => leaf_calls::dual,
+        "divided_call" => leaf_calls::divided,
         "rounded_call" => leaf_calls::rounded,
         "submatrix" => submatrix,
         "lift" => lift,

@@ -54,7 +54,12 @@ impl Call {
     /// 31 of table, factor and answer; a length that rests on what is refused isn't tested.
     fn short(&self, room: usize) -> bool {
         let factor = !self.bad_size() && !self.bad_rank() && self.factor.len() < self.m * self.meant();
-        self.table.short(&[]) || factor || (!self.bad_size() && room < self.m)
+        self.short_but_factor(room) || factor
+    }
+
+    /// 31 of table and answer.
+    fn short_but_factor(&self, room: usize) -> bool {
+        self.table.short(&[]) || (!self.bad_size() && room < self.m)
     }
 
     /// 31, 13, 14, 15, 16, 17, 19.
@@ -87,6 +92,27 @@ pub fn dual(words: &mut In, out: &mut Out) -> Done {
     if number == 0 {
         let (q, factor) = call.taken();
         out.doubles(dual_variables(&q, &factor).iter());
+    }
+    Ok(())
+}
+
+/// Equation 8 with its denominator: the Rust's `dual_variables` over the whole table, each divided by
+/// the row's product with itself. The division is the harness's; the rank is given, 0 is 17.
+pub fn divided(words: &mut In, out: &mut Out) -> Done {
+    let call = Call::read(words)?;
+    let room = words.count()?;
+    let none = call.rank == 0;
+    let short = if none { call.short_but_factor(room) } else { call.short(room) };
+    let number = match call.number(short, false) {
+        0 if none => 17,
+        number => number,
+    };
+    out.word(u64::from(number));
+    if number == 0 {
+        let (q, factor) = call.taken();
+        let above = dual_variables(&q, &factor);
+        let divided = |i: usize| above[i] / factor.row(i).dot(&factor.row(i));
+        out.doubles((0..call.m).map(divided).collect::<Vec<_>>().iter());
     }
     Ok(())
 }

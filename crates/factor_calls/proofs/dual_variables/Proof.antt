@@ -5,6 +5,7 @@ use denote.Ref.{now}
 use lib.ListN.{length}
 use Rattle.table_calls.proofs.Accepting.{refused-is, accepted-is}
 use Rattle.factor_calls.proofs.Accepting.{dual-accepted}
+use Rattle.factor_calls.proofs.Quotients.{by-numerators}
 use Rattle.factor_calls.proofs.dual_variables.Statement.{statement}
 use Rattle.factor_calls.proofs.dual_variables.Tie as tie
 
@@ -21,7 +22,7 @@ multiply-requires c κs = let a = c .before .before .before .before .before .bef
 returns-2 : tie.Need-returns-2
 returns-2 c = record {
   answers = sym (c .before .before .before .before .before .if1 .left) ∙ c .before .before .before .before .before .before .dual-number .ensures;
-  multipliers-are = (rw (c .before .before .before .before .rank-meant .ensures .0) at (c .before .before .multiply .ensures)) ∙ accepted-is _ _ _ (c .before .before .before .before .before .before .dual-number .ensures) (c .before .before .before .before .before .if1 .left);
+  multipliers-are = (rw (c .before .before .before .before .rank-meant .ensures .0, by-numerators) at (c .before .before .multiply .ensures)) ∙ accepted-is _ _ _ (c .before .before .before .before .before .before .dual-number .ensures) (c .before .before .before .before .before .if1 .left);
 }
 
 pub dual-variables-spec : {M : Type 1} → statement M

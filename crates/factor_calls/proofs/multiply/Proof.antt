@@ -3,7 +3,7 @@ use borrow.Author.Needs.{needs}
 use mathlib.Core.Path.{sym}
 use native.Mathlib.Omega.{arith}
 use lib.Seq.{length-take-le}
-use Rattle.factor_calls.proofs.Accepting.{length-multipliers}
+use Rattle.factor_calls.proofs.Quotients.{length-by}
 use Rattle.factor_calls.proofs.multiply.Statement.{statement}
 use Rattle.factor_calls.proofs.multiply.Tie as tie
 
@@ -24,7 +24,7 @@ whole-multipliers-requires c κs = let p = c .before .before .before .before .be
     (p .0, (p .1 .0, length-take-le _ _ (omega (arith, c .before .before .direction-room .ensures, p .1 .2)), length-take-le _ _ (p .1 .1)))
 
 returns : tie.Need-returns
-returns c = rw (c .before .before .before .whole-multipliers .ensures, length-multipliers)
+returns c = rw (c .before .before .before .whole-multipliers .ensures, length-by)
 
 pub multiply-spec : {M : Type 1} → statement M
 multiply-spec =
