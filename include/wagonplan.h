@@ -35,7 +35,7 @@ extern "C" {
 // ---- sizes --------------------------------------------------------------------------------------
 
 enum {
-    WAGONPLAN_VERSION = 6, // of these declarations; `wagonplan_version` answers the archive's
+    WAGONPLAN_VERSION = 7, // of these declarations; `wagonplan_version` answers the archive's
 
     WAGONPLAN_JOB_MOST = 65536,         // bytes of a job record
     WAGONPLAN_WAGONS_MOST = 255,        // n; 127 in jobs of version 1 or 2
@@ -57,6 +57,7 @@ enum {
     WAGONPLAN_RUN_WORDS = 13,           // words of a run record, of settings and of a result, as the raw functions take them
     WAGONPLAN_SETTING_WORDS = 8,
     WAGONPLAN_RESULT_WORDS = 11,
+    WAGONPLAN_RANGED_WORDS = WAGONPLAN_RESULT_WORDS + 3, // words of a ranged result: three more than a result has
 
     WAGONPLAN_STACK = 589824 // bytes of stack that a call may take
 };
@@ -102,6 +103,13 @@ typedef struct {
     wagonplan_u16 rows, cols;
     wagonplan_i64 values, c;
 } wagonplan_table;
+
+// (H, c) known within ranges: a table's places once, and for each entry and each wagon a low and a high number.
+typedef struct {
+    size_t n, count;
+    wagonplan_u16 rows, cols;
+    wagonplan_i64 low, high, low_c, high_c;
+} wagonplan_ranged_table;
 
 // A sign table of m signs, the last of them the anchor; values in eighths.
 typedef struct {
@@ -167,9 +175,17 @@ typedef struct {
     uint64_t standing;    // the run's
 } wagonplan_result;
 
+// What a ranged finish gives: a finish's result on the high table, then three figures in eighths. Whatever costs within the ranges turn out to hold, the choice in b
+// costs at least `low` and at most `high`, and no choice costs less than `low_floor`. result.floor is the high table's, and none for the others.
+typedef struct {
+    wagonplan_result result;
+    int64_t low, high, low_floor;
+} wagonplan_ranged_result;
+
 typedef char wagonplan_run_is_words[sizeof(wagonplan_run) == 8 * WAGONPLAN_RUN_WORDS ? 1 : -1];
 typedef char wagonplan_settings_are_words[sizeof(wagonplan_settings) == 8 * WAGONPLAN_SETTING_WORDS ? 1 : -1];
 typedef char wagonplan_result_is_words[sizeof(wagonplan_result) == 8 * WAGONPLAN_RESULT_WORDS ? 1 : -1];
+typedef char wagonplan_ranged_result_is_words[sizeof(wagonplan_ranged_result) == 8 * WAGONPLAN_RANGED_WORDS ? 1 : -1];
 
 // ---- the archive's functions --------------------------------------------------------------------
 
@@ -184,6 +200,10 @@ uint8_t wagonplan_raw_finish(const uint64_t *words, size_t, size_t n, size_t cou
                              const int64_t *values, size_t, const int64_t *c, size_t, size_t width, size_t draw_count, const double *draws, size_t,
                              const double *factor, size_t, uint8_t *b, size_t, double *dual_variables, size_t, uint64_t *workspace, size_t, uint64_t *result,
                              size_t);
+uint8_t wagonplan_raw_finish_ranged(const uint64_t *words, size_t, size_t n, size_t count, const uint16_t *rows, size_t, const uint16_t *cols, size_t,
+                                    const int64_t *low, size_t, const int64_t *high, size_t, const int64_t *low_c, size_t, const int64_t *high_c, size_t,
+                                    size_t width, size_t draw_count, const double *draws, size_t, const double *factor, size_t, uint8_t *b, size_t,
+                                    double *dual_variables, size_t, uint64_t *workspace, size_t, uint64_t *result, size_t);
 uint8_t wagonplan_raw_beam_search(size_t m, size_t count, const uint16_t *rows, size_t, const uint16_t *cols, size_t, const int64_t *values, size_t,
                                   size_t width, const uint8_t *start, size_t, uint8_t *out, size_t, uint64_t *workspace, size_t, int64_t *objective,
                                   uint64_t *rounds);
@@ -344,6 +364,24 @@ static inline uint8_t wagonplan_finish(const wagonplan_run *run, const wagonplan
     number = wagonplan_raw_finish(words, WAGONPLAN_RUN_WORDS, t->n, t->count, t->rows.at, t->rows.len, t->cols.at, t->cols.len, t->values.at, t->values.len,
                                   t->c.at, t->c.len, width, draw_count, draws.at, draws.len, factor.at, factor.len, b.at, b.len, dual_variables.at,
                                   dual_variables.len, workspace.at, workspace.len, given, WAGONPLAN_RESULT_WORDS);
+    if (number == 0) memcpy(result, given, sizeof given);
+    return wagonplan_leave(mode, number);
+}
+
+// The finish where costs are known within ranges: all that wagonplan_finish does, on the high table, and the figures of wagonplan_ranged_result. 23 where a low number
+// is above its high one; 15 where either end's mirror is unequal; 16 by the larger absolute value of each range. The slices are a finish's, low and high `count`
+// entries each, low_c and high_c n each.
+static inline uint8_t wagonplan_finish_ranged(const wagonplan_run *run, const wagonplan_ranged_table *t, size_t width, size_t draw_count, wagonplan_f64 draws,
+                                              wagonplan_f64 factor, wagonplan_u8_mut b, wagonplan_f64_mut dual_variables, wagonplan_u64_mut workspace,
+                                              wagonplan_ranged_result *result) {
+    uint64_t words[WAGONPLAN_RUN_WORDS], given[WAGONPLAN_RANGED_WORDS] = {0};
+    unsigned mode = wagonplan_enter();
+    uint8_t number;
+    memcpy(words, run, sizeof words);
+    number = wagonplan_raw_finish_ranged(words, WAGONPLAN_RUN_WORDS, t->n, t->count, t->rows.at, t->rows.len, t->cols.at, t->cols.len, t->low.at, t->low.len,
+                                         t->high.at, t->high.len, t->low_c.at, t->low_c.len, t->high_c.at, t->high_c.len, width, draw_count, draws.at,
+                                         draws.len, factor.at, factor.len, b.at, b.len, dual_variables.at, dual_variables.len, workspace.at, workspace.len,
+                                         given, WAGONPLAN_RANGED_WORDS);
     if (number == 0) memcpy(result, given, sizeof given);
     return wagonplan_leave(mode, number);
 }
@@ -530,6 +568,7 @@ static inline const char *wagonplan_sentence(uint8_t number) {
     case 20: return "The original size is above 1,024, or a map or fixed index is out of range or mapped twice.";
     case 21: return "A pinned wagon is out of range or pinned twice, or its store is above 1.";
     case 22: return "A byte of the present choice is above 1, there are more than 16 blocks, or a wagon is out of range or twice within a block.";
+    case 23: return "The low end of a range is above its high end.";
     case 31: return "A lent slice is too short.";
     case 32: return "The stage is wrong: a sweep when stopped, or a finish before.";
     case 33: return "The run record contradicts itself or the table.";

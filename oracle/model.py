@@ -9,6 +9,7 @@ the Rust harness. It reads and prints what the oracle's modes of the same name d
 
 Slow; meant for small tables.
 """
+import itertools
 import math
 import struct
 import sys
@@ -179,6 +180,45 @@ def choice_number(m, *slices):
     """31 of slices (needed, lent), which rests on m; 13 of m."""
     bad = not 1 <= m <= MOST_SIGNS
     return first((31, lambda: not bad and any(lent < needed for needed, lent in slices)), (13, lambda: bad))
+
+
+# ---- costs known within ranges (02, Note 8) --------------------------------------------------
+
+
+def ends(entries):
+    """The low and the high table of entries (row, column, low, high)."""
+    return [(i, j, low) for i, j, low, _ in entries], [(i, j, high) for i, j, _, high in entries]
+
+
+def ranged_numbers(n, count, entries, low_c, high_c):
+    """The numbers of a ranged table in their order, each with its test: 23, low above high, for an entry after 14, for a c before 16."""
+    low, high = ends(entries)
+    ranges = [(a, b) for _, _, a, b in entries]
+    larger = lambda pairs: sum(max(abs(a), abs(b)) for a, b in pairs)
+    return (
+        (13, lambda: n > MOST_WAGONS or count > 4096),
+        (14, lambda: n14(n, low)),
+        (23, lambda: any(a > b for a, b in ranges)),
+        (15, lambda: n15(low) or n15(high)),
+        (23, lambda: any(a > b for a, b in zip(low_c, high_c))),
+        (16, lambda: larger(ranges) + 2 * larger(zip(low_c, high_c)) > 2**40),
+    )
+
+
+def ranged_figures(n, entries, low_c, high_c, b):
+    """Eighths: what the choice costs by the low and by the high table, and the low table's floor."""
+    low, high = ends(entries)
+    return [cost(low, low_c, b), cost(high, high_c, b), floor_of(sign_table(n, low, low_c))]
+
+
+def tables_within(entries, low_c, high_c):
+    """Every mirrored table within the ranges, as entries and c."""
+    places = [(i, j, low, high) for i, j, low, high in entries if i <= j]
+    for values in itertools.product(*[range(low, high + 1) for *_, low, high in places], *[range(a, b + 1) for a, b in zip(low_c, high_c)]):
+        h = {}
+        for (i, j, _, _), v in zip(places, values):
+            h[i, j] = h[j, i] = v
+        yield [(i, j, h[i, j]) for i, j in sorted(h)], list(values[len(places) :])
 
 
 # ---- floats over tables ---------------------------------------------------------------------
@@ -1041,6 +1081,17 @@ class Script:
             (16, lambda: n16(entries, self.c)),
         )
 
+    def ranged_table(self, w):
+        """The same of a ranged table: n, entries and c are the high table's."""
+        n, count = w.u(), w.u()
+        rows, cols = w.slice(w.u), w.slice(w.u)
+        low, high, low_c, high_c = [w.slice(w.i) for _ in range(4)]
+        self.ranges = [*zip(rows, cols, low, high)][:count]
+        self.low_c, self.high_c = low_c[:n], high_c[:n]
+        self.n, self.entries, self.c, self.bad_n = n, ends(self.ranges)[1], self.high_c, n > MOST_WAGONS
+        self.short = (count <= 4096 and min(map(len, (rows, cols, low, high))) < count) or (not self.bad_n and min(len(low_c), len(high_c)) < n)
+        return ranged_numbers(n, count, self.ranges, self.low_c, self.high_c)
+
     def call_open(self, w):
         numbers = self.table(w)
         s = {"rank": w.u(), "rule": w.u(), "number": w.f(), "most": w.u(), "minimum": w.u()}
@@ -1101,8 +1152,8 @@ class Script:
                 made += 1
         return number, []
 
-    def call_finish(self, w):
-        numbers = self.table(w)
+    def finish_number(self, w, numbers):
+        """The number of a finish over the table just read; and its width and draws."""
         width, draw_count, draws = w.u(), w.u(), w.slice(w.f)
         factor_length, b_length, dual_length, _ = w.u(), w.u(), w.u(), w.u()
         run = self.run
@@ -1118,6 +1169,19 @@ class Script:
             (18, lambda: n18(run.rule, run.number)),
             (19, lambda: width > 128 or bad_draws),
         )
+        return number, width, draw_count, draws
+
+    def call_finish(self, w):
+        return self.finish_over(w, self.table(w))
+
+    def call_finish_ranged(self, w):
+        """A finish on the high table, and the figures of its choice; the oracle has none."""
+        number, result = self.finish_over(w, self.ranged_table(w))
+        return number, result and [*result, *ranged_figures(self.n, self.ranges, self.low_c, self.high_c, result[-2])]
+
+    def finish_over(self, w, numbers):
+        run = self.run
+        number, width, draw_count, draws = self.finish_number(w, numbers)
         if number != 0:
             return number, []
         draws = [draws[k * run.rank : (k + 1) * run.rank] for k in range(draw_count)]

@@ -1,6 +1,7 @@
 #!/usr/bin/env python3
 """Tests of tools/hall, tools/plan and tools/show_hall.sh; tests/check_halls.sh runs it. WAGONPLAN may name another program than target/bin/wagonplan,
 WAGONPLAN_ARCHIVE another archive than target/libwagonplan.a."""
+import itertools
 import json
 import os
 import random
@@ -487,6 +488,50 @@ class Rows(Case):
         ):
             done = subprocess.run([command], input=bad, capture_output=True, check=False)
             self.assertEqual((done.returncode, done.stdout, done.stderr.decode()), (1, b"", sentence + "\n"))
+
+
+class Ranges(Case):
+    """Costs written as ranges: the library's finish over them, held against the hall's own ends (02, Note 8)."""
+
+    HALL = "wagon a -3..-1\nwagon b 2\nwagon c -4..0\npair a b 1..3\npair a c -2..2\npair c c 0..2\n"
+
+    def test_words_and_json(self):
+        """The figures are those of every plain hall within the ranges: the least and the greatest cost of the plan."""
+        path, written = self.file("hall.txt", self.HALL), os.path.join(self.folder, "json")
+        done = run("plan", path, "--json", written)
+        self.ends(done, 0)
+        found, said = json.loads(contents(written)), done.stdout.decode()
+        chosen = [answer.STORES.index(found["choice"][name]) for name in "abc"]
+        costs = []
+        for a, c, ab, ac, cc in itertools.product((-3, -2, -1), range(-4, 1), (1, 2, 3), range(-2, 3), (0, 1, 2)):
+            pairs = {(0, 1): ab, (1, 0): ab, (0, 2): ac, (2, 0): ac, (2, 2): cc}
+            costs.append(answer.cost_by(pairs, [a, 2, c], chosen) / 8)
+            self.assertTrue(all(found["low_floor"] <= answer.cost_by(pairs, [a, 2, c], b) / 8 for b in itertools.product((0, 1), repeat=3)))
+        self.assertEqual((found["cost_at_least"], found["cost_at_most"]), (min(costs), max(costs)))
+        self.assertEqual(found["cost_at_most"], found["cost"])
+        low, high, floor = (answer.eighths(int(8 * found[name])) for name in ("cost_at_least", "cost_at_most", "low_floor"))
+        self.assertIn(f"This costs at least {low} and at most {high}, whatever the costs within their ranges turn out to be. No choice at all costs less than {floor}, the floor of the low costs. "
+                      "By the high costs no single wagon moved to the other store makes it cheaper, nor all of them at once.\n", said)
+        self.assertIn(f"Cost from {low} to {high}     Floor {floor}", run("hall", "plan", path, "-", given=self.answered(self.hall(self.HALL))[0]).stdout.decode())
+
+    def test_equal_ends(self):
+        """A range of one number says what the number says."""
+        written = os.path.join(self.folder, "json")
+        self.ends(run("plan", self.file("hall.txt", "wagon a -3..-3\nwagon b 2\npair a b 1\n"), "--json", written), 0)
+        found = json.loads(contents(written))
+        self.assertEqual([found[name] for name in ("cost_at_least", "cost_at_most", "low_floor")], [found["cost"], found["cost"], found["floor"]])
+
+    def test_wrong_lines(self):
+        for text, sentence in (("wagon a 7..3\n", "line 1: the range 7..3 has its low end above its high end."), ("wagon a 3..\n", "line 1: 3.. is no range of two whole numbers, as 3..7 is."),
+                               ("wagon a 1..2..3\n", "line 1: 1..2..3 is no range of two whole numbers"), ("wagon a 0..1\npin a left\n", "line 2: a hall with costs written as ranges has no pins"),
+                               (f"wagon a -{2**39 + 1}..0\n", "the magnitude is above 2^40")):
+            self.assertIn(sentence, self.sentence(text))
+        self.ends(run("hall", "job", self.file("hall.txt", "wagon a 0..1\n")), 1, "has costs written as ranges, and a job can't carry them")
+        self.assertIn("they must be the same", self.sentence(",a,b\na,0,1..2\nb,1..3,0\n", "table.csv"))
+
+    def test_table(self):
+        made = self.hall(",a,b\na,-1..0,1..2\nb,1..2,3\n", "table.csv")
+        self.assertEqual((made.low_costs, made.costs, made.low_pairs, made.pairs, made.ranged), ([-1, 3], [0, 3], {(0, 1): 1, (1, 0): 1}, {(0, 1): 2, (1, 0): 2}, True))
 
 
 class Pictures(Case):

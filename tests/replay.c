@@ -10,7 +10,7 @@
 #include <string.h>
 #include "wagonplan.h"
 
-enum { ARGUMENTS = 16, TABLE = 6, GUARD = 8, MORE = 5, NUMBERS = 256, STACK = 2 << 20 };
+enum { ARGUMENTS = 20, TABLE = 8, GUARD = 8, MORE = 5, NUMBERS = 256, STACK = 2 << 20 };
 enum { AS_STORED, GUARDED, LONGER, A_WORD_SHORT };
 
 static _Noreturn void give_up(const char *why);
@@ -20,7 +20,7 @@ static _Noreturn void give_up(const char *why);
 // Kinds. In a line stand: of `n` a word; of slices that are read (b, h, i, d, c: bytes, 16 bits, whole numbers, doubles, words; j, k: bytes and 16 bits whose
 // length is part of what is asked) the slice; of those that are lent to be written (B, H, I, D, C, W the workspace of a job, w that of a search, A the answer record)
 // the length; of the factor (F, f where it is only read) the length; of settings (S) eight words. The run (R, r) is the one that the last line left. Given back
-// are B, H, I, D, C, A, F, R, the words `v` and `e` (a double), and U, the result.
+// are B, H, I, D, C, A, F, R, the words `v` and `e` (a double), and U, the result, or V, a ranged one.
 typedef struct {
     char kind;
     size_t length;           // elements that are lent
@@ -42,8 +42,8 @@ typedef struct {
 
 static int is_one_of(char kind, const char *kinds) { return strchr(kinds, kind) != NULL; }
 static size_t element(char kind) { return is_one_of(kind, "bjBAW") ? 1 : is_one_of(kind, "hkH") ? 2 : 8; }
-static int is_written(char kind) { return is_one_of(kind, "BHIDCAFRveU"); }
-static int grows(char kind) { return is_one_of(kind, "bhidcBHIDCWwAFfRrSU"); } // words only as raw functions take them
+static int is_written(char kind) { return is_one_of(kind, "BHIDCAFRveUV"); }
+static int grows(char kind) { return is_one_of(kind, "bhidcBHIDCWwAFfRrSUV"); } // words only as raw functions take them
 
 // ---- the calls --------------------------------------------------------------------------------------
 
@@ -112,6 +112,22 @@ static uint8_t raw_finish(Argument *a) {
                                 number(a + 7), number(a + 8), place(a + 9), a[9].lent, place(a + 10), a[10].lent, place(a + 11), a[11].lent, place(a + 12),
                                 a[12].lent, place(a + 13), a[13].lent, place(a + 14), a[14].lent);
 }
+static wagonplan_ranged_table ranged_table(const Argument *a) {
+    wagonplan_ranged_table t = {number(a), number(a + 1), u16(a + 2), u16(a + 3), i64(a + 4), i64(a + 5), i64(a + 6), i64(a + 7)};
+    return t;
+}
+static uint8_t finish_ranged(Argument *a) {
+    wagonplan_ranged_table t = ranged_table(a + 1);
+    return wagonplan_finish_ranged(place(a), &t, number(a + 9), number(a + 10), f64(a + 11), f64(a + 12), u8_mut(a + 13), f64_mut(a + 14), u64_mut(a + 15),
+                                   place(a + 16));
+}
+static uint8_t raw_finish_ranged(Argument *a) {
+    wagonplan_ranged_table t = ranged_table(a + 1);
+    return wagonplan_raw_finish_ranged(place(a), a->lent, t.n, t.count, t.rows.at, t.rows.len, t.cols.at, t.cols.len, t.low.at, t.low.len, t.high.at, t.high.len,
+                                       t.low_c.at, t.low_c.len, t.high_c.at, t.high_c.len, number(a + 9), number(a + 10), place(a + 11), a[11].lent,
+                                       place(a + 12), a[12].lent, place(a + 13), a[13].lent, place(a + 14), a[14].lent, place(a + 15), a[15].lent,
+                                       place(a + 16), a[16].lent);
+}
 static uint8_t beam_search(Argument *a) {
     wagonplan_sign_table t = sign_table(a);
     return wagonplan_beam_search(&t, number(a + 5), u8(a + 6), u8_mut(a + 7), u64_mut(a + 8), place(a + 9), place(a + 10));
@@ -171,12 +187,14 @@ static uint8_t double_from(Argument *a) { return give_double(a + 1, wagonplan_do
 static uint8_t bits_from(Argument *a) { return give_word(a + 1, wagonplan_bits_of(double_of(a))); }
 static uint8_t default_sdp_rank(Argument *a) { return give_word(a + 1, wagonplan_default_sdp_rank((uint16_t)number(a))); }
 
-// Kinds in the order of the header's wrapper; T is a table (n, count, rows, columns, values, c), Q a sign table (m, count, rows, columns, values).
+// Kinds in the order of the header's wrapper; T is a table (n, count, rows, columns, values, c), G a ranged one (n, count, rows, columns, low, high, low c, high c), Q a sign
+// table (m, count, rows, columns, values).
 static const Call calls[] = {
     {"answer", "jWA", answer, 0},
     {"open", "TSdFR", open_run, raw_open},
     {"sweep", "RTnF", sweep, raw_sweep},
     {"finish", "rTnndfBDwU", finish, raw_finish},
+    {"finish_ranged", "rGnndfBDwV", finish_ranged, raw_finish_ranged},
     {"beam_search", "QnbBwvv", beam_search, 0},
     {"compute_rounded_sol", "QndndBv", compute_rounded_sol, 0},
     {"dual_variables", "QndD", dual_variables, 0},
@@ -294,6 +312,7 @@ static Argument read_argument(Words *w, char kind) {
     else if (is_one_of(kind, "Rr")) a.words = run, a.length = a.known = WAGONPLAN_RUN_WORDS;
     else if (is_one_of(kind, "ve")) a.length = 1;
     else if (kind == 'U') a.length = WAGONPLAN_RESULT_WORDS;
+    else if (kind == 'V') a.length = WAGONPLAN_RANGED_WORDS;
     else a.length = word();
     if (is_one_of(kind, "Ff")) a.words = factor, a.known = factor_count < a.length ? factor_count : a.length;
     return a;
@@ -315,6 +334,7 @@ static void read_arguments(const char *kinds) {
     argument_count = 0;
     for (; *kinds; kinds++) {
         if (*kinds == 'T') read_group("nnhhii");
+        else if (*kinds == 'G') read_group("nnhhiiii");
         else if (*kinds == 'Q') read_group("nnhhi");
         else if (*kinds == 'j') read_group("j");
         else arguments[argument_count++] = read_argument(&line_words, *kinds);
@@ -324,7 +344,7 @@ static void read_arguments(const char *kinds) {
 // What must be given back: all of an accepted call, the record of a refused job.
 static void read_wanted(Argument *a, uint8_t refused) {
     if (!is_written(a->kind) || (refused && a->kind != 'A')) return;
-    if (is_one_of(a->kind, "RveU")) a->count = a->length, a->wanted = read_words(&line_words, a->count);
+    if (is_one_of(a->kind, "RveUV")) a->count = a->length, a->wanted = read_words(&line_words, a->count);
     else a->wanted = read_slice(&line_words, a->kind, &a->count);
     if (a->length < a->count) give_up("more is given back than there is room for");
 }
@@ -377,7 +397,7 @@ static int same_double(char kind, uint64_t got, uint64_t wanted) {
 }
 
 static int holds_double(char kind, size_t at) {
-    return is_one_of(kind, "DFe") || (kind == 'R' && (at == 3 || (5 <= at && at <= 7))) || (kind == 'U' && (at == 4 || at == 5));
+    return is_one_of(kind, "DFe") || (kind == 'R' && (at == 3 || (5 <= at && at <= 7))) || (is_one_of(kind, "UV") && (at == 4 || at == 5));
 }
 
 // Whether the eight bytes from here are a double of the answer record, zero in both.
@@ -505,7 +525,7 @@ static int with_a_word_short(const Call *call) {
     memcpy(kept, arguments, sizeof kept);
     for (size_t k = 0; k < argument_count; k++) arguments[k].count = 0;
     for (size_t k = 0; k < argument_count; k++) {
-        if (!is_one_of(arguments[k].kind, "RrSU")) continue;
+        if (!is_one_of(arguments[k].kind, "RrSUV")) continue;
         bad |= tried(call, A_WORD_SHORT, 31, k);
         free_memory();
     }
@@ -571,7 +591,7 @@ static int begins(const char *line, const char *name) { return !strncmp(line, na
 
 // Passes over a line that is too long, or that goes on with one that was: by its table or job, or by the run.
 static int passed_over(const char *line, size_t longest) {
-    int leans = strstr(line, " ~ ") != 0, of_run = begins(line, "sweep ") || begins(line, "finish ");
+    int leans = strstr(line, " ~ ") != 0, of_run = begins(line, "sweep ") || begins(line, "finish");
     int passed = longest < line_length || (lost && leans) || (lost_run && of_run);
     if (passed && !leans) lost = 1;
     if (begins(line, "open ") || begins(line, "run ")) lost_run = passed;

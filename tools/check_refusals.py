@@ -21,7 +21,7 @@ import sys
 
 TOP = sys.argv[1] if len(sys.argv) > 1 else os.path.join(os.path.dirname(os.path.abspath(__file__)), "..")
 # These must be among the calls that are found.
-KNOWN = {"open", "sweep_run", "sweep", "finish", "dual_variables", "lift_solution"}
+KNOWN = {"open", "sweep_run", "sweep", "finish", "finish_ranged", "dual_variables", "lift_solution"}
 TAMPERED = ["{0}[0] = {0}[0];", "clear(&mut *{0});", "clear(&mut {0}[..1]);", "let other = {0};", "clear({0});"]
 LENT = "&mut [f64]"
 

@@ -129,7 +129,11 @@ def run(answer, hall):
 
 def cost_of(hall, choice):
     """In eighths, as all costs of an answer are."""
-    return 4 * sum(v * choice[i] * choice[k] for (i, k), v in hall.pairs.items()) + 8 * sum(c * b for c, b in zip(hall.costs, choice))
+    return cost_by(hall.pairs, hall.costs, choice)
+
+
+def cost_by(pairs, costs, choice):
+    return 4 * sum(v * choice[i] * choice[k] for (i, k), v in pairs.items()) + 8 * sum(c * b for c, b in zip(costs, choice))
 
 
 def changes(hall, choice):

@@ -5,6 +5,7 @@ import os
 from .answer import read_answer, refuse
 from .picture import plan
 from .program import answered, emit, write_files
+from .ranges import with_ranges
 from .rows import with_rows
 from .say import as_json, words
 from .text import Wrong
@@ -54,6 +55,7 @@ def solve(job, hall_of_job, given):
     refuse(record)
     hall = hall_of_job(job)
     answer = read_answer(record, hall)
+    answer = with_ranges(job, hall, answer)
     if given.rows:
         answer = with_rows(job, hall, answer)
     files = [(given.answer, record), (given.plan, FORMS["plan"](hall, answer)), (given.json, FORMS["json"](hall, answer))]

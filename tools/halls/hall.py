@@ -4,7 +4,7 @@ import os
 
 from .answer import STORES
 from .table import read_table
-from .text import Refused, count, counted, real, shown, text_of, whole
+from .text import Refused, count, counted, ends, real, shown, text_of
 
 RULES = ["Grad", "GradAdv", "Coord", "CoordNoStep", "CoordMomentum"]
 COUNTING = [3, 4]  # the rules whose sweeps count the rows that they leave standing
@@ -19,6 +19,7 @@ class Hall:
     def __init__(self, path):
         self.path, self.title = path, shown(os.path.splitext(os.path.basename(path))[0])
         self.names, self.costs, self.pairs, self.magnitude = [], [], {}, 0
+        self.ranged, self.low_costs, self.low_pairs = False, [], {}  # the low ends; costs and pairs are the high ones, which a job has (02, Note 8)
         self.rows, self.retractable, self.pins = {}, set(), {}  # pins: the store of each wagon that may not move
         self.present, self.blocks = {}, {}  # the store that each wagon stands in now; a block's wagons by its name
         self.rank, self.rule, self.number, self.most, self.minimum, self.tolerances, self.width = 0, 3, 0.0, 200, 0, (0.0, 1e-6), 128
@@ -31,22 +32,26 @@ class Hall:
         self.new_name(name, self.places, "wagon")
         if len(self.names) == WAGONS:
             raise Refused(f"wagon {shown(name)} is number {WAGONS + 1}; a hall has at most {WAGONS} wagons")
-        value = whole(cost)
-        self.weigh(2 * abs(value), f"the cost {shown(cost)} of {shown(name)}")
+        low, high = ends(cost)
+        self.weigh(2 * max(abs(low), abs(high)), f"the cost {shown(cost)} of {shown(name)}")
         self.places[name] = len(self.names)
         self.names.append(name)
-        self.costs.append(value)
+        self.costs.append(high)
+        self.low_costs.append(low)
+        self.ranged |= ".." in cost
 
     def pair(self, one, other, cost):
-        i, k, value = self.place(one), self.place(other), whole(cost)
+        i, k, (low, high) = self.place(one), self.place(other), ends(cost)
         if (i, k) in self.pairs:
             raise Refused(f"the pair {shown(one)} {shown(other)} has a cost already")
         entries = len(self.pairs) + (1 if i == k else 2)
         if entries > ENTRIES:
             limit = f"it has at most {ENTRIES:,}, which is {ENTRIES // 2:,} pairs of two wagons"
             raise Refused(f"with the pair {shown(one)} {shown(other)} the table has {entries:,} entries; {limit}")
-        self.weigh((1 if i == k else 2) * abs(value), f"the cost {shown(cost)} of the pair {shown(one)} {shown(other)}")
-        self.pairs[i, k] = self.pairs[k, i] = value
+        self.weigh((1 if i == k else 2) * max(abs(low), abs(high)), f"the cost {shown(cost)} of the pair {shown(one)} {shown(other)}")
+        self.pairs[i, k] = self.pairs[k, i] = high
+        self.low_pairs[i, k] = self.low_pairs[k, i] = low
+        self.ranged |= ".." in cost
 
     def table(self, name):
         path = os.path.join(os.path.dirname(self.path), name)
@@ -208,6 +213,8 @@ def read_hall(path):
         (read_table if path.lower().endswith(".csv") else read_lines)(path, hall)
     except Refused as refused:
         raise Refused(f"{refused}.") from None
+    if hall.ranged and hall.pins:
+        raise hall.wrong("pin", "a hall with costs written as ranges has no pins; the library's finish over ranges takes none")
     return hall
 
 

@@ -6,7 +6,7 @@ from html import escape
 from unicodedata import east_asian_width
 
 from .answer import STORES, eighths
-from .say import listed, pinned, promises, stores
+from .say import between, listed, pinned, promises, stores
 from .text import counted
 
 MARGIN, TOP, FOOT = 10.0, 38.0, 46.0
@@ -112,7 +112,7 @@ def told(hall, answer):
     rows = [f"Row {row}: {listed(hall, members)}." for row, members in hall.rows.items()]
     retractable = [f"Retractable, in red: {listed(hall, sorted(hall.retractable))}."] if hall.retractable else []
     still = [f"Pinned, with a lock, may not move: {pinned(hall)}."] if hall.pins else []
-    return " ".join([*sides, *retractable, *still, *rows, f"Cost {eighths(answer['cost'])}.", *promises(hall, answer)])
+    return " ".join([*sides, *retractable, *still, *rows, f"Cost {between(answer)}.", *promises(hall, answer)])
 
 
 def heads(hall, answer, found):
@@ -172,6 +172,8 @@ def foot(hall, answer, found):
     """The figures, what is promised, and what red and a lock mean."""
     y, width = found.page[1] - FOOT + 10, found.page[0] - 2 * MARGIN
     figures = f"Cost {eighths(answer['cost'])}     Floor {eighths(answer['floor'])}"
+    if "low" in answer:
+        figures = f"Cost from {eighths(answer['low'])} to {eighths(answer['high'])}     Floor {eighths(answer['low_floor'])}"
     legends = LEGEND * (bool(hall.retractable) + bool(hall.pins))
     yield text(MARGIN, y, fitted(7.5, figures, width - max(40, legends + 6)), figures, more=f'{BOLD} xml:space="preserve"')
     promised = promises(hall, answer)

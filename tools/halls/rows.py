@@ -21,10 +21,9 @@ def with_rows(job, hall, answer):
     return {**answer, "standing": made["standing"] if hall.rule in COUNTING else None}
 
 
-def built(folder, name="rows"):
+def built(folder, name="rows", what="Rows are counted"):
     """The program of rows.c, or of blocks.c; built for each use, so that it is never an older archive's."""
     archive = os.environ.get("WAGONPLAN_ARCHIVE") or os.path.join(TOP, "target", "libwagonplan.a")
-    what = {"rows": "Rows are counted", "blocks": "Blocks are cleared"}[name]
     if not os.path.exists(archive):
         raise Wrong(f"{what} by the archive {archive}, which isn't there. tools/archive.sh proves and builds it; WAGONPLAN_ARCHIVE may name another.")
     program, source = os.path.join(folder, name), os.path.join(TOP, "tools", "halls", f"{name}.c")
@@ -33,9 +32,10 @@ def built(folder, name="rows"):
     return program
 
 
-def made_again(program, job):
-    """The run of a job, by name as rows.c writes it."""
-    said = output([program], free_job(job), "gcc built it just now.").decode()
+def made_again(program, job, low_ends=None):
+    """The run of a job, by name as rows.c writes it; with the low ends of its costs, finished over ranges."""
+    given, ranges = (free_job(job), []) if low_ends is None else (job + low_ends, ["--ranges"])
+    said = output([program, *ranges], given, "gcc built it just now.").decode()
     return {name: value_of(name, text) for name, _, text in (line.partition("=") for line in said.splitlines())}
 
 

@@ -15,8 +15,8 @@ def words(hall, answer):
         yield f"Retractable: {listed(hall, sorted(hall.retractable))}."
     if hall.pins:
         yield f"Pinned, may not move: {pinned(hall)}."
-    yield " ".join([f"This costs {eighths(answer['cost'])}.", *promises(hall, answer)])
-    yield f"The search started from a cost of {eighths(answer['rounded'])} and took {counted(answer['rounds'], 'round')}."
+    yield " ".join([f"This costs {between(answer)}.", *promises(hall, answer)])
+    yield f"The search started from a cost of {eighths(answer['rounded'])}{' by the high costs' if 'low' in answer else ''} and took {counted(answer['rounds'], 'round')}."
     floats, own = f"Relaxed objective {answer['relaxed']:.6g}, float bound {answer['bound']:.6g}", pinned_cost(hall)
     without = f"; both are without the pinned wagons' own cost, {eighths(own)}" if own else ""
     yield f"Sweeps: {answer['sweeps']} at rank {answer['rank']}; {STATUSES[answer['status']]}. {floats}{without}."
@@ -35,6 +35,13 @@ def rows_left(hall, answer):
     many = f"none of {total:,}" if left == 0 else f"all {left:,}" if left == total else f"{left:,} of {total:,}"
     swept = f"{counted(answer['sweeps'], 'sweep')} of {counted(size, 'row')} (one for each {'free ' if hall.pins else ''}wagon, one for the anchor)"
     return f"Rows left standing: {many}, in {swept}{'; nothing measurable pulled there' if left else ''}."
+
+
+def between(answer):
+    """What the plan costs; where costs are ranges, whatever they turn out to be."""
+    if "low" not in answer:
+        return eighths(answer["cost"])
+    return f"at least {eighths(answer['low'])} and at most {eighths(answer['high'])}, whatever the costs within their ranges turn out to be"
 
 
 def listed(hall, wagons):
@@ -66,6 +73,9 @@ def moves(hall, answer, after, next_answer):
 def promises(hall, answer):
     """What holds of this choice beside its cost, a sentence for each; where wagons are pinned, of choices that keep the pins."""
     choice, wagon, them = ("No choice that keeps the pins", "free wagon", "all free ones") if hall.pins else ("No choice at all", "wagon", "all of them")
+    if "low" in answer:
+        search = "The search was off (width 0)." if hall.width == 0 else "By the high costs no single wagon moved to the other store makes it cheaper, nor all of them at once."
+        return [f"{choice} costs less than {eighths(answer['low_floor'])}, the floor of the low costs.", search]
     if answer["cost"] == answer["floor"]:
         return [f"{choice} costs less."]
     floor = f"{choice} costs less than {eighths(answer['floor'])}, the floor."
@@ -95,6 +105,8 @@ def as_json(hall, answer):
         "pinned": {hall.names[i]: STORES[store] for i, store in sorted(hall.pins.items())},
         "pinned_cost": pinned_cost(hall) / 8,
     }
+    if "low" in answer:
+        fields.update({name: answer[key] / 8 for name, key in (("cost_at_least", "low"), ("cost_at_most", "high"), ("low_floor", "low_floor"))})
     if "standing" in answer:
         fields["rows_standing"] = answer["standing"]
     return json.dumps(fields, indent=2, ensure_ascii=False, allow_nan=False) + "\n"

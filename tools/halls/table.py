@@ -2,7 +2,7 @@
 import csv
 import io
 
-from .text import Refused, shown, text_of, whole
+from .text import Refused, ends, shown, text_of
 
 
 def read_table(path, hall):
@@ -19,12 +19,12 @@ def read_table(path, hall):
 def add_pair(path, hall, rows, i, k, names):
     """The cell above the diagonal and the one below, which must hold the same; a cost of 0 is no entry."""
     cell, mirror = rows[i + 1][k + 1] or "0", rows[k + 1][i + 1] or "0"
-    value, other = (with_place(path, r + 1, c + 1, whole, text) for r, c, text in ((i, k, cell), (k, i, mirror)))
+    value, other = (with_place(path, r + 1, c + 1, ends, text) for r, c, text in ((i, k, cell), (k, i, mirror)))
     if value != other:
         below = f"cell {cell_name(k + 1, i + 1)} ({names[1]} with {names[0]}) is {shown(mirror)}"
         above = f"cell {cell_name(i + 1, k + 1)} ({names[0]} with {names[1]}) is {shown(cell)}"
         raise Refused(f"{path}, {below}, and {above}: they must be the same")
-    if value:
+    if any(value):
         with_place(path, i + 1, k + 1, hall.pair, *names, cell)
 
 

@@ -34,6 +34,19 @@ def whole(text):
         raise Refused(f"{shown(text)} is not a whole number") from None
 
 
+def ends(text):
+    """A cost's low and high end: `3..7`, or a whole number, which is both."""
+    if ".." not in text:
+        return whole(text), whole(text)
+    try:
+        low, high = map(int, text.split(".."))
+    except ValueError:
+        raise Refused(f"{shown(text)} is no range of two whole numbers, as 3..7 is") from None
+    if low > high:
+        raise Refused(f"the range {shown(text)} has its low end above its high end")
+    return low, high
+
+
 def count(what, text, least, most):
     value = whole(text)
     if not least <= value <= most:

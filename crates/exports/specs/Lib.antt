@@ -1,4 +1,5 @@
 pub mod Words
 pub mod Answers
+pub mod RangedWords
 pub mod Sizes
 pub mod WordChain

@@ -5,6 +5,7 @@ pub mod choices; // choices.rt: the calls on choices in words
 pub mod factors; // factors.rt: the calls on a sign table and a factor
 pub mod numbers; // numbers.rt: root, eighths, bits, default rank; version and sizes
 pub mod pair; // pair.rt: the reduced pair
+pub mod ranged; // ranged.rt: the ranged finish
 pub mod record; // record.rt: the record call
 pub mod run; // run.rt: open, sweep, finish
 pub mod search; // search.rt: the search

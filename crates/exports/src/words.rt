@@ -141,7 +141,7 @@ fn words_of(run: Run) -> [u64; RUN_WORDS]
 }
 
 // The words of a result.
-fn result_words(x: FinishResult) -> [u64; RESULT_WORDS]
+pub fn result_words(x: FinishResult) -> [u64; RESULT_WORDS]
     ensures { λ r. ⌜ r ≡ resultWordsOf x ⌝ }
 {
     [
@@ -160,7 +160,7 @@ fn result_words(x: FinishResult) -> [u64; RESULT_WORDS]
 }
 
 // Writes words over the front of a slice.
-fn put_words(to: &mut [u64], from: &[u64])
+pub fn put_words(to: &mut [u64], from: &[u64])
     requires { ⌜ length (now from) ≤ length (now to) ⌝ }
     ensures { λ _. ⌜ now (to .exit) ≡ over (now (from .entry)) (now (to .entry)) ⌝ }
 {

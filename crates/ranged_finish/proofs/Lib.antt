@@ -1,0 +1,5 @@
+pub mod Mono
+pub mod Halls
+pub mod Deciding
+pub mod Ranging
+pub mod Theorems
