@@ -35,7 +35,7 @@ extern "C" {
 // ---- sizes --------------------------------------------------------------------------------------
 
 enum {
-    WAGONPLAN_VERSION = 7, // of these declarations; `wagonplan_version` answers the archive's
+    WAGONPLAN_VERSION = 8, // of these declarations; `wagonplan_version` answers the archive's
 
     WAGONPLAN_JOB_MOST = 65536,         // bytes of a job record
     WAGONPLAN_WAGONS_MOST = 255,        // n; 127 in jobs of version 1 or 2
@@ -52,6 +52,7 @@ enum {
     WAGONPLAN_ANSWER = 315,             // bytes of answer slice to lend, at least: a record of 255 wagons
     WAGONPLAN_REFUSAL = 6,              // bytes of a refusal: 00 00 00 02 01 and the number
     WAGONPLAN_REDUCED_MOST = 1024,      // original size of a reduced problem
+    WAGONPLAN_WALKED_MOST = 16,         // n of a house that is walked in full
     WAGONPLAN_SIGN_WORDS = 4,           // words of a choice of signs, at most (wagonplan_sign_words)
     WAGONPLAN_BLOCKS_MOST = 16,         // blocks of one call
     WAGONPLAN_RUN_WORDS = 13,           // words of a run record, of settings and of a result, as the raw functions take them
@@ -167,7 +168,7 @@ typedef struct {
     uint64_t n;
     uint64_t sweeps;
     double relaxed_objective;
-    double float_bound;
+    double float_bound;   // finite, and no choice costs less
     int64_t floor;        // no choice costs less
     int64_t rounded_cost; // of the choice that the search started from
     int64_t cost;         // of the choice in b
@@ -222,6 +223,8 @@ uint8_t wagonplan_raw_entrywise_lower_bound(size_t m, size_t count, const uint16
                                             double *value);
 uint8_t wagonplan_raw_eval_qubo_objective(size_t n, size_t count, const uint16_t *rows, size_t, const uint16_t *cols, size_t, const int64_t *values, size_t,
                                           const int64_t *c, size_t, const uint8_t *b, size_t, int64_t *value);
+uint8_t wagonplan_raw_least_choice(size_t n, size_t count, const uint16_t *rows, size_t, const uint16_t *cols, size_t, const int64_t *values, size_t,
+                                   const int64_t *c, size_t, uint8_t *b, size_t, int64_t *cost, uint64_t *visited);
 uint8_t wagonplan_raw_qubo_sign_table(size_t n, size_t count, const uint16_t *rows, size_t, const uint16_t *cols, size_t, const int64_t *values, size_t,
                                       const int64_t *c, size_t, uint16_t *to_rows, size_t, uint16_t *to_cols, size_t, int64_t *to_values, size_t,
                                       size_t *entries);
@@ -312,7 +315,7 @@ enum {
     WAGONPLAN_AT_WAGONS = 7,        // 1: n
     WAGONPLAN_AT_SWEEPS = 8,        // 4: sweeps made
     WAGONPLAN_AT_RELAXED = 12,      // 8: relaxed objective, a double
-    WAGONPLAN_AT_BOUND = 20,        // 8: float bound, a double
+    WAGONPLAN_AT_BOUND = 20,        // 8: float bound, a double: finite, and no choice of the free wagons costs less by the run's table
     WAGONPLAN_AT_FLOOR = 28,        // 8, signed eighths: no choice that keeps the pins costs less
     WAGONPLAN_AT_ROUNDED_COST = 36, // 8, signed eighths: cost of the choice that the search started from
     WAGONPLAN_AT_COST = 44,         // 8, signed eighths: cost of the choice below
@@ -433,7 +436,7 @@ static inline uint8_t wagonplan_floor_eighths(const wagonplan_sign_table *t, int
                                                              value));
 }
 
-// The floor as a double, less a margin.
+// The floor as a double, less a margin: finite, and no objective is less.
 static inline uint8_t wagonplan_entrywise_lower_bound(const wagonplan_sign_table *t, double *value) {
     unsigned mode = wagonplan_enter();
     return wagonplan_leave(mode, wagonplan_raw_entrywise_lower_bound(t->m, t->count, t->rows.at, t->rows.len, t->cols.at, t->cols.len, t->values.at,
@@ -445,6 +448,15 @@ static inline uint8_t wagonplan_eval_qubo_objective(const wagonplan_table *t, wa
     unsigned mode = wagonplan_enter();
     return wagonplan_leave(mode, wagonplan_raw_eval_qubo_objective(t->n, t->count, t->rows.at, t->rows.len, t->cols.at, t->cols.len, t->values.at,
                                                                    t->values.len, t->c.at, t->c.len, b.at, b.len, value));
+}
+
+// The choice of least cost: all 2^n are walked, choice k with the binary digit i of k at wagon i, and the first of least cost goes to the first n bytes of b,
+// with its cost in eighths and how many choices were visited. No choice costs less, and each before it costs more. 24 where n is above WAGONPLAN_WALKED_MOST;
+// then neither c nor b is asked for n places, and 16 counts a c that isn't there as 0.
+static inline uint8_t wagonplan_least_choice(const wagonplan_table *t, wagonplan_u8_mut b, int64_t *cost, uint64_t *visited) {
+    unsigned mode = wagonplan_enter();
+    return wagonplan_leave(mode, wagonplan_raw_least_choice(t->n, t->count, t->rows.at, t->rows.len, t->cols.at, t->cols.len, t->values.at, t->values.len,
+                                                            t->c.at, t->c.len, b.at, b.len, cost, visited));
 }
 
 // The sign table of (H, c), whose objective is the cost: count + 3n + 1 entries of room; how many there are goes to `entries`.
@@ -569,6 +581,7 @@ static inline const char *wagonplan_sentence(uint8_t number) {
     case 21: return "A pinned wagon is out of range or pinned twice, or its store is above 1.";
     case 22: return "A byte of the present choice is above 1, there are more than 16 blocks, or a wagon is out of range or twice within a block.";
     case 23: return "The low end of a range is above its high end.";
+    case 24: return "There are more than 16 wagons, too many to walk every choice.";
     case 31: return "A lent slice is too short.";
     case 32: return "The stage is wrong: a sweep when stopped, or a finish before.";
     case 33: return "The run record contradicts itself or the table.";

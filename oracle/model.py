@@ -221,6 +221,40 @@ def tables_within(entries, low_c, high_c):
         yield [(i, j, h[i, j]) for i, j in sorted(h)], list(values[len(places) :])
 
 
+# ---- small houses in full (02, Note 9) ----------------------------------------------------------
+
+MOST_WALKED = 16
+
+
+def least_choice(n, entries, c):
+    """All 2^n choices, wagon 0 the lowest binary digit: the first of least cost, its cost, and how many were visited."""
+    best, least, visited = None, None, 0
+    for k in range(2**n):
+        b = [k // 2**i % 2 for i in range(n)]
+        this = cost(entries, c, b)
+        visited += 1
+        if best is None or this < least:
+            best, least = b, this
+    return best, least, visited
+
+
+def walk_number(n, count, rows, cols, values, c, lent):
+    """31, where the table's slices rest on the count, c and the choice's on n; 13 to 16, a c that isn't there counting 0; 24."""
+    many, bad_count = n > MOST_WALKED, count > 4096
+    short = lambda: not bad_count and min(map(len, (rows, cols, values))) < count or not many and min(len(c), lent) < n
+    entries = lambda: list(zip(rows, cols, values))[:count]
+    return first((31, short), (13, lambda: n > MOST_WAGONS or bad_count), (14, lambda: n14(n, entries())), (15, lambda: n15(entries())),
+                 (16, lambda: n16(entries(), c[:n])), (24, lambda: many))
+
+
+def at_most_eighths(x, v):
+    """Whether a double is finite and at most v / 8, in whole numbers."""
+    if math.isnan(x) or math.isinf(x):
+        return False
+    above, below = x.as_integer_ratio()
+    return 8 * above <= v * below
+
+
 # ---- floats over tables ---------------------------------------------------------------------
 
 

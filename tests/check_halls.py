@@ -15,7 +15,7 @@ import xml.etree.ElementTree
 
 sys.dont_write_bytecode = True
 sys.path.insert(0, os.path.join(os.path.dirname(os.path.dirname(os.path.abspath(__file__))), "tools"))
-from halls import answer, hall, picture, program, record, rows, say  # noqa: E402
+from halls import answer, exact, hall, picture, program, record, rows, say  # noqa: E402
 from halls.text import Refused, Wrong  # noqa: E402
 
 TOP = answer.TOP
@@ -402,6 +402,68 @@ class Pins(Case):
         at = 8 + 10 * len(self.repairs.pairs) + 8 * len(self.repairs.names)
         for place, byte in ((1, 10), (1, 255), (2, 2), (3, 3), (4, 200)):
             self.ends(run("plan", "-", given=changed(job, at + place, bytes([byte]))), 1, f"The job was refused by 21: {answer.sentence_of(21)}")
+
+
+class Exact(Case):
+    """The least cost of a small hall, walked by the library's call, beside the search's answer."""
+
+    UNSEARCHED = "wagon front -1\nwagon back -1\npair front back 3\nwidth 0\nsweeps 0\n"
+    PLAIN, HELD = UNSEARCHED + "start signs + + +\ndraw 1 0 0\n", UNSEARCHED + "pin front left\nstart signs + +\ndraw 1 0\n"
+
+    def last(self, *words):
+        done = run(*words, "--exact")
+        self.ends(done, 0)
+        return done.stdout.decode().splitlines()[-1]
+
+    def test_said(self):
+        """A search of width 0 misses the least; that of the same hall doesn't."""
+        for text, sentence in (
+            (self.PLAIN, "Every choice was walked, 4 in all. The least costs -1, 1 less than this plan, left store: back; right store: front."),
+            (self.PLAIN.replace("width 0", "width 1"), "Every choice was walked, 4 in all. None costs less than this plan."),
+            (self.HELD, "Every choice that keeps the pins was walked, 2 in all. The least costs -1, 1 less than this plan, left store: front; right store: back."),
+            ("", "Every choice was walked, 1 in all. None costs less than this plan."),
+        ):
+            path = self.file("hall.txt", text)
+            self.assertEqual(self.last("hall", "solve", path), sentence)
+            self.assertEqual(self.last("plan", path), sentence)
+
+    def test_json(self):
+        written = os.path.join(self.folder, "json")
+        self.ends(run("plan", self.file("hall.txt", self.PLAIN), "--exact", "--json", written), 0)
+        found = json.loads(contents(written))
+        self.assertEqual(found["least"], {"choice": {"front": "right", "back": "left"}, "cost": -1.0, "walked": 4})
+        self.assertEqual((found["choice"]["front"], found["cost"]), ("left", 0.0))
+        self.ends(run("plan", self.file("hall.txt", self.PLAIN), "--json", written), 0)
+        self.assertNotIn("least", json.loads(contents(written)))
+
+    def test_every_choice(self):
+        """Against all choices of small random halls, with and without pins, worked out here."""
+        command, made = program.built(self.folder, "exact", ""), random.Random("exact")
+        for _ in range(40):
+            wagons = made.randint(0, 6)
+            lines = [f"wagon w{i} {made.randint(-9, 9)}\n" for i in range(wagons)]
+            lines += [f"pair w{i} w{k} {made.randint(-9, 9)}\n" for i in range(wagons) for k in range(i, wagons) if made.random() < 0.7]
+            lines += [f"pin w{i} {made.choice(answer.STORES)}\n" for i in range(wagons) if made.random() < 0.2]
+            this = hall.read_hall(self.file("hall.txt", "".join(lines)))
+            keeping = [b for k in range(2**wagons) for b in [[k >> i & 1 for i in range(wagons)]] if all(b[i] == store for i, store in this.pins.items())]
+            least = min(keeping, key=lambda b: answer.cost_of(this, b))  # the first of them
+            self.assertEqual(exact.walked(command, this), {"cost": answer.cost_of(this, least), "visited": len(keeping), "choice": least})
+
+    def test_too_many(self):
+        """17 wagons that may move are too many, 16 are not."""
+        self.ends(run("plan", self.file("hall.txt", many(17)), "--exact"), 1, "every choice is walked where at most 16 wagons may move, and here 17 may.")
+        self.assertIn("65,536 in all. None costs less", self.last("plan", self.file("hall.txt", many(17, "pin w16 right\n"))))
+
+    def test_answers_that_contradict(self):
+        this = hall.read_hall(self.file("hall.txt", self.PLAIN))
+        found = {"cost": -8, "visited": 4, "choice": [1, 0]}
+        for fields, sentence in (({"cost": -16, "floor": -20}, "its cost -2 is below -1, the least of all choices"), ({"cost": 0, "floor": -4}, "its floor -0.5 is above -1, the least of all choices")):
+            self.assertEqual(list(exact.unlike(found, fields, this)), [sentence])
+        self.assertIn("is said to cost -2, and by the hall's own costs it costs -1", next(exact.unlike({**found, "cost": -16}, {"cost": 0, "floor": -20}, this)))
+
+    def test_nothing_to_walk_with(self):
+        absent = os.path.join(self.folder, "absent")
+        self.ends(run("plan", DOORWAY, "--exact", WAGONPLAN_ARCHIVE=absent), 2, f"Every choice is walked by the archive {absent}, which isn't there.")
 
 
 class Rows(Case):

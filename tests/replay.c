@@ -1,7 +1,8 @@
 // Makes the stored calls of lists (docs/REPLAY.md) and compares all that they give back: replay [--short BYTES] [--stack] [LIST]...
 //
 // Each line is called several times, on fresh memory that is filled with NaNs of many patterns and with other numbers: as it is stored, in blocks of just that
-// size (a slice of length 0 is null); between guards, in four other floating-point modes; with every slice longer; and, where run, settings or result are words, with
+// size (a slice of length 0 is null); between guards, in four other floating-point modes; with every slice longer (not where 31 or 24 is answered, which say what
+// a longer one would change); and, where run, settings or result are words, with
 // each of them a word too short. With --short lines of more bytes, and those that go on with them, are passed over; with --stack each line is called once, on a
 // painted stack, and the most that each call took is printed and held to the header's. The exit status is 0 where nothing differs.
 #include <pthread.h>
@@ -160,6 +161,10 @@ static uint8_t eval_qubo_objective(Argument *a) {
     wagonplan_table t = table(a);
     return wagonplan_eval_qubo_objective(&t, u8(a + 6), place(a + 7));
 }
+static uint8_t least_choice(Argument *a) {
+    wagonplan_table t = table(a);
+    return wagonplan_least_choice(&t, u8_mut(a + 6), place(a + 7), place(a + 8));
+}
 static uint8_t qubo_sign_table(Argument *a) {
     wagonplan_table t = table(a);
     return wagonplan_qubo_sign_table(&t, entries(a + 6), place(a + 9));
@@ -203,6 +208,7 @@ static const Call calls[] = {
     {"floor_eighths", "Qv", floor_eighths, 0},
     {"entrywise_lower_bound", "Qe", entrywise_lower_bound, 0},
     {"eval_qubo_objective", "Tbv", eval_qubo_objective, 0},
+    {"least_choice", "TBvv", least_choice, 0},
     {"qubo_sign_table", "THHIv", qubo_sign_table, 0},
     {"qubo_binary_from_sign_solution", "nbB", qubo_binary_from_sign_solution, 0},
     {"distance", "nccv", distance, 0},
@@ -537,7 +543,7 @@ static int replayed(const Call *call, uint8_t wanted) {
     int bad = 0;
     if (!on_stack) {
         for (odd_mode = 0; odd_mode < ODD_MODES; odd_mode++) bad |= tried(call, GUARDED, wanted, ARGUMENTS), free_memory();
-        if (wanted != 31) bad |= tried(call, LONGER, wanted, ARGUMENTS), free_memory();
+        if (wanted != 31 && wanted != 24) bad |= tried(call, LONGER, wanted, ARGUMENTS), free_memory();
         if (call->raw) bad |= with_a_word_short(call);
     }
     bad |= tried(call, AS_STORED, wanted, ARGUMENTS);

@@ -2,8 +2,7 @@
 import tempfile
 
 from .answer import STORES, changes, cost_of, eighths, hold
-from .program import output
-from .rows import built
+from .program import built, output
 from .say import listed, stores
 from .text import Refused, counted
 
@@ -12,7 +11,7 @@ def cleared(hall):
     """What the call gives, by name: the choice, each block's fall, the costs before, after the blocks and in the end, in eighths."""
     ready(hall)
     with tempfile.TemporaryDirectory() as folder:
-        said = output([built(folder, "blocks", "Blocks are cleared")], given(hall), "gcc built it just now.").decode()
+        said = output([built(folder, "blocks", "Blocks are cleared by")], given(hall), "gcc built it just now.").decode()
     fields = dict(line.partition("=")[::2] for line in said.splitlines())
     found = {"choice": list(map(int, fields["choice"])), "falls": list(map(int, fields["falls"].split()))}
     found["before"], found["cost"] = cost_of(hall, first_choice(hall)), cost_of(hall, found["choice"])

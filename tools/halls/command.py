@@ -3,6 +3,7 @@ import argparse
 import os
 
 from .answer import read_answer, refuse
+from .exact import with_exact
 from .picture import plan
 from .program import answered, emit, write_files
 from .ranges import with_ranges
@@ -30,6 +31,7 @@ def with_files(parser):
     parser.add_argument("--answer", metavar="FILE", help="write the answer record")
     parser.add_argument("--plan", metavar="FILE", help="draw the plan as SVG, a page of A4")
     parser.add_argument("--json", metavar="FILE", help="write the answer as JSON")
+    parser.add_argument("--exact", action="store_true", help="say too what the least cost of all choices is, of at most 16 wagons that may move; walks them, by the archive and gcc")
     return with_rows_option(parser)
 
 
@@ -58,6 +60,8 @@ def solve(job, hall_of_job, given):
     answer = with_ranges(job, hall, answer)
     if given.rows:
         answer = with_rows(job, hall, answer)
+    if given.exact:
+        answer = with_exact(hall, answer)
     files = [(given.answer, record), (given.plan, FORMS["plan"](hall, answer)), (given.json, FORMS["json"](hall, answer))]
     try:
         write_files([(path, data) for path, data in files if path])

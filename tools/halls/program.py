@@ -27,6 +27,17 @@ def output(command, given, advice):
     return done.stdout
 
 
+def built(folder, name, what):
+    """The program of a C file beside this one, over the archive; built for each use, so that it is never an older archive's."""
+    archive = os.environ.get("WAGONPLAN_ARCHIVE") or os.path.join(TOP, "target", "libwagonplan.a")
+    if not os.path.exists(archive):
+        raise Wrong(f"{what} the archive {archive}, which isn't there. tools/archive.sh proves and builds it; WAGONPLAN_ARCHIVE may name another.")
+    program, source = os.path.join(folder, name), os.path.join(TOP, "tools", "halls", f"{name}.c")
+    flags = ["-std=c99", "-O2", "-Wall", "-Wextra", "-pedantic", "-Werror", "-I", os.path.join(TOP, "include")]
+    output(["gcc", *flags, "-o", program, source, archive], b"", f"{what} a small program that it builds.")
+    return program
+
+
 def write_files(files):
     """Each of (path, bytes); all are tried, and then the first that failed is the error."""
     failed = []

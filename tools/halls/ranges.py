@@ -4,7 +4,8 @@ import struct
 import tempfile
 
 from .answer import cost_by, eighths, floor_of, hold, sign_table
-from .rows import built, made_again, unlike
+from .program import built
+from .rows import made_again, unlike
 
 
 def with_ranges(job, hall, answer):
@@ -12,7 +13,7 @@ def with_ranges(job, hall, answer):
     if not hall.ranged:
         return answer
     with tempfile.TemporaryDirectory() as folder:
-        made = made_again(built(folder, what="Ranges are worked out"), job, low_ends(hall))
+        made = made_again(built(folder, "rows", "Ranges are worked out by"), job, low_ends(hall))
     hold(unlike(made, answer, hall))
     hold(miscounted(made, hall, answer["choice"]))
     return {**answer, **{name: made[name] for name in ("low", "high", "low_floor")}}

@@ -1,12 +1,10 @@
 """How many rows the sweeps left standing (02, Note 2). The answer record doesn't hold it: rows.c makes the run again by the library's calls."""
-import os
 import tempfile
 
-from .answer import TOP, eighths, hold, pinned_cost
+from . import program
+from .answer import eighths, hold, pinned_cost
 from .hall import COUNTING
-from .program import output
 from .record import free_job
-from .text import Wrong
 
 COSTS = ["floor", "rounded", "cost"]  # an answer's include the pinned wagons' own cost, those of the run don't
 DOUBLES = ["relaxed", "bound"]
@@ -21,21 +19,15 @@ def with_rows(job, hall, answer):
     return {**answer, "standing": made["standing"] if hall.rule in COUNTING else None}
 
 
-def built(folder, name="rows", what="Rows are counted"):
-    """The program of rows.c, or of blocks.c; built for each use, so that it is never an older archive's."""
-    archive = os.environ.get("WAGONPLAN_ARCHIVE") or os.path.join(TOP, "target", "libwagonplan.a")
-    if not os.path.exists(archive):
-        raise Wrong(f"{what} by the archive {archive}, which isn't there. tools/archive.sh proves and builds it; WAGONPLAN_ARCHIVE may name another.")
-    program, source = os.path.join(folder, name), os.path.join(TOP, "tools", "halls", f"{name}.c")
-    flags = ["-std=c99", "-O2", "-Wall", "-Wextra", "-pedantic", "-Werror", "-I", os.path.join(TOP, "include")]
-    output(["gcc", *flags, "-o", program, source, archive], b"", f"{what} by a small program that it builds.")
-    return program
+def built(folder):
+    """The program of rows.c."""
+    return program.built(folder, "rows", "Rows are counted by")
 
 
-def made_again(program, job, low_ends=None):
+def made_again(command, job, low_ends=None):
     """The run of a job, by name as rows.c writes it; with the low ends of its costs, finished over ranges."""
     given, ranges = (free_job(job), []) if low_ends is None else (job + low_ends, ["--ranges"])
-    said = output([program, *ranges], given, "gcc built it just now.").decode()
+    said = program.output([command, *ranges], given, "gcc built it just now.").decode()
     return {name: value_of(name, text) for name, _, text in (line.partition("=") for line in said.splitlines())}
 
 

@@ -22,6 +22,8 @@ def words(hall, answer):
     yield f"Sweeps: {answer['sweeps']} at rank {answer['rank']}; {STATUSES[answer['status']]}. {floats}{without}."
     if "standing" in answer:
         yield rows_left(hall, answer)
+    if "exact" in answer:
+        yield beside_least(hall, answer)
 
 
 def rows_left(hall, answer):
@@ -42,6 +44,16 @@ def between(answer):
     if "low" not in answer:
         return eighths(answer["cost"])
     return f"at least {eighths(answer['low'])} and at most {eighths(answer['high'])}, whatever the costs within their ranges turn out to be"
+
+
+def beside_least(hall, answer):
+    """The plan beside the first choice of least cost, once every choice is walked."""
+    found, fall = answer["exact"], answer["cost"] - answer["exact"]["cost"]
+    walked = f"Every choice{' that keeps the pins' if hall.pins else ''} was walked, {found['visited']:,} in all."
+    if fall == 0:
+        return f"{walked} None costs less than this plan."
+    sides = "; ".join(f"{side} store: {listed(hall, wagons)}" for side, wagons in zip(STORES, stores(hall, found)))
+    return f"{walked} The least costs {eighths(found['cost'])}, {eighths(fall)} less than this plan, {sides}."
 
 
 def listed(hall, wagons):
@@ -109,4 +121,7 @@ def as_json(hall, answer):
         fields.update({name: answer[key] / 8 for name, key in (("cost_at_least", "low"), ("cost_at_most", "high"), ("low_floor", "low_floor"))})
     if "standing" in answer:
         fields["rows_standing"] = answer["standing"]
+    if "exact" in answer:
+        found = answer["exact"]
+        fields["least"] = {"choice": {name: STORES[b] for name, b in zip(hall.names, found["choice"])}, "cost": found["cost"] / 8, "walked": found["visited"]}
     return json.dumps(fields, indent=2, ensure_ascii=False, allow_nan=False) + "\n"

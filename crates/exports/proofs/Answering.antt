@@ -1,11 +1,13 @@
 -- What a refused call answers, made of its number: a refusal is no value, so its number isn't 0. Assumes nothing.
 use Prim.Native.Nat.{ℕ, zero, suc}
-use mathlib.Core.Path.{_≡_, refl, sym, ap, subst}
+use mathlib.Core.Path.{_≡_, refl, sym, ap, _∙_, subst}
+use native.Mathlib.Omega.{arith}
 use mathlib.Core.Bool.{Bool, true, false}
 use mathlib.Core.List.{List}
 use lib.Dec.{T}
 use lib.IntN.{ℤ}
 use lib.Ieee.{Float}
+use lib.ListN.{length}
 use Rattle.table_calls.specs.declared.Eighths.{Eighths}
 use Rattle.table_calls.specs.declared.Eighths.the-variants as E
 use Rattle.table_calls.specs.declared.Bound.{Bound}
@@ -23,7 +25,10 @@ use Rattle.sdp_local_search.specs.Call.{BeamSearches}
 use Rattle.reduced.specs.declared.from_principal_submatrix.Reduced.{Reduced}
 use Rattle.reduced.specs.declared.from_principal_submatrix.Reduced.the-variants as R
 use Rattle.reduced.specs.Submatrix.{Slices, Reduces}
-use Rattle.exports.specs.Answers.{eighthsBy, boundBy, entriesBy, apartBy, searchedBy, reducedBy}
+use Rattle.exhaustive.specs.declared.Walked.{Walked}
+use Rattle.exhaustive.specs.declared.Walked.the-variants as W
+use Rattle.exhaustive.specs.Contract.{walkNumber, Walks}
+use Rattle.exports.specs.Answers.{eighthsBy, boundBy, entriesBy, apartBy, searchedBy, reducedBy, walkedBy}
 
 -- a value, or a refusal by a number above 0
 abbrev eighths-whole : Eighths → Bool
@@ -88,3 +93,20 @@ pub reduce-refused : {size count : ℕ} {from : Slices} {map fixed : List ℕ} {
     → Reduces size count from map fixed to (R.Refused k) to′ → Reduces size count from map fixed to (reducedBy k entries) to′
 reduce-refused zero entries e = absurd (subst T (sym (ap counted (e .accepted refl .0))) tt)
 reduce-refused (suc k) entries e = e
+
+-- 0 for a result
+abbrev walked-number : Walked → ℕ
+walked-number (W.Result x) = 0
+walked-number (W.Refused k) = suc k
+
+pub walk-refused : {n count : ℕ} {rows cols : List ℕ} {values c : List ℤ} {b b′ : List ℕ} (k : ℕ) (cost : ℤ) (visited : ℕ)
+    → Walks n count rows cols values c b (W.Refused k) b′ → Walks n count rows cols values c b (walkedBy k cost visited) b′
+walk-refused {n} {count} {rows} {cols} {values} {c} {b} {b′} zero cost visited w = absurd (go (walkNumber n count rows cols values c (length b)) refl)
+  where
+    go : (m : ℕ) → walkNumber n count rows cols values c (length b) ≡ m → ⊥
+    go zero e = let never : _≡_ {A = ℕ} 1 0 = ap walked-number (w .accepted e .1) in absurd (omega arith)
+    go (suc m) e =
+        let not-none : walkNumber n count rows cols values c (length b) ≡ 0 → ⊥ = λ z. let never : _≡_ {A = ℕ} (suc m) 0 = sym e ∙ z in absurd (omega arith) in
+        let same : _≡_ {A = ℕ} 1 (suc (walkNumber n count rows cols values c (length b))) = ap walked-number (w .refused not-none .0) in
+        absurd (omega (arith, e))
+walk-refused (suc k) cost visited w = w

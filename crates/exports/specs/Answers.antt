@@ -19,6 +19,9 @@ use Rattle.sdp_local_search.specs.declared.BeamSearched.{BeamSearched}
 use Rattle.sdp_local_search.specs.declared.BeamSearched.the-variants as S
 use Rattle.reduced.specs.declared.from_principal_submatrix.Reduced.{Reduced}
 use Rattle.reduced.specs.declared.from_principal_submatrix.Reduced.the-variants as R
+use Rattle.exhaustive.specs.declared.Least.{Least}
+use Rattle.exhaustive.specs.declared.Walked.{Walked}
+use Rattle.exhaustive.specs.declared.Walked.the-variants as W
 use Rattle.run_record.specs.declared.Run.{Run}
 use Rattle.run_record.specs.CostTable.{CostTable}
 use Rattle.run_contract.specs.declared.Opened.{Opened}
@@ -54,6 +57,10 @@ searchedBy (suc k) objective rounds = S.Refused (suc k)
 abbrev pub reducedBy : ℕ → ℕ → Reduced
 reducedBy zero count = R.Count count
 reducedBy (suc k) count = R.Refused (suc k)
+
+abbrev pub walkedBy : ℕ → ℤ → ℕ → Walked
+walkedBy zero cost visited = W.Result (record { cost = cost; visited = visited })
+walkedBy (suc k) cost visited = W.Refused (suc k)
 
 abbrev pub openedBy : ℕ → Run → Opened
 openedBy zero run = O.Started run

@@ -9,5 +9,6 @@ pub mod ranged; // ranged.rt: the ranged finish
 pub mod record; // record.rt: the record call
 pub mod run; // run.rt: open, sweep, finish
 pub mod search; // search.rt: the search
+pub mod small; // small.rt: small houses in full
 pub mod table; // table.rt: the calls on tables
 mod words; // words.rt: run record, settings and result as words

@@ -90,7 +90,7 @@ module _ {most capacity limit n : ℕ} {h : Table} {c : ℕ → ℤ} (hall : Hal
   lifted-cost b = reduce-cost n h c states b long symmetric
 
   -- a choice that keeps the held wagons costs what its free part costs, and the constant
-  part-cost : (b : List ℕ) → Keeps n states b → costOf f H′ c′ (freePart n states b) +ℤ K ≡ costOf n h c b
+  pub part-cost : (b : List ℕ) → Keeps n states b → costOf f H′ c′ (freePart n states b) +ℤ K ≡ costOf n h c b
   part-cost b keeps = lifted-cost (freePart n states b) ∙ sym (keeping-cost n h c states b long keeps)
 
   module _ {rank : ℕ} {factor draws : List Float} {drawCount width : ℕ} {b₀ : List ℕ} {floor rounded cost : ℤ} {rounds : ℕ}

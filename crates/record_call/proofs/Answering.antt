@@ -17,6 +17,7 @@ use Rattle.limits.specs.Limits.{mostWagons, leastAnswer}
 use Rattle.record_call.specs.Record.{jobFields, wholeChoice, bytesBy, answerOf, leastWorkspace, tooShort, callNumber, answerAfter}
 use Rattle.record_call.specs.Promise.{Answers}
 use Rattle.record_call.proofs.Freed.{job-hall}
+use Rattle.record_call.proofs.Bounds.{bound-promise}
 use Rattle.record_call.proofs.Promise.{accepted-bytes, n-is, choice-size, fields-read, choice-read, pins-promise, promise}
 
 -- ---- an accepted job
@@ -62,6 +63,7 @@ module _ (job workspace answer : List ℕ) where
         read = λ z. absurd (omega (arith, z));
         pinned = λ z. absurd (omega (arith, z));
         promised = λ z. absurd (omega (arith, z));
+        bounded = λ z. absurd (omega (arith, z));
       }
 
   -- a refusal
@@ -81,6 +83,7 @@ module _ (job workspace answer : List ℕ) where
         read = λ z. absurd (some z);
         pinned = λ z. absurd (some z);
         promised = λ z. absurd (some z);
+        bounded = λ z. absurd (some z);
       }
 
   -- an answer
@@ -105,4 +108,5 @@ module _ (job workspace answer : List ℕ) where
         read = λ _. (rw e (fields-read job is bytes answer), rw e (choice-read job is bytes answer));
         pinned = λ _ some. rw e (pins-promise job is bytes answer some);
         promised = λ _ none some. rw e (promise job is bytes answer none some);
+        bounded = λ _. rw e (bound-promise job is bytes answer);
       }

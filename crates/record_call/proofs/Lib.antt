@@ -4,6 +4,7 @@ pub mod Freed
 pub mod Accepted
 pub mod Figures
 pub mod Promise
+pub mod Bounds
 pub mod Decoding
 pub mod Answering
 pub mod Framed

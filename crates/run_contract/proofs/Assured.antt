@@ -1,5 +1,6 @@
 -- Demand 3 of every accepted finish of width 1 or more, from what the call promises alone, and its second sentence with no hypothesis but its
--- words: any choice that differs from b in one wagon i, and any that differs in all. Assumes nothing.
+-- words: any choice that differs from b in one wagon i, and any that differs in all. Of any width, the float bound below every cost (`finish-under`).
+-- Assumes nothing.
 use Prim.Native.Nat.{ℕ, _≤_, _<_}
 use mathlib.Core.Path.{_≡_, _∙_}
 use mathlib.Core.List.{List}
@@ -10,6 +11,7 @@ use Rattle.tables.specs.Cost.{choiceAt}
 use Rattle.run_record.specs.declared.Run.{Run}
 use Rattle.run_record.specs.CostTable.{CostTable, quadratic, linear}
 use Rattle.run_record.specs.Numbers.{finishNumber}
+use Rattle.float_bound.specs.Below.{AtMostEighths}
 use Rattle.finalize.specs.Finalize.{costOf}
 use Rattle.finalize.specs.Demand3.{Demand3}
 use Rattle.finalize.proofs.Demand3.{differ-one, differ-all}
@@ -27,6 +29,9 @@ module _ {run : Run} {t : CostTable} {width drawCount : ℕ} {draws factor : Lis
 
   pub finish-gives : answer ≡ F.Result result
   finish-gives = says .accepted (says .numbered ∙ ok) .0
+
+  pub finish-under : (b″ : List ℕ) → AtMostEighths (result .«float_bound») (costOf (t .n) (quadratic t) (linear t) b″)
+  finish-under b″ = says .bound-under result finish-gives b″
 
   module _ (some : 1 ≤ width) where
     pub finish-demand : Demand3 (t .n) (quadratic t) (linear t) (run .rank) (take (used run) factor) draws drawCount width b′

@@ -15,7 +15,8 @@ use Rattle.run_record.specs.CostTable.{CostTable, quadratic, linear}
 use Rattle.run_record.specs.Numbers.{sweepNumber, finishNumber}
 use Rattle.run_sweep.specs.Work.{callWork}
 use Rattle.run_sweep.specs.Sweep.{sweepsUpTo}
-use Rattle.finalize.specs.Finalize.{diagonalTotal}
+use Rattle.float_bound.specs.Below.{AtMostEighths}
+use Rattle.finalize.specs.Finalize.{costOf, diagonalTotal}
 use Rattle.finalize.specs.Contracts.{Finalizes}
 use Rattle.finalize.specs.Demand3.{Demand3}
 use Rattle.finalize.proofs.Demand3.{demand3}
@@ -26,6 +27,7 @@ use Rattle.run_contract.specs.Calls.{Sweeps, used, Finishes, finishLengt
 use Rattle.run_contract.specs.PlainRun.{FinishCall, Call, sweep, finish, Seen}
 use Rattle.run_contract.specs.Chain.{Lends, keptAfter, Sized, Chain, ends, sweeps, finishes}
 use Rattle.run_contract.proofs.Accepting.{HallOf, finish-accepted}
+use Rattle.run_contract.proofs.Bounded.{bounded}
 
 -- a slice of any length can be lent
 abbrev lentOf : List Float → ℕ → List Float
@@ -63,7 +65,7 @@ abbrev Kind : Finished → ℕ
 Kind (F.Result x) = 0
 Kind (F.Refused number) = 1
 
--- a finish has an outcome, which keeps demand 3
+-- a finish has an outcome, which keeps demand 3 and the float bound below every cost
 module _ (run : Run) (t : CostTable) (width drawCount : ℕ) (draws factor : List Float) (b : List ℕ) (dual : List Float) (workspace : List ℕ) where
   abbrev v : List Float
   v = take (used run) factor
@@ -94,6 +96,10 @@ module _ (run : Run) (t : CostTable) (width drawCount : ℕ) (draws factor : Lis
       } in
       demand3 hall (run .rank) v draws drawCount width w finalizes
 
+  keeps-under : HallOf t → (b″ : List ℕ) → AtMostEighths (result .«float_bound») (costOf (t .n) (quadratic t) (linear t) b″)
+  unfolding finishResult
+  keeps-under hall b″ = bounded hall b″
+
   finish-has : (m : ℕ) → finishNumber run t width drawCount (finishLengths draws factor b dual workspace) ≡ m
       → (answer : Finished) × (b′ : List ℕ) × (dual′ : List Float) × Finishes run t width drawCount draws factor b dual workspace answer b′ dual′ workspace
   finish-has zero e =
@@ -107,6 +113,7 @@ module _ (run : Run) (t : CostTable) (width drawCount : ℕ) (draws factor : Lis
           accepted = λ z. (refl, refl, refl);
           kept = refl;
           demand-3 = λ x is w. subst Kept (ap (resultOr result) is) (keeps-demand (good .hall) w);
+          bound-under = λ x is b″. subst (λ (x : FinishResult). AtMostEighths (x .«float_bound») (costOf (t .n) (quadratic t) (linear t) b″)) (ap (resultOr result) is) (keeps-under (good .hall) b″);
         },
       )
   finish-has (suc m) e = (
@@ -119,6 +126,7 @@ module _ (run : Run) (t : CostTable) (width drawCount : ℕ) (draws factor : Lis
       accepted = λ z. absurd (omega arith);
       kept = refl;
       demand-3 = λ x is w. let no : _≡_ {A = ℕ} 1 0 = ap Kind is in absurd (omega arith);
+      bound-under = λ x is b″. let no : _≡_ {A = ℕ} 1 0 = ap Kind is in absurd (omega arith);
     },
   )
 

@@ -1,4 +1,5 @@
 pub mod Accepting
+pub mod Bounded
 pub mod Allowed
 pub mod Assured
 pub mod Refused

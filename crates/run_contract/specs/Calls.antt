@@ -22,7 +22,8 @@ use Rattle.run_limits.specs.Start.{isSigns, drawsFollow}
 use Rattle.run_record.specs.Numbers.{openNumber, sweepNumber, FinishLengths, finishNumber}
 use Rattle.run_sweep.specs.Work.{signTableOf, callWork}
 use Rattle.run_sweep.specs.Sweep.{sweepsUpTo}
-use Rattle.finalize.specs.Finalize.{diagonalTotal, floatBound, floorEighths, roundedCost, searchedChoice, searchedCost, searchedRounds, multipliersOf}
+use Rattle.float_bound.specs.Below.{AtMostEighths}
+use Rattle.finalize.specs.Finalize.{costOf, diagonalTotal, floatBound, floorEighths, roundedCost, searchedChoice, searchedCost, searchedRounds, multipliersOf}
 use Rattle.finalize.specs.Demand3.{Demand3}
 use Rattle.run_contract.specs.declared.Opened.{Opened}
 use Rattle.run_contract.specs.declared.Opened.the-variants as O
@@ -174,3 +175,5 @@ pub record Finishes (run : Run) (t : CostTable) (width drawCount : ℕ) (draws f
   -- demand 3
   pub demand-3 : (x : FinishResult) → answer ≡ F.Result x → 1 ≤ width
       → Demand3 (t .n) (quadratic t) (linear t) (run .rank) (take (used run) factor) draws drawCount width b′ (x .floor) (x .«rounded_cost») (x .cost) (x .rounds)
+  -- the float bound, of any width: finite, and over whole numbers from its bits at most the cost of every choice (02, Note 9)
+  pub bound-under : (x : FinishResult) → answer ≡ F.Result x → (b″ : List ℕ) → AtMostEighths (x .«float_bound») (costOf (t .n) (quadratic t) (linear t) b″)

@@ -12,6 +12,8 @@ use Rattle.limits.specs.Limits.{searchWorkspace}
 use Rattle.run_record.specs.declared.Run.{Run}
 use Rattle.run_record.specs.CostTable.{CostTable, quadratic, linear}
 use Rattle.run_record.specs.Numbers.{finishNumber}
+use Rattle.float_bound.specs.Below.{AtMostEighths}
+use Rattle.finalize.specs.Finalize.{costOf}
 use Rattle.finalize.specs.Contracts.{Finalizes}
 use Rattle.finalize.specs.Demand3.{Demand3}
 use Rattle.finalize.proofs.Demand3.{demand3}
@@ -19,6 +21,7 @@ use Rattle.run_contract.specs.declared.FinishResult.{FinishResult}
 use Rattle.run_contract.specs.declared.Finished.the-variants.{Result}
 use Rattle.run_contract.specs.Calls.{used, finishLengths, finishResult, Finishes}
 use Rattle.run_contract.proofs.Accepting.{Finishable, finish-accepted}
+use Rattle.run_contract.proofs.Bounded.{bounded}
 use Rattle.run_contract.proofs.Chains.{resultOr}
 
 module _ (run : Run) (t : CostTable) (width drawCount : ℕ) (draws factor : List Float) (b : List ℕ) (dual : List Float) (workspace : List ℕ) {b′ : List ℕ} {dual′ : List Float}
@@ -64,4 +67,6 @@ module _ (run : Run) (t : CostTable) (width drawCount : ℕ) (draws factor : Lis
         demand-3 = λ x e w.
             subst (λ (x : FinishResult). Demand3 (t .n) (quadratic t) (linear t) (run .rank) (take (used run) factor) draws drawCount width b′ (x .floor) (x .«rounded_cost») (x .cost) (x .rounds))
             (ap (resultOr madeResult) e) (demand3 (accepted .hall) (run .rank) _ _ _ _ w figures);
+        bound-under = λ x e b″.
+            subst (λ (x : FinishResult). AtMostEighths (x .«float_bound») (costOf (t .n) (quadratic t) (linear t) b″)) (ap (resultOr madeResult) e) (rw (figures .bound-is) (bounded (accepted .hall) b″));
       }

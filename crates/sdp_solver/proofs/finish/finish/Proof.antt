@@ -13,6 +13,7 @@ returns c =
       accepted = λ z. absurd (c .if1 .taken z);
       kept = refl;
       demand-3 = λ x e. absurd (c .if1 .taken (ap finishedNumber e));
+      bound-under = λ x e. absurd (c .if1 .taken (ap finishedNumber e));
     }
 
 pub finish-spec : {M : Type 1} → statement M

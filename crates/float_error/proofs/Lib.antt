@@ -1,0 +1,4 @@
+pub mod Errors
+pub mod Rounded
+pub mod Values
+pub mod Bits
