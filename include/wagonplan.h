@@ -35,7 +35,7 @@ extern "C" {
 // ---- sizes --------------------------------------------------------------------------------------
 
 enum {
-    WAGONPLAN_VERSION = 8, // of these declarations; `wagonplan_version` answers the archive's
+    WAGONPLAN_VERSION = 9, // of these declarations; `wagonplan_version` answers the archive's
 
     WAGONPLAN_JOB_MOST = 65536,         // bytes of a job record
     WAGONPLAN_WAGONS_MOST = 255,        // n; 127 in jobs of version 1 or 2
@@ -511,7 +511,7 @@ static inline uint8_t wagonplan_lift_solution(size_t size, wagonplan_u16 variabl
 // A house that is cleared block by block. The wagons of `pinned` may not move: each has a store, 0 or 1, in the same place of `stores`. `present` has a byte 0 or 1
 // for each of n wagons, where they stand; pinned wagons are first set to their stores. There are as many blocks as `block_sizes` has places, at most
 // WAGONPLAN_BLOCKS_MOST; block k has block_sizes[k] wagons, which stand in `block_wagons` behind those of block k - 1, in any order, each once. Blocks may share
-// wagons, be empty, and name pinned wagons, which they then move.
+// wagons, be empty, and name pinned wagons, which stay in their stores all the same.
 typedef struct {
     wagonplan_u16 pinned;
     wagonplan_u8 stores, present;

@@ -421,7 +421,7 @@ def search(table, width, start):
     return best[0], best[1], levels
 
 
-# ---- by block, then the house (02, Note 6) ----------------------------------------------------
+# ---- by block, then the house (02, Notes 6 and 10) ---------------------------------------------
 
 
 def searched_among(n, entries, c, width, moving, b):
@@ -436,10 +436,10 @@ def searched_among(n, entries, c, width, moving, b):
 
 
 def by_blocks(n, entries, c, pins, present, blocks, width):
-    """The last choice, and each block's fall in eighths. A block moves the wagons that it names, a pinned one too."""
+    """The last choice, and each block's fall in eighths. A pinned wagon is taken out of a block before the search."""
     b, falls = [pins.get(i, present[i]) for i in range(n)], []
     for block in blocks:
-        b, fall = searched_among(n, entries, c, width, set(block), b)
+        b, fall = searched_among(n, entries, c, width, set(block) - set(pins), b)
         falls.append(fall)
     return searched_among(n, entries, c, width, set(range(n)) - set(pins), b)[0], falls
 

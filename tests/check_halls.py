@@ -723,7 +723,7 @@ class Commands(Case):
             "This costs -1. No single free wagon moved to the other store makes it cheaper, nor all free ones at once."])
         done = said(pair + "present left a b\npin a left\nblock one a\n")
         self.ends(done, 0)
-        self.assertIn("Pinned, and moved all the same, as a block names them: a.", done.stdout.decode())
+        self.assertIn("Block one: nothing to gain (no wagon).\nThen all wagons that are not pinned: the cost falls by 1.\nLeft store: a.\nRight store: b.\nPinned, and so left out of their blocks: a.\n", done.stdout.decode())
         self.ends(run("hall", "clear", REPAIRS), 0)
         self.ends(said(pair + "present left a\nblock one a\n"), 1, "they don't name b.")
         self.ends(said(pair + "present left a b\nwidth 0\n"), 1, "a width of at least 1.")

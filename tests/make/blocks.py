@@ -1,5 +1,6 @@
-"""By block, then the house (02, Note 6): `block_search`, by the Rust's own functions, which the oracle drives block by block (oracle/mixing_cut/src/blocks.rs), and by oracle/model.py where
-the house is small. Beside each block that names a pinned wagon stands the `lift_solution` in which that wagon is fixed and mapped."""
+"""By block, then the house (02, Notes 6 and 10): `block_search`. Where no wagon is both pinned and in a block, by the Rust's own functions, which the oracle drives block by block
+(oracle/mixing_cut/src/blocks.rs), and by oracle/model.py where the house is small; where one is, by the model, which takes it out of the block. Beside the calls whose choice that changes
+stands the `lift_solution` in which that wagon is fixed and mapped: its mapped value stands, as ever."""
 import random
 
 import calls
@@ -69,15 +70,21 @@ def modelled(s):
     return model.by_blocks(s["n"], calls.entries_of(s), s["c"], pins_of(s), s["present"], blocks_of(s), s["width"])
 
 
+def in_both(s):
+    """A wagon is pinned and in a block."""
+    return not set(s["pinned"]).isdisjoint(s["wagons"][: sum(s["sizes"])])
+
+
 def add_cases(lines, cases):
     """The cases with their answers; the numbers."""
     numbers = [number_of(s) for s in cases]
-    answers = iter(leaves([asked(s) for s, number in zip(cases, numbers) if number == 0]))
-    for s, number in zip(cases, numbers):
+    by_rust = [number == 0 and not in_both(s) for s, number in zip(cases, numbers)]
+    answers = iter(leaves([asked(s) for s, rust in zip(cases, by_rust) if rust]))
+    for s, number, rust in zip(cases, numbers, by_rust):
         back = []
         if number == 0:
-            choice, falls = slices(next(answers), None, None)
-            if s["n"] <= SMALL:
+            choice, falls = slices(next(answers), None, None) if rust else modelled(s)
+            if rust and s["n"] <= SMALL:
                 assert modelled(s) == (choice, falls), s
             back = [bytes(choice), falls]
         lines.call("block_search", [s[k] for k in GROUP], [s[k] for k in GIVEN], number, back)
@@ -92,14 +99,15 @@ STAR = 3, [(0, 1, 3), (0, 2, 3), (1, 0, 3), (2, 0, 3)], [-2, -1, -1]
 
 def worked():
     """Text, case, choice, falls."""
-    yield "a block moves a pinned wagon", case((1, [], [-1]), [(0, 0)], [0], [[0]], 1), [1], [8]
-    yield "and the last search holds it there", case(PAIR, [(0, 0)], [0, 0], [[0]], 1), [1, 0], [8]
-    yield "a free wagon by way of a pinned one", case(STAR, [(0, 0)], [1, 0, 0], [[0, 1], [2]], 1), [1, 0, 0], [16, 0]
+    yield "a pinned wagon in a block stays; by Note 6 it moved: choice 1, fall 8", case((1, [], [-1]), [(0, 0)], [0], [[0]], 1), [0], [0]
+    yield "and the others go by it; by Note 6: choice 1, 0, fall 8", case(PAIR, [(0, 0)], [0, 0], [[0]], 1), [0, 1], [0]
+    yield "a free wagon by way of a pinned one; by Note 6: choice 1, 0, 0, falls 16 and 0", case(STAR, [(0, 0)], [1, 0, 0], [[0, 1], [2]], 1), [0, 1, 1], [8, 8]
     yield "no pin, no block: the house", case(PAIR, [], [0, 0], [], 1), [1, 0], []
     yield "no wagon, an empty block", case((0, [], []), [], [], [[]], 1), [], [0]
     yield "no wagon, no block", case((0, [], []), [], [], [], 128), [], []
     yield "all pinned, no block", case(PAIR, [(1, 1), (0, 1)], [0, 0], [], 1), [1, 1], []
-    yield "all pinned, both in a block", case(PAIR, [(0, 0), (1, 0)], [1, 1], [[1, 0]], 1), [1, 0], [8]
+    yield "all pinned, both in a block", case(PAIR, [(0, 0), (1, 0)], [1, 1], [[1, 0]], 1), [0, 0], [0]
+    yield "a block of pinned wagons alone, one of others", case(STAR, [(0, 1), (1, 0)], [0, 1, 0], [[1, 0], [2]], 1), [1, 0, 0], [0, 0]
     yield "an empty block first", case(PAIR, [], [0, 0], [[], [1]], 1), [0, 1], [0, 8]
     yield "the same block twice", case(PAIR, [], [0, 0], [[1], [1]], 1), [0, 1], [8, 0]
 
@@ -112,7 +120,7 @@ def add_worked(lines):
 
 
 def add_overwritten(lines):
-    """`lift_solution` with the pins fixed and a block mapped that names one of them: the mapped value stands."""
+    """`lift_solution` with the pins fixed and a block mapped that names one of them: the mapped value stands, with Note 10 as before."""
     lift = lambda size, mapped, fixed, values, solution: {
         "m": size, "map": mapped, "fixed": fixed, "fixed_values": values, "solution": solution, "lifted": size}
     calls.add(lines, "lift_solution", [lift(1, [0], [0], [0], [ONE]), lift(2, [0], [0, 1], [0, 0], [ONE]), lift(3, [0, 1], [0, 2], [0, 0], [ONE, 0])])
@@ -130,8 +138,11 @@ def sparse_hall(rng, n, pairs, low=-9, high=9):
 
 
 def some_blocks(rng, n, pinned, count=None):
-    """Blocks of any wagons in any order: the house cut in parts, blocks that overlap, empty ones, ones of pinned wagons, of all."""
+    """Blocks of any wagons in any order: the house cut in parts, blocks that overlap, empty ones, ones of pinned wagons, of all; of every second call, and of most large ones, none that names a pinned wagon."""
     count = rng.choice([0, 1, 2, 2, 3, 4, 7, 15, 16]) if count is None else count
+    if rng.randrange(2) or n > 40 and rng.randrange(8):
+        free = [i for i in range(n) if i not in pinned]
+        return [rng.sample(free, rng.randint(0, min(len(free), rng.choice([3, 12, 255])))) for _ in range(count)]
     if rng.randrange(3) == 0 and count:
         order = rng.sample(range(n), n)
         return [order[k::count] for k in range(count)]

@@ -1,4 +1,4 @@
-"""A house cleared block by block (02, Note 6), by the library's call; what it gives is held against the hall, and said."""
+"""A house cleared block by block (02, Notes 6 and 10), by the library's call; what it gives is held against the hall, and said."""
 import tempfile
 
 from .answer import STORES, changes, cost_of, eighths, hold
@@ -49,14 +49,13 @@ def given(hall):
 
 def wrongs(hall, found):
     """Where the hall's own costs say otherwise."""
-    named = {i for wagons in hall.blocks.values() for i in wagons}
     for name, fall in zip(hall.blocks, found["falls"]):
         if fall < 0:
             yield f"the fall of block {name} is {eighths(fall)}"
     if found["cost"] > found["blocks"]:
         yield f"by the hall's own costs the choice costs {eighths(found['cost'])}, and after the blocks {eighths(found['blocks'])} is left"
     for i, store in hall.pins.items():
-        if i not in named and found["choice"][i] != store:
+        if found["choice"][i] != store:
             yield f"it has wagon {hall.names[i]} in the {STORES[1 - store]} store, and it is pinned to the {STORES[store]} one"
     for moved, change in changes(hall, found["choice"]):
         if change < 0:
@@ -75,13 +74,13 @@ def words(hall, found):
     if away:
         yield f"First to their pinned stores: {listed(hall, sorted(away))}; then it costs {eighths(cost_of(hall, first))}."
     for name, fall in zip(hall.blocks, found["falls"]):
-        yield f"Block {name}: {saved(fall)} ({listed(hall, sorted(hall.blocks[name]))})."
+        yield f"Block {name}: {saved(fall)} ({listed(hall, sorted(set(hall.blocks[name]) - set(hall.pins)))})."
     yield f"Then all wagons{' that are not pinned' if hall.pins else ''}: {saved(found['blocks'] - found['cost'])}."
     for side, wagons in zip(STORES, stores(hall, found)):
         yield f"{side.capitalize()} store: {listed(hall, wagons)}."
-    away = [i for i, store in sorted(hall.pins.items()) if found["choice"][i] != store]
-    if away:
-        yield f"Pinned, and moved all the same, as a block names them: {listed(hall, away)}."
+    both = sorted(set(hall.pins) & {i for wagons in hall.blocks.values() for i in wagons})
+    if both:
+        yield f"Pinned, and so left out of their blocks: {listed(hall, both)}."
     wagon, them = ("free wagon", "all free ones") if hall.pins else ("wagon", "all of them")
     yield f"This costs {eighths(found['cost'])}. No single {wagon} moved to the other store makes it cheaper, nor {them} at once."
 

@@ -1,7 +1,7 @@
--- "By block, then the house" (02, Note 6): n wagons, the table h of the quadratic costs H, the linear costs c, the width W of the search, and a
+-- "By block, then the house" (02, Note 6), in which the pin comes first (Note 10): n wagons, the table h of the quadratic costs H, the linear costs c, the width W of the search, and a
 -- choice b, a byte for each wagon.
 use Prim.Native.Nat.{ℕ}
-use mathlib.Core.Bool.{Bool, cond, not}
+use mathlib.Core.Bool.{Bool, true, false, cond}
 use mathlib.Core.List.{List, [], _∷_, _++_}
 use lib.Dec.{eqb}
 use lib.IntN.{ℤ, _-ℤ_}
@@ -64,14 +64,22 @@ module _ (n : ℕ) (h : Table) (c : ℕ → ℤ) (W : ℕ) where
   abbrev pub fallFrom : (ℕ → Bool) → List ℕ → ℤ
   fallFrom moves b = fallHeld n h c W (held n moves b) b
 
-  module _ (sizes wagons b : List ℕ) where
-    -- "each block in turn is searched": the choice after k blocks from b, where a block moves the wagons that it names, a pinned one too
+  module _ (moves : ℕ → ℕ → Bool) (b : List ℕ) where
+    -- "each block in turn is searched": the choice after k turns from b, where the wagons of `moves j` move in turn j
     unfoldable pub choiceFrom : ℕ → List ℕ
-    choiceFrom k = upTo (λ j x. searchedFrom (named (blockOf sizes wagons j)) x) k b
+    choiceFrom k = upTo (λ j x. searchedFrom (moves j) x) k b
 
-    -- block k's fall
+    -- turn k's fall
     unfoldable pub blockFall : ℕ → ℤ
-    blockFall k = fallFrom (named (blockOf sizes wagons k)) (choiceFrom k)
+    blockFall k = fallFrom (moves k) (choiceFrom k)
+
+-- who is free: "the pin now comes first: such a wagon is taken out of the block before the search"
+abbrev pub freeAmong : List ℕ → (ℕ → Bool) → ℕ → Bool
+freeAmong pinned asked i = cond (named pinned i) false (asked i)
+
+-- in block k's turn
+abbrev pub blockMoves : List ℕ → List ℕ → List ℕ → ℕ → ℕ → Bool
+blockMoves pinned sizes wagons k = freeAmong pinned (named (blockOf sizes wagons k))
 
 -- ---- a call
 
@@ -96,10 +104,10 @@ firstChoice q = pinnedChoice (q .n) (q .pinned) (q .stores) (q .present)
 
 -- the choice after k blocks, and block k's fall
 abbrev pub choiceAfter : BlockCall → ℕ → List ℕ
-choiceAfter q k = choiceFrom (q .n) (q .table) (q .costs) (q .width) (q .sizes) (q .wagons) (firstChoice q) k
+choiceAfter q k = choiceFrom (q .n) (q .table) (q .costs) (q .width) (blockMoves (q .pinned) (q .sizes) (q .wagons)) (firstChoice q) k
 
 abbrev pub fallOf : BlockCall → ℕ → ℤ
-fallOf q k = blockFall (q .n) (q .table) (q .costs) (q .width) (q .sizes) (q .wagons) (firstChoice q) k
+fallOf q k = blockFall (q .n) (q .table) (q .costs) (q .width) (blockMoves (q .pinned) (q .sizes) (q .wagons)) (firstChoice q) k
 
 -- "each block's fall in eighths"
 abbrev pub fallsOf : BlockCall → List ℤ
@@ -107,7 +115,7 @@ fallsOf q = tabulate (fallOf q) (length (q .sizes))
 
 -- "then all wagons not pinned are searched from there"
 abbrev pub houseMoves : BlockCall → ℕ → Bool
-houseMoves q i = not (named (q .pinned) i)
+houseMoves q = freeAmong (q .pinned) (λ i. true)
 
 abbrev pub lastChoice : BlockCall → List ℕ
 lastChoice q = searchedFrom (q .n) (q .table) (q .costs) (q .width) (houseMoves q) (choiceAfter q (length (q .sizes)))

@@ -12,7 +12,8 @@ use Rattle.tables.specs.Table.{tableOf}
 use Rattle.tables.specs.Cost.{choiceAt}
 use Rattle.finalize.specs.Finalize.{costOf}
 use Rattle.finalize.specs.Demand3.{DifferInOne}
-use Rattle.block_search.specs.Blocks.{BlockCall, named, blockOf, searchedFrom, choiceAfter, fallOf, fallsOf, lastChoice, firstChoice}
+use Rattle.block_search.specs.Blocks.{BlockCall, named, blockOf, blockMoves, searchedFrom, choiceAfter, fallOf, fallsOf, lastChoice, firstChoice}
+use Rattle.block_search.specs.Moved.{Apart, AsMoved}
 use Rattle.block_search.specs.Numbers.{blockNumber}
 
 -- what a choice costs, in eighths
@@ -30,23 +31,27 @@ pub record Cleared (q : BlockCall) : Type 0 where
   pub pins-set : (k : ℕ) → k < length (q .pinned) → elem (firstChoice q) (elem (q .pinned) k) ≡ elem (q .stores) k
   pub others-present : (i : ℕ) → i < q .n → named (q .pinned) i ≡ false → elem (firstChoice q) i ≡ elem (q .present) i
   -- from there each block in turn is searched from the choice that the one before it left: 01's search on the sign table of (H, c) reduced by all
-  -- other wagons, which stand where that choice has them
+  -- other wagons, which stand where that choice has them; pinned wagons are among these, whatever the block names
   pub begins : choiceAfter q 0 ≡ firstChoice q
   pub in-turn : (k : ℕ) → k < length (q .sizes)
-      → choiceAfter q (suc k) ≡ searchedFrom (q .n) (q .table) (q .costs) (q .width) (named (blockOf (q .sizes) (q .wagons) k)) (choiceAfter q k)
+      → choiceAfter q (suc k) ≡ searchedFrom (q .n) (q .table) (q .costs) (q .width) (blockMoves (q .pinned) (q .sizes) (q .wagons) k) (choiceAfter q k)
   -- "after each block the full cost falls by exactly that, which is never negative"
   pub falls-are : (k : ℕ) → k < length (q .sizes) → callCost q (choiceAfter q k) -ℤ callCost q (choiceAfter q (suc k)) ≡ fallOf q k
   pub falls-up : (k : ℕ) → k < length (q .sizes) → pos 0 ≤ℤ fallOf q k
   -- a block moves no wagon but its own
   pub others-stay : (k i : ℕ) → k < length (q .sizes) → i < q .n → named (blockOf (q .sizes) (q .wagons) k) i ≡ false
       → elem (choiceAfter q (suc k)) i ≡ elem (choiceAfter q k) i
-  -- the last search moves no pinned wagon, and costs no more than the blocks left
-  pub pins-stay : (i : ℕ) → i < q .n → named (q .pinned) i ≡ true → elem (lastChoice q) i ≡ elem (choiceAfter q (length (q .sizes))) i
+  -- every choice on the way has each pinned wagon in its store, the last one too
+  pub keeps : (k j : ℕ) → j < length (q .pinned) → elem (choiceAfter q k) (elem (q .pinned) j) ≡ elem (q .stores) j
+  pub keeps-last : (j : ℕ) → j < length (q .pinned) → elem (lastChoice q) (elem (q .pinned) j) ≡ elem (q .stores) j
+  -- the last search costs no more than the blocks left
   pub house-falls : callCost q (lastChoice q) ≤ℤ callCost q (choiceAfter q (length (q .sizes)))
   -- "the last choice can't be bettered by one wagon that isn't pinned"
   pub one-wagon : (b′ : List ℕ) (d : DifferInOne (q .n) (lastChoice q) b′) → named (q .pinned) (d .wagon) ≡ false → callCost q (lastChoice q) ≤ℤ callCost q b′
   -- nor by all of these together
   pub all-wagons : (b′ : List ℕ) → DifferInHouse q (lastChoice q) b′ → callCost q (lastChoice q) ≤ℤ callCost q b′
+  -- "Only calls with a wagon in both lists may answer otherwise than before"
+  pub as-before : Apart q → AsMoved q
   -- it has a byte 0 or 1 for each wagon
   pub long : length (lastChoice q) ≡ q .n
   pub bytes : (i : ℕ) → elem (lastChoice q) i ≤ 1

@@ -1,7 +1,7 @@
 -- What the functions of a search ask and leave.
 use Prim.Native.Nat.{ℕ, _≤_, _<_}
 use mathlib.Core.Path.{_≡_}
-use mathlib.Core.Bool.{Bool, cond, not}
+use mathlib.Core.Bool.{Bool, true, cond}
 use mathlib.Core.List.{List, [], _∷_, _++_}
 use lib.ListN.{length}
 use lib.IntN.{ℤ}
@@ -11,15 +11,15 @@ use Rattle.limits.specs.Limits.{mostWagons, mostEntries, mostMagnitude, mostWid
 use Rattle.tables.specs.Table.{tableOf, Lent}
 use Rattle.tables.specs.Check.{Hall}
 use Rattle.reduced.specs.Indices.{Within}
-use Rattle.block_search.specs.Blocks.{named}
+use Rattle.block_search.specs.Blocks.{named, freeAmong}
 
 -- each byte is 0 or 1
 pub record Low (b : List ℕ) : Type 0 where
   pub low : (i : ℕ) → elem b i ≤ 1
 
--- the wagons that a list names, or all others
-abbrev pub movedBy : Bool → List ℕ → ℕ → Bool
-movedBy inside list i = cond inside (named list i) (not (named list i))
+-- the wagons that a list names, or, of the whole house, all; a pinned one never
+abbrev pub movedBy : List ℕ → Bool → List ℕ → ℕ → Bool
+movedBy pinned whole list = freeAmong pinned (λ i. cond whole true (named list i))
 
 -- the bytes of b at the free wagons, then the anchor's
 unfoldable pub startSigns : List ℕ → List ℕ → List ℕ

@@ -1,4 +1,5 @@
 pub mod Blocks
+pub mod Moved
 pub mod Numbers
 pub mod Contracts
 pub mod Call

@@ -5,14 +5,14 @@ use pinned::lift::copy_states;
 use pinned::lift::put_choice;
 use tables::check::wide;
 ghost use mathlib.Core.Path.{_≡_};
-ghost use mathlib.Core.Bool.{cond, not};
+ghost use mathlib.Core.Bool.{cond};
 ghost use Prim.Native.Nat.{_<_, _≤_};
 ghost use lib.ListN.{length};
 ghost use Rattle.laws.specs.Sum.{total};
 ghost use Rattle.laws.specs.Lists.{elem, elemZ, over, tabulate};
 ghost use Rattle.limits.specs.Limits.{mostBlocks};
 ghost use Rattle.tables.specs.Table.{tableOf};
-ghost use Rattle.block_search.specs.Blocks.{named, held, searchedFrom, fallFrom, choiceFrom, blockFall, pinnedChoice, fallsOf, lastChoice};
+ghost use Rattle.block_search.specs.Blocks.{named, held, blockMoves, searchedFrom, fallFrom, choiceFrom, blockFall, pinnedChoice, fallsOf, lastChoice};
 ghost use Rattle.block_search.specs.Call.{callOf};
 ghost use Rattle.block_search.specs.Contracts.{HouseFits, PinsFit, ClearFits, movedBy};
 
@@ -30,36 +30,43 @@ fn names(list: &[u16], i: usize) -> bool
     false
 }
 
-// The state of wagon i: 2, free, where the list names it, or, not `inside`, where it doesn't; else its byte of b.
-fn state_of(inside: bool, list: &[u16], b: &[u8], i: usize) -> u8
-    requires { ⌜ i < length (now b) ⌝ }
-    ensures { λ r. ⌜ r ≡ cond (movedBy inside (now (list .entry)) i) 2 (elem (now (b .entry)) i) ⌝ }
+// Whether wagon i is free: the list names it, or the whole house is searched, and it isn't pinned.
+fn is_free(pinned: &[u16], whole: bool, list: &[u16], i: usize) -> bool
+    ensures { λ r. ⌜ r ≡ movedBy (now (pinned .entry)) whole (now (list .entry)) i ⌝ }
 {
-    if names(list, i) {
-        if inside {
-            return 2;
-        }
-        return b[i];
+    if names(pinned, i) {
+        return false;
     }
-    if inside {
-        return b[i];
+    if whole {
+        return true;
     }
-    2
+    names(list, i)
+}
+
+// The state of wagon i: 2 where it is free, else its byte of b.
+fn state_of(pinned: &[u16], whole: bool, list: &[u16], b: &[u8], i: usize) -> u8
+    requires { ⌜ i < length (now b) ⌝ }
+    ensures { λ r. ⌜ r ≡ cond (movedBy (now (pinned .entry)) whole (now (list .entry)) i) 2 (elem (now (b .entry)) i) ⌝ }
+{
+    if is_free(pinned, whole, list, i) {
+        return 2;
+    }
+    b[i]
 }
 
 // The states of n wagons.
-fn hold(n: usize, inside: bool, list: &[u16], b: &[u8], states: &mut [u8])
+fn hold(n: usize, pinned: &[u16], whole: bool, list: &[u16], b: &[u8], states: &mut [u8])
     requires { ⌜ (n ≤ length (now b)) × (n ≤ length (now states)) ⌝ }
-    ensures { λ _. ⌜ now (states .exit) ≡ over (held n (movedBy inside (now (list .entry))) (now (b .entry))) (now (states .entry)) ⌝ }
+    ensures { λ _. ⌜ now (states .exit) ≡ over (held n (movedBy (now (pinned .entry)) whole (now (list .entry))) (now (b .entry))) (now (states .entry)) ⌝ }
 {
     let mut i = 0;
     while i < n {
-        states[i] = state_of(inside, list, b, i);
+        states[i] = state_of(pinned, whole, list, b, i);
         i += 1;
     }
 }
 
-// The wagons that the list names, or all others, searched from b, which takes the choice found. The fall in eighths.
+// The wagons that the list names, or all, but no pinned one, searched from b, which takes the choice found. The fall in eighths.
 fn search_moving(
     n: usize,
     count: usize,
@@ -67,18 +74,19 @@ fn search_moving(
     cols: &[u16],
     values: &[i64],
     c: &[i64],
-    inside: bool,
+    pinned: &[u16],
+    whole: bool,
     list: &[u16],
     width: usize,
     b: &mut [u8],
     workspace: &mut [u64],
 ) -> i64
     requires { ⌜ HouseFits n count (now rows) (now cols) (now values) (now c) width (now b) (length (now workspace)) ⌝ }
-    ensures { λ r. ⌜ (r ≡ fallFrom n (tableOf count (now (rows .entry)) (now (cols .entry)) (now (values .entry))) (elemZ (now (c .entry))) width (movedBy inside (now (list .entry))) (now (b .entry)))
-        × (now (b .exit) ≡ searchedFrom n (tableOf count (now (rows .entry)) (now (cols .entry)) (now (values .entry))) (elemZ (now (c .entry))) width (movedBy inside (now (list .entry))) (now (b .entry))) ⌝ }
+    ensures { λ r. ⌜ (r ≡ fallFrom n (tableOf count (now (rows .entry)) (now (cols .entry)) (now (values .entry))) (elemZ (now (c .entry))) width (movedBy (now (pinned .entry)) whole (now (list .entry))) (now (b .entry)))
+        × (now (b .exit) ≡ searchedFrom n (tableOf count (now (rows .entry)) (now (cols .entry)) (now (values .entry))) (elemZ (now (c .entry))) width (movedBy (now (pinned .entry)) whole (now (list .entry))) (now (b .entry))) ⌝ }
 {
     let mut states = [0u8; MOST_WAGONS];
-    hold(n, inside, list, b, &mut states);
+    hold(n, pinned, whole, list, b, &mut states);
     search_held(
         n,
         count,
@@ -101,6 +109,7 @@ fn search_blocks(
     cols: &[u16],
     values: &[i64],
     c: &[i64],
+    pinned: &[u16],
     sizes: &[u16],
     wagons: &[u16],
     width: usize,
@@ -110,8 +119,8 @@ fn search_blocks(
 )
     requires { ⌜ HouseFits n count (now rows) (now cols) (now values) (now c) width (now b) (length (now workspace)) ⌝ }
     requires { ⌜ (total (length (now sizes)) (elem (now sizes)) ≤ length (now wagons)) × (length (now sizes) ≤ length (now falls)) × (length (now sizes) ≤ mostBlocks) ⌝ }
-    ensures { λ _. ⌜ (now (b .exit) ≡ choiceFrom n (tableOf count (now (rows .entry)) (now (cols .entry)) (now (values .entry))) (elemZ (now (c .entry))) width (now (sizes .entry)) (now (wagons .entry)) (now (b .entry)) (length (now (sizes .entry))))
-        × (now (falls .exit) ≡ over (tabulate (blockFall n (tableOf count (now (rows .entry)) (now (cols .entry)) (now (values .entry))) (elemZ (now (c .entry))) width (now (sizes .entry)) (now (wagons .entry)) (now (b .entry))) (length (now (sizes .entry))))
+    ensures { λ _. ⌜ (now (b .exit) ≡ choiceFrom n (tableOf count (now (rows .entry)) (now (cols .entry)) (now (values .entry))) (elemZ (now (c .entry))) width (blockMoves (now (pinned .entry)) (now (sizes .entry)) (now (wagons .entry))) (now (b .entry)) (length (now (sizes .entry))))
+        × (now (falls .exit) ≡ over (tabulate (blockFall n (tableOf count (now (rows .entry)) (now (cols .entry)) (now (values .entry))) (elemZ (now (c .entry))) width (blockMoves (now (pinned .entry)) (now (sizes .entry)) (now (wagons .entry))) (now (b .entry))) (length (now (sizes .entry))))
         (now (falls .entry))) ⌝ }
 {
     let mut k = 0;
@@ -125,7 +134,8 @@ fn search_blocks(
             cols,
             values,
             c,
-            true,
+            pinned,
+            false,
             &wagons[at..end],
             width,
             b,
@@ -178,6 +188,7 @@ pub fn clear_house(
         cols,
         values,
         c,
+        pinned,
         sizes,
         wagons,
         width,
@@ -192,7 +203,8 @@ pub fn clear_house(
         cols,
         values,
         c,
-        false,
+        pinned,
+        true,
         pinned,
         width,
         b,

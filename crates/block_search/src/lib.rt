@@ -1,4 +1,4 @@
-// Blocks of wagons searched one after the other, then all wagons that aren't pinned (02, Note 6).
+// Blocks of wagons searched one after the other, then all wagons that aren't pinned (02, Note 6); a pinned wagon never moves (Note 10).
 mod blocks; // blocks.rt: the first choice, the blocks in turn, the house
 mod check; // check.rt: the numbers
 mod search; // search.rt: one search, all other wagons held
@@ -8,7 +8,8 @@ use crate::check::block_number;
 use limits::SEARCH_WORKSPACE;
 ghost use Rattle.block_search.specs.Call.{BlockSearches};
 
-// Each block of `block_wagons` searched in turn, from the present choice with the pinned wagons set to their stores; then all wagons not pinned.
+// Each block of `block_wagons` searched in turn, from the present choice with the pinned wagons set to their stores; then all wagons not pinned. A
+// pinned wagon that a block names is taken out of it before the search.
 // Block k has `block_sizes[k]` wagons, which follow those of the block before it. `choice` takes the last choice, `falls` each block's fall in
 // eighths. The workspace has 1,024 words at least; a longer one keeps its tail. 0, or the number that applies.
 pub fn block_search(

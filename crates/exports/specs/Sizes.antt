@@ -7,7 +7,7 @@ use Rattle.sign_words.specs.Size.{signWords}
 use Rattle.exports.specs.Words.{runWords, settingWords, resultWords}
 
 abbrev pub callsVersion : ℕ
-callsVersion = 8
+callsVersion = 9
 
 -- in the order of `enum wagonplan_sizes` of include/wagonplan.h
 abbrev pub sizes : List ℕ

@@ -8,6 +8,7 @@ use denote.Ref.{now}
 use lib.ListN.{length}
 use Rattle.laws.specs.Lists.{elemZ}
 use Rattle.tables.specs.Table.{tableOf}
+use Rattle.block_search.specs.Blocks.{blockMoves}
 use Rattle.block_search.specs.Call.{callOf}
 use Rattle.block_search.proofs.Turns.{first-low, blocks-low, clear-made}
 
@@ -18,7 +19,7 @@ search-blocks-requires : tie.Need-search-blocks-requires
 search-blocks-requires c κs = (record { lent = c .before .before .before .before .before .before .before .before .before .before .before .before .before .before .before .before .pre .lent; costs-there = c .before .before .before .before .before .before .before .before .before .before .before .before .before .before .before .before .pre .costs-there; hall = c .before .before .before .before .before .before .before .before .before .before .before .before .before .before .before .before .pre .hall; width-some = c .before .before .before .before .before .before .before .before .before .before .before .before .before .before .before .before .pre .width-some; width-few = c .before .before .before .before .before .before .before .before .before .before .before .before .before .before .before .before .pre .width-few; bytes-many = c .before .before .before .before .before .first-choice .kept .1 .1 .1 .1 .0 ∙ c .before .before .before .before .before .before .before .before .before .before .before .before .before .before .before .before .pre .choice-many; bytes-low = rw (c .before .before .before .before .before .first-choice .ensures) (first-low (c .before .before .before .before .before .before .before .before .before .before .before .before .before .before .before .before .args .n) (now (c .before .before .before .before .before .before .before .before .before .before .before .before .before .before .before .before .args .pinned)) (now (c .before .before .before .before .before .before .before .before .before .before .before .before .before .before .before .before .args .stores)) (now (c .before .before .before .before .before .before .before .before .before .before .before .before .before .before .before .before .args .present)) (c .before .before .before .before .before .before .before .before .before .before .before .before .before .before .before .before .pre .pins)); space-room = c .before .before .before .before .before .before .before .before .before .before .before .before .before .before .before .before .pre .space-room }, (c .before .before .before .before .before .before .before .before .before .before .before .before .before .before .before .before .pre .wagons-there, c .before .before .before .before .before .before .before .before .before .before .before .before .before .before .before .before .pre .falls-room, c .before .before .before .before .before .before .before .before .before .before .before .before .before .before .before .before .pre .blocks-few))
 
 search-moving-requires : tie.Need-search-moving-requires
-search-moving-requires c κs = let m = c .before .before .before .before .before .before .before .before .before .before .before .before .before .first-choice .kept .1 .1 .1 .1 .0 ∙ c .before .before .before .before .before .before .before .before .before .before .before .before .before .before .before .before .before .before .before .before .before .before .before .before .pre .choice-many in record { lent = c .before .before .before .before .before .before .before .before .before .before .before .before .before .before .before .before .before .before .before .before .before .before .before .before .pre .lent; costs-there = c .before .before .before .before .before .before .before .before .before .before .before .before .before .before .before .before .before .before .before .before .before .before .before .before .pre .costs-there; hall = c .before .before .before .before .before .before .before .before .before .before .before .before .before .before .before .before .before .before .before .before .before .before .before .before .pre .hall; width-some = c .before .before .before .before .before .before .before .before .before .before .before .before .before .before .before .before .before .before .before .before .before .before .before .before .pre .width-some; width-few = c .before .before .before .before .before .before .before .before .before .before .before .before .before .before .before .before .before .before .before .before .before .before .before .before .pre .width-few; bytes-many = c .before .before .before .before .before .before .before .search-blocks .kept .1 .1 .1 .1 .1 .1 .1 .1 .1 .0 ∙ m; bytes-low = rw (c .before .before .before .before .before .before .before .search-blocks .ensures .0) (blocks-low (c .before .before .before .before .before .before .before .before .before .before .before .before .before .before .before .before .before .before .before .before .before .before .before .before .args .n) (tableOf (c .before .before .before .before .before .before .before .before .before .before .before .before .before .before .before .before .before .before .before .before .before .before .before .before .args .count) (now (c .before .before .before .before .before .before .before .before .before .before .before .before .before .before .before .before .before .before .before .before .before .before .before .before .args .rows)) (now (c .before .before .before .before .before .before .before .before .before .before .before .before .before .before .before .before .before .before .before .before .before .before .before .before .args .cols)) (now (c .before .before .before .before .before .before .before .before .before .before .before .before .before .before .before .before .before .before .before .before .before .before .before .before .args .values))) (elemZ (now (c .before .before .before .before .before .before .before .before .before .before .before .before .before .before .before .before .before .before .before .before .before .before .before .before .args .c))) (c .before .before .before .before .before .before .before .before .before .before .before .before .before .before .before .before .before .before .before .before .before .before .before .before .args .width) (now (c .before .before .before .before .before .before .before .before .before .before .before .before .before .before .before .before .before .before .before .before .before .before .before .before .args .sizes)) (now (c .before .before .before .before .before .before .before .before .before .before .before .before .before .before .before .before .before .before .before .before .before .before .before .before .args .wagons)) (c .before .before .before .before .before .before .before .before .before .before .before .before .before .first-choice .last .1 .1 .1 .1 .0) (c .before .before .before .before .before .before .before .before .before .before .before .before .before .before .before .before .before .before .before .before .before .before .before .before .pre .hall) (c .before .before .before .before .before .before .before .before .before .before .before .before .before .before .before .before .before .before .before .before .before .before .before .before .pre .width-some) (rw (c .before .before .before .before .before .before .before .before .before .before .before .before .before .first-choice .ensures) (first-low (c .before .before .before .before .before .before .before .before .before .before .before .before .before .before .before .before .before .before .before .before .before .before .before .before .args .n) (now (c .before .before .before .before .before .before .before .before .before .before .before .before .before .before .before .before .before .before .before .before .before .before .before .before .args .pinned)) (now (c .before .before .before .before .before .before .before .before .before .before .before .before .before .before .before .before .before .before .before .before .before .before .before .before .args .stores)) (now (c .before .before .before .before .before .before .before .before .before .before .before .before .before .before .before .before .before .before .before .before .before .before .before .before .args .present)) (c .before .before .before .before .before .before .before .before .before .before .before .before .before .before .before .before .before .before .before .before .before .before .before .before .pre .pins))) m (length (now (c .before .before .before .before .before .before .before .before .before .before .before .before .before .before .before .before .before .before .before .before .before .before .before .before .args .sizes)))); space-room = omega (arith, c .before .before .before .before .before .before .before .before .before .before .before .before .before .before .before .before .before .before .before .before .before .before .before .before .pre .space-room, c .before .before .before .before .before .before .before .search-blocks .kept .1 .1 .1 .1 .1 .1 .1 .1 .1 .1 .1 .0) }
+search-moving-requires c κs = let m = c .before .before .before .before .before .before .before .before .before .before .before .before .before .first-choice .kept .1 .1 .1 .1 .0 ∙ c .before .before .before .before .before .before .before .before .before .before .before .before .before .before .before .before .before .before .before .before .before .before .before .before .pre .choice-many in record { lent = c .before .before .before .before .before .before .before .before .before .before .before .before .before .before .before .before .before .before .before .before .before .before .before .before .pre .lent; costs-there = c .before .before .before .before .before .before .before .before .before .before .before .before .before .before .before .before .before .before .before .before .before .before .before .before .pre .costs-there; hall = c .before .before .before .before .before .before .before .before .before .before .before .before .before .before .before .before .before .before .before .before .before .before .before .before .pre .hall; width-some = c .before .before .before .before .before .before .before .before .before .before .before .before .before .before .before .before .before .before .before .before .before .before .before .before .pre .width-some; width-few = c .before .before .before .before .before .before .before .before .before .before .before .before .before .before .before .before .before .before .before .before .before .before .before .before .pre .width-few; bytes-many = c .before .before .before .before .before .before .before .search-blocks .kept .1 .1 .1 .1 .1 .1 .1 .1 .1 .1 .0 ∙ m; bytes-low = rw (c .before .before .before .before .before .before .before .search-blocks .ensures .0) (blocks-low (c .before .before .before .before .before .before .before .before .before .before .before .before .before .before .before .before .before .before .before .before .before .before .before .before .args .n) (tableOf (c .before .before .before .before .before .before .before .before .before .before .before .before .before .before .before .before .before .before .before .before .before .before .before .before .args .count) (now (c .before .before .before .before .before .before .before .before .before .before .before .before .before .before .before .before .before .before .before .before .before .before .before .before .args .rows)) (now (c .before .before .before .before .before .before .before .before .before .before .before .before .before .before .before .before .before .before .before .before .before .before .before .before .args .cols)) (now (c .before .before .before .before .before .before .before .before .before .before .before .before .before .before .before .before .before .before .before .before .before .before .before .before .args .values))) (elemZ (now (c .before .before .before .before .before .before .before .before .before .before .before .before .before .before .before .before .before .before .before .before .before .before .before .before .args .c))) (c .before .before .before .before .before .before .before .before .before .before .before .before .before .before .before .before .before .before .before .before .before .before .before .before .args .width) (blockMoves (now (c .before .before .before .before .before .before .before .before .before .before .before .before .before .before .before .before .before .before .before .before .before .before .before .before .args .pinned)) (now (c .before .before .before .before .before .before .before .before .before .before .before .before .before .before .before .before .before .before .before .before .before .before .before .before .args .sizes)) (now (c .before .before .before .before .before .before .before .before .before .before .before .before .before .before .before .before .before .before .before .before .before .before .before .before .args .wagons))) (c .before .before .before .before .before .before .before .before .before .before .before .before .before .first-choice .last .1 .1 .1 .1 .0) (c .before .before .before .before .before .before .before .before .before .before .before .before .before .before .before .before .before .before .before .before .before .before .before .before .pre .hall) (c .before .before .before .before .before .before .before .before .before .before .before .before .before .before .before .before .before .before .before .before .before .before .before .before .pre .width-some) (rw (c .before .before .before .before .before .before .before .before .before .before .before .before .before .first-choice .ensures) (first-low (c .before .before .before .before .before .before .before .before .before .before .before .before .before .before .before .before .before .before .before .before .before .before .before .before .args .n) (now (c .before .before .before .before .before .before .before .before .before .before .before .before .before .before .before .before .before .before .before .before .before .before .before .before .args .pinned)) (now (c .before .before .before .before .before .before .before .before .before .before .before .before .before .before .before .before .before .before .before .before .before .before .before .before .args .stores)) (now (c .before .before .before .before .before .before .before .before .before .before .before .before .before .before .before .before .before .before .before .before .before .before .before .before .args .present)) (c .before .before .before .before .before .before .before .before .before .before .before .before .before .before .before .before .before .before .before .before .before .before .before .before .pre .pins))) m (length (now (c .before .before .before .before .before .before .before .before .before .before .before .before .before .before .before .before .before .before .before .before .before .before .before .before .args .sizes)))); space-room = omega (arith, c .before .before .before .before .before .before .before .before .before .before .before .before .before .before .before .before .before .before .before .before .before .before .before .before .pre .space-room, c .before .before .before .before .before .before .before .search-blocks .kept .1 .1 .1 .1 .1 .1 .1 .1 .1 .1 .1 .1 .0) }
 
 same-length : tie.Need-same-length
 same-length c = search needs

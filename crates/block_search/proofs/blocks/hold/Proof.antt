@@ -15,10 +15,10 @@ use Rattle.block_search.specs.Blocks.{held}
 use Rattle.block_search.specs.Contracts.{movedBy}
 
 abbrev Inv-loop : tie.InvT-loop
-Inv-loop n inside list b states₀ i₀ states i = (i ≤ n) × (states ≡ over (tabulate (λ j. cond (movedBy inside list j) 2 (elem b j)) i) states₀) × (length states ≡ length states₀)
+Inv-loop n pinned whole list b states₀ i₀ states i = (i ≤ n) × (states ≡ over (tabulate (λ j. cond (movedBy pinned whole list j) 2 (elem b j)) i) states₀) × (length states ≡ length states₀)
 
 abbrev μ-loop : tie.MeasureT-loop
-μ-loop n inside list b states₀ i₀ states i = n - i
+μ-loop n pinned whole list b states₀ i₀ states i = n - i
 
 loop-holds : tie.Need-loop-holds Inv-loop μ-loop
 unfolding tabulate
@@ -37,14 +37,14 @@ loop-less : tie.Need-loop-less Inv-loop μ-loop
 loop-less c = search needs
 
 loop-again : tie.Need-loop-again Inv-loop μ-loop
-loop-again c = (omega arith, ap (λ (v : ℕ). set (c .before .before .loop .states) (c .before .before .loop .i) v) (c .state-of .ensures) ∙ tabulate-next (λ j. cond (movedBy (c .before .before .before .before .before .before .args .inside) (now (c .before .before .before .before .before .before .args .list)) j) 2 (elem (now (c .before .before .before .before .before .before .args .b)) j)) (c .before .before .loop .i) (now (c .before .before .before .before .before .before .args .states)) (c .before .before .loop .states) 0 (omega (arith, c .before .before .before .before .before .before .pre .1, c .before .loop-test .taken)) (c .before .before .loop .inv .1), search needs)
+loop-again c = (omega arith, ap (λ (v : ℕ). set (c .before .before .loop .states) (c .before .before .loop .i) v) (c .state-of .ensures) ∙ tabulate-next (λ j. cond (movedBy (now (c .before .before .before .before .before .before .before .args .pinned)) (c .before .before .before .before .before .before .before .args .whole) (now (c .before .before .before .before .before .before .before .args .list)) j) 2 (elem (now (c .before .before .before .before .before .before .before .args .b)) j)) (c .before .before .loop .i) (now (c .before .before .before .before .before .before .before .args .states)) (c .before .before .loop .states) 0 (omega (arith, c .before .before .before .before .before .before .before .pre .1, c .before .loop-test .taken)) (c .before .before .loop .inv .1), search needs)
 
 same-length : tie.Need-same-length Inv-loop μ-loop
 same-length c = search needs
 
 returns : tie.Need-returns Inv-loop μ-loop
 unfolding held
-returns c = let e : c .before .loop .i ≡ c .before .before .before .before .before .args .n = omega (arith, c .before .loop .inv .0, c .loop-test .left) in rw e at (c .before .loop .inv .1)
+returns c = let e : c .before .loop .i ≡ c .before .before .before .before .before .before .args .n = omega (arith, c .before .loop .inv .0, c .loop-test .left) in rw e at (c .before .loop .inv .1)
 
 pub hold-spec : {M : Type 1} → statement M
 hold-spec =
