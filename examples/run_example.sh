@@ -1,11 +1,15 @@
 #!/usr/bin/env bash
-# Links examples/example.c to the archive and runs it, then again under valgrind (status 77 where that is not there).
+# Links the hosts examples/example.c and examples/turns.c to the archive and runs them, then again under valgrind (status 77 where that is not there).
 set -eu
 cd "$(dirname "$0")/.."
 archive=$(tools/archive.sh)
 mkdir -p target/examples target/log
-gcc -std=c99 -O2 -g -Wall -Wextra -pedantic -Werror -Iinclude -o target/examples/example examples/example.c "$archive" -lpthread
-target/examples/example
+for host in example turns; do
+    gcc -std=c99 -O2 -g -Wall -Wextra -pedantic -Werror -Iinclude -o "target/examples/$host" "examples/$host.c" "$archive" -lpthread
+    "target/examples/$host"
+done
 command -v valgrind >/dev/null || { echo "no valgrind: not run under it"; exit 77; }
-valgrind --quiet --error-exitcode=1 --leak-check=full target/examples/example >target/log/valgrind-example.txt
+for host in example turns; do
+    valgrind --quiet --error-exitcode=1 --leak-check=full "target/examples/$host" >"target/log/valgrind-$host.txt"
+done
 echo "valgrind: nothing found"

@@ -35,7 +35,7 @@ extern "C" {
 // ---- sizes --------------------------------------------------------------------------------------
 
 enum {
-    WAGONPLAN_VERSION = 9, // of these declarations; `wagonplan_version` answers the archive's
+    WAGONPLAN_VERSION = 10, // of these declarations; `wagonplan_version` answers the archive's
 
     WAGONPLAN_JOB_MOST = 65536,         // bytes of a job record
     WAGONPLAN_WAGONS_MOST = 255,        // n; 127 in jobs of version 1 or 2
@@ -59,6 +59,10 @@ enum {
     WAGONPLAN_SETTING_WORDS = 8,
     WAGONPLAN_RESULT_WORDS = 11,
     WAGONPLAN_RANGED_WORDS = WAGONPLAN_RESULT_WORDS + 3, // words of a ranged result: three more than a result has
+    WAGONPLAN_RUNS_MOST = 8,      // runs that share a turn
+    WAGONPLAN_TURN_LEAST = 8,     // sweeps of a turn
+    WAGONPLAN_TURN_MOST = 10000,  //
+    WAGONPLAN_HALL_WORDS = 2,     // words of a hall's sizes, as the raw function takes them
 
     WAGONPLAN_STACK = 589824 // bytes of stack that a call may take
 };
@@ -82,7 +86,11 @@ enum wagonplan_sizes {
     WAGONPLAN_SIZE_RESULT_WORDS,
     WAGONPLAN_SIZE_SEARCH_WORKSPACE,
     WAGONPLAN_SIZE_SIGN_WORDS,
-    WAGONPLAN_SIZE_BLOCKS
+    WAGONPLAN_SIZE_BLOCKS,
+    WAGONPLAN_SIZE_RUNS,
+    WAGONPLAN_SIZE_TURN_LEAST,
+    WAGONPLAN_SIZE_TURN,
+    WAGONPLAN_SIZE_HALL_WORDS
 };
 
 // ---- slices and tables --------------------------------------------------------------------------
@@ -183,6 +191,18 @@ typedef struct {
     int64_t low, high, low_floor;
 } wagonplan_ranged_result;
 
+// The tables of up to WAGONPLAN_RUNS_MOST runs: n and count of each, and their entries and costs one after the other, with nothing between: those of a run
+// start behind those of the runs before it.
+typedef struct {
+    uint64_t n, count;
+} wagonplan_hall;
+typedef struct {
+    const wagonplan_hall *halls; // as many as there are runs
+    wagonplan_u16 rows, cols;
+    wagonplan_i64 values, c;
+} wagonplan_tables;
+
+typedef char wagonplan_hall_is_words[sizeof(wagonplan_hall) == 8 * WAGONPLAN_HALL_WORDS ? 1 : -1];
 typedef char wagonplan_run_is_words[sizeof(wagonplan_run) == 8 * WAGONPLAN_RUN_WORDS ? 1 : -1];
 typedef char wagonplan_settings_are_words[sizeof(wagonplan_settings) == 8 * WAGONPLAN_SETTING_WORDS ? 1 : -1];
 typedef char wagonplan_result_is_words[sizeof(wagonplan_result) == 8 * WAGONPLAN_RESULT_WORDS ? 1 : -1];
@@ -205,6 +225,8 @@ uint8_t wagonplan_raw_finish_ranged(const uint64_t *words, size_t, size_t n, siz
                                     const int64_t *low, size_t, const int64_t *high, size_t, const int64_t *low_c, size_t, const int64_t *high_c, size_t,
                                     size_t width, size_t draw_count, const double *draws, size_t, const double *factor, size_t, uint8_t *b, size_t,
                                     double *dual_variables, size_t, uint64_t *workspace, size_t, uint64_t *result, size_t);
+uint8_t wagonplan_raw_turn(size_t run_count, uint64_t *words, size_t, const uint64_t *sizes, size_t, uint32_t sweeps, const uint16_t *rows, size_t,
+                           const uint16_t *cols, size_t, const int64_t *values, size_t, const int64_t *c, size_t, double *factors, size_t);
 uint8_t wagonplan_raw_beam_search(size_t m, size_t count, const uint16_t *rows, size_t, const uint16_t *cols, size_t, const int64_t *values, size_t,
                                   size_t width, const uint8_t *start, size_t, uint8_t *out, size_t, uint64_t *workspace, size_t, int64_t *objective,
                                   uint64_t *rounds);
@@ -277,7 +299,10 @@ static inline int wagonplan_fits(void) {
            && wagonplan_size(WAGONPLAN_SIZE_REDUCED) == WAGONPLAN_REDUCED_MOST && wagonplan_size(WAGONPLAN_SIZE_RUN_WORDS) == WAGONPLAN_RUN_WORDS
            && wagonplan_size(WAGONPLAN_SIZE_SETTING_WORDS) == WAGONPLAN_SETTING_WORDS
            && wagonplan_size(WAGONPLAN_SIZE_RESULT_WORDS) == WAGONPLAN_RESULT_WORDS && wagonplan_size(WAGONPLAN_SIZE_SIGN_WORDS) == WAGONPLAN_SIGN_WORDS
-           && wagonplan_size(WAGONPLAN_SIZE_SEARCH_WORKSPACE) == WAGONPLAN_SEARCH_WORKSPACE && wagonplan_size(WAGONPLAN_SIZE_BLOCKS) == WAGONPLAN_BLOCKS_MOST;
+           && wagonplan_size(WAGONPLAN_SIZE_SEARCH_WORKSPACE) == WAGONPLAN_SEARCH_WORKSPACE && wagonplan_size(WAGONPLAN_SIZE_BLOCKS) == WAGONPLAN_BLOCKS_MOST
+           && wagonplan_size(WAGONPLAN_SIZE_RUNS) == WAGONPLAN_RUNS_MOST
+           && wagonplan_size(WAGONPLAN_SIZE_TURN_LEAST) == WAGONPLAN_TURN_LEAST && wagonplan_size(WAGONPLAN_SIZE_TURN) == WAGONPLAN_TURN_MOST
+           && wagonplan_size(WAGONPLAN_SIZE_HALL_WORDS) == WAGONPLAN_HALL_WORDS;
 }
 
 // A job record. Numbers are big-endian, doubles are their bits; m is one more than the free wagons, which are n less the pins; r is the rank (see below).
@@ -352,6 +377,22 @@ static inline uint8_t wagonplan_sweep(wagonplan_run *run, const wagonplan_table 
     number = wagonplan_raw_sweep(words, WAGONPLAN_RUN_WORDS, t->n, t->count, t->rows.at, t->rows.len, t->cols.at, t->cols.len, t->values.at, t->values.len,
                                  t->c.at, t->c.len, k, factor.at, factor.len);
     if (number == 0) memcpy(run, words, sizeof words);
+    return wagonplan_leave(mode, number);
+}
+
+// A turn of so many sweeps, 8 to 10,000, that up to eight runs share, each over its own table; their factors lie one after the other, as the tables do. With a
+// runs not stopped each of them gets sweeps / a, the first sweeps % a of them one more; what a run doesn't use lapses. 25, then 26, then the first run that its
+// own number (31, 33, 13 to 16, 18) refuses turns the whole turn down, and no run moves. `runs` and `t->halls` have run_count elements, up to eight.
+static inline uint8_t wagonplan_turn(const wagonplan_tables *t, size_t run_count, wagonplan_run *runs, uint32_t sweeps, wagonplan_f64_mut factors) {
+    uint64_t words[WAGONPLAN_RUNS_MOST * WAGONPLAN_RUN_WORDS] = {0}, sizes[WAGONPLAN_RUNS_MOST * WAGONPLAN_HALL_WORDS] = {0};
+    size_t held = run_count <= WAGONPLAN_RUNS_MOST ? run_count : 0;
+    unsigned mode = wagonplan_enter();
+    uint8_t number;
+    if (held) memcpy(words, runs, held * sizeof *runs);
+    if (held) memcpy(sizes, t->halls, held * sizeof *t->halls);
+    number = wagonplan_raw_turn(run_count, words, held * WAGONPLAN_RUN_WORDS, sizes, held * WAGONPLAN_HALL_WORDS, sweeps, t->rows.at, t->rows.len, t->cols.at,
+                                t->cols.len, t->values.at, t->values.len, t->c.at, t->c.len, factors.at, factors.len);
+    if (number == 0) memcpy(runs, words, held * sizeof *runs);
     return wagonplan_leave(mode, number);
 }
 
@@ -582,6 +623,8 @@ static inline const char *wagonplan_sentence(uint8_t number) {
     case 22: return "A byte of the present choice is above 1, there are more than 16 blocks, or a wagon is out of range or twice within a block.";
     case 23: return "The low end of a range is above its high end.";
     case 24: return "There are more than 16 wagons, too many to walk every choice.";
+    case 25: return "A turn has fewer than 8 sweeps, or more than 10,000.";
+    case 26: return "A turn has no run, or more than 8.";
     case 31: return "A lent slice is too short.";
     case 32: return "The stage is wrong: a sweep when stopped, or a finish before.";
     case 33: return "The run record contradicts itself or the table.";

@@ -530,6 +530,23 @@ def finished(run, n, entries, c, width, draws):
     }
 
 
+# ---- a turn of several runs (02, Note 11) ------------------------------------------------------
+
+
+def shares(sweeps, opens):
+    """"With a runs not stopped .. each gets S div a, and the first S mod a of them, by number, one more"; a stopped run gets none."""
+    a, out, before = sum(opens), [], 0
+    for is_open in opens:
+        out.append(sweeps // a + (before < sweeps % a) if is_open else 0)
+        before += is_open
+    return out
+
+
+def turn_number(sweeps, count, numbers):
+    """"25, S out of range, before 26. 26, no run or more than 8 ..; then the first run that its own number .. refuses"; `numbers` are the runs' own."""
+    return first((25, lambda: not 8 <= sweeps <= 10000), (26, lambda: not 1 <= count <= 8), *[(k, lambda: True) for k in numbers if k])
+
+
 # ---- numbers --------------------------------------------------------------------------------
 
 

@@ -20,8 +20,9 @@ static _Noreturn void give_up(const char *why);
 
 // Kinds. In a line stand: of `n` a word; of slices that are read (b, h, i, d, c: bytes, 16 bits, whole numbers, doubles, words; j, k: bytes and 16 bits whose
 // length is part of what is asked) the slice; of those that are lent to be written (B, H, I, D, C, W the workspace of a job, w that of a search, A the answer record)
-// the length; of the factor (F, f where it is only read) the length; of settings (S) eight words. The run (R, r) is the one that the last line left. Given back
-// are B, H, I, D, C, A, F, R, the words `v` and `e` (a double), and U, the result, or V, a ranged one.
+// the length; of the factor (F, f where it is only read) the length; of settings (S) eight words. The run (R, r) is the one that the last line left. Of the runs
+// that share a turn (P) and their factors (G) the length stands in a line, what they hold is what the last left; of the sizes of their tables (Z) the slice. Given
+// back are B, H, I, D, C, A, F, R, P, G, the words `v` and `e` (a double), and U, the result, or V, a ranged one.
 typedef struct {
     char kind;
     size_t length;           // elements that are lent
@@ -43,8 +44,8 @@ typedef struct {
 
 static int is_one_of(char kind, const char *kinds) { return strchr(kinds, kind) != NULL; }
 static size_t element(char kind) { return is_one_of(kind, "bjBAW") ? 1 : is_one_of(kind, "hkH") ? 2 : 8; }
-static int is_written(char kind) { return is_one_of(kind, "BHIDCAFRveUV"); }
-static int grows(char kind) { return is_one_of(kind, "bhidcBHIDCWwAFfRrSUV"); } // words only as raw functions take them
+static int is_written(char kind) { return is_one_of(kind, "BHIDCAFRPGveUV"); }
+static int grows(char kind) { return is_one_of(kind, "bhidcBHIDCWwAFfRrSUVPGZ"); } // words only as raw functions take them
 
 // ---- the calls --------------------------------------------------------------------------------------
 
@@ -129,6 +130,19 @@ static uint8_t raw_finish_ranged(Argument *a) {
                                        place(a + 12), a[12].lent, place(a + 13), a[13].lent, place(a + 14), a[14].lent, place(a + 15), a[15].lent,
                                        place(a + 16), a[16].lent);
 }
+static wagonplan_tables tables(const Argument *a) {
+    wagonplan_tables t = {(const wagonplan_hall *)(const void *)a->at, u16(a + 1), u16(a + 2), i64(a + 3), i64(a + 4)};
+    return t;
+}
+static uint8_t turn(Argument *a) {
+    wagonplan_tables t = tables(a);
+    return wagonplan_turn(&t, number(a + 5), place(a + 6), (uint32_t)number(a + 7), f64_mut(a + 8));
+}
+static uint8_t raw_turn(Argument *a) {
+    wagonplan_tables t = tables(a);
+    return wagonplan_raw_turn(number(a + 5), place(a + 6), a[6].lent, place(a), a->lent, (uint32_t)number(a + 7), t.rows.at, t.rows.len, t.cols.at, t.cols.len,
+                              t.values.at, t.values.len, t.c.at, t.c.len, place(a + 8), a[8].lent);
+}
 static uint8_t beam_search(Argument *a) {
     wagonplan_sign_table t = sign_table(a);
     return wagonplan_beam_search(&t, number(a + 5), u8(a + 6), u8_mut(a + 7), u64_mut(a + 8), place(a + 9), place(a + 10));
@@ -192,14 +206,15 @@ static uint8_t double_from(Argument *a) { return give_double(a + 1, wagonplan_do
 static uint8_t bits_from(Argument *a) { return give_word(a + 1, wagonplan_bits_of(double_of(a))); }
 static uint8_t default_sdp_rank(Argument *a) { return give_word(a + 1, wagonplan_default_sdp_rank((uint16_t)number(a))); }
 
-// Kinds in the order of the header's wrapper; T is a table (n, count, rows, columns, values, c), G a ranged one (n, count, rows, columns, low, high, low c, high c), Q a sign
-// table (m, count, rows, columns, values).
+// Kinds in the order of the header's wrapper; T is a table (n, count, rows, columns, values, c), L a ranged one (n, count, rows, columns, low, high, low c, high c), Q a sign
+// table (m, count, rows, columns, values), M the tables of several runs (sizes, rows, columns, values, c).
 static const Call calls[] = {
     {"answer", "jWA", answer, 0},
     {"open", "TSdFR", open_run, raw_open},
     {"sweep", "RTnF", sweep, raw_sweep},
     {"finish", "rTnndfBDwU", finish, raw_finish},
-    {"finish_ranged", "rGnndfBDwV", finish_ranged, raw_finish_ranged},
+    {"finish_ranged", "rLnndfBDwV", finish_ranged, raw_finish_ranged},
+    {"turn", "MnPnG", turn, raw_turn},
     {"beam_search", "QnbBwvv", beam_search, 0},
     {"compute_rounded_sol", "QndndBv", compute_rounded_sol, 0},
     {"dual_variables", "QndD", dual_variables, 0},
@@ -244,6 +259,13 @@ static size_t argument_count;
 static uint64_t run[WAGONPLAN_RUN_WORDS];
 static uint64_t *factor;
 static size_t factor_count;
+
+// The runs that share turns, and their factors, as the last line left them.
+typedef struct {
+    uint64_t *at;
+    size_t count;
+} Kept;
+static Kept runs, factors;
 
 static _Noreturn void give_up(const char *why) {
     fprintf(stderr, "%s, line %zu: %s\n", list_name, line_at, why);
@@ -313,7 +335,7 @@ static const uint64_t *read_slice(Words *w, char kind, size_t *count) {
 static Argument read_argument(Words *w, char kind) {
     Argument a = {.kind = kind};
     if (kind == 'n') a.words = read_words(w, 1);
-    else if (is_one_of(kind, "bjhkidc")) a.words = read_slice(w, kind, &a.length), a.known = a.length;
+    else if (is_one_of(kind, "bjhkidcZ")) a.words = read_slice(w, kind, &a.length), a.known = a.length;
     else if (kind == 'S') a.words = read_words(w, WAGONPLAN_SETTING_WORDS), a.length = a.known = WAGONPLAN_SETTING_WORDS;
     else if (is_one_of(kind, "Rr")) a.words = run, a.length = a.known = WAGONPLAN_RUN_WORDS;
     else if (is_one_of(kind, "ve")) a.length = 1;
@@ -321,6 +343,8 @@ static Argument read_argument(Words *w, char kind) {
     else if (kind == 'V') a.length = WAGONPLAN_RANGED_WORDS;
     else a.length = word();
     if (is_one_of(kind, "Ff")) a.words = factor, a.known = factor_count < a.length ? factor_count : a.length;
+    if (kind == 'P') a.words = runs.at, a.known = runs.count < a.length ? runs.count : a.length;
+    if (kind == 'G') a.words = factors.at, a.known = factors.count < a.length ? factors.count : a.length;
     return a;
 }
 
@@ -340,8 +364,9 @@ static void read_arguments(const char *kinds) {
     argument_count = 0;
     for (; *kinds; kinds++) {
         if (*kinds == 'T') read_group("nnhhii");
-        else if (*kinds == 'G') read_group("nnhhiiii");
+        else if (*kinds == 'L') read_group("nnhhiiii");
         else if (*kinds == 'Q') read_group("nnhhi");
+        else if (*kinds == 'M') read_group("Zhhii");
         else if (*kinds == 'j') read_group("j");
         else arguments[argument_count++] = read_argument(&line_words, *kinds);
     }
@@ -374,9 +399,10 @@ static uint64_t get(const Argument *a, size_t at) {
 
 // A refused call leaves any run and factor: there stand other doubles where none is judged.
 static int is_judged(const Argument *a, size_t at) {
-    if (is_one_of(a->kind, "Ff")) return 0;
-    if (a->kind != 'R') return 1;
-    return !(5 <= at && at <= 7) && !(at == 3 && a->words[2] < 3);
+    if (is_one_of(a->kind, "FfG")) return 0;
+    if (!is_one_of(a->kind, "RP")) return 1;
+    size_t field = at % WAGONPLAN_RUN_WORDS;
+    return !(5 <= field && field <= 7) && !(field == 3 && a->words[at - 1] < 3);
 }
 
 static void make(Argument *a, int trial, size_t lent, size_t fill, int others) {
@@ -399,11 +425,12 @@ static int is_nan(uint64_t bits) { return bits << 1 > (uint64_t)0x7FF << 53; }
 
 // The doubles of run, result and answer record: zeros of either sign are equal, a NaN is 7FF8000000000000. Elsewhere all NaNs are equal too.
 static int same_double(char kind, uint64_t got, uint64_t wanted) {
-    return got == wanted || (is_zero(got) && is_zero(wanted)) || (is_one_of(kind, "DFe") && is_nan(got) && is_nan(wanted));
+    return got == wanted || (is_zero(got) && is_zero(wanted)) || (is_one_of(kind, "DFGe") && is_nan(got) && is_nan(wanted));
 }
 
 static int holds_double(char kind, size_t at) {
-    return is_one_of(kind, "DFe") || (kind == 'R' && (at == 3 || (5 <= at && at <= 7))) || (is_one_of(kind, "UV") && (at == 4 || at == 5));
+    if (kind == 'P') kind = 'R', at %= WAGONPLAN_RUN_WORDS;
+    return is_one_of(kind, "DFGe") || (kind == 'R' && (at == 3 || (5 <= at && at <= 7))) || (is_one_of(kind, "UV") && (at == 4 || at == 5));
 }
 
 // Whether the eight bytes from here are a double of the answer record, zero in both.
@@ -516,23 +543,29 @@ static void free_memory(void) {
     for (size_t k = 0; k < argument_count; k++) free(arguments[k].block), free(arguments[k].before);
 }
 
-// Run and factor go on as the call left them, or, where it differed, as they should be.
+// Runs and factors go on as the call left them, or, where it differed, as they should be.
 static void go_on(const Argument *a, int bad) {
-    if (a->count == 0 || !is_one_of(a->kind, "RF")) return;
+    if (a->count == 0 || !is_one_of(a->kind, "RFPG")) return;
+    if (is_one_of(a->kind, "PG")) {
+        Kept *kept = a->kind == 'P' ? &runs : &factors;
+        for (size_t k = 0; k < a->count && k < kept->count; k++) kept->at[k] = bad ? a->wanted[k] : get(a, k);
+        return;
+    }
     uint64_t *to = a->kind == 'R' ? run : (factor = realloc(factor, 8 * a->count));
     if (!to) give_up("no memory");
     for (size_t k = 0; k < a->count; k++) to[k] = bad ? a->wanted[k] : get(a, k);
     if (a->kind == 'F') factor_count = a->count;
 }
 
-static int with_a_word_short(const Call *call) {
+// What is lent a word too short is 31; before it come the two numbers that a turn is judged by first.
+static int with_a_word_short(const Call *call, uint8_t wanted) {
     Argument kept[ARGUMENTS];
     int bad = 0;
     memcpy(kept, arguments, sizeof kept);
     for (size_t k = 0; k < argument_count; k++) arguments[k].count = 0;
     for (size_t k = 0; k < argument_count; k++) {
-        if (!is_one_of(arguments[k].kind, "RrSUV")) continue;
-        bad |= tried(call, A_WORD_SHORT, 31, k);
+        if (!is_one_of(arguments[k].kind, "RrSUVPZ") || arguments[k].length == 0) continue;
+        bad |= tried(call, A_WORD_SHORT, wanted == 25 || wanted == 26 ? wanted : 31, k);
         free_memory();
     }
     memcpy(arguments, kept, sizeof kept);
@@ -544,7 +577,7 @@ static int replayed(const Call *call, uint8_t wanted) {
     if (!on_stack) {
         for (odd_mode = 0; odd_mode < ODD_MODES; odd_mode++) bad |= tried(call, GUARDED, wanted, ARGUMENTS), free_memory();
         if (wanted != 31 && wanted != 24) bad |= tried(call, LONGER, wanted, ARGUMENTS), free_memory();
-        if (call->raw) bad |= with_a_word_short(call);
+        if (call->raw) bad |= with_a_word_short(call, wanted);
     }
     bad |= tried(call, AS_STORED, wanted, ARGUMENTS);
     for (size_t k = 0; k < argument_count; k++) go_on(arguments + k, bad);
@@ -573,12 +606,21 @@ static void set_run(void) {
     factor_count = count;
 }
 
+static void keep(Kept *kept) {
+    const uint64_t *words = read_slice(&line_words, 'F', &kept->count);
+    free(kept->at);
+    kept->at = block_of(8 * kept->count);
+    memcpy(kept->at, words, 8 * kept->count);
+}
+
 static void replay_line(const char *line) {
     size_t length = strcspn(line, " ");
     room_for_line(&line_words);
     text = line + length;
     if (length == 3 && !memcmp(line, "run", 3)) {
         set_run();
+    } else if (length == 4 && !memcmp(line, "runs", 4)) {
+        keep(&runs), keep(&factors); // what the next turn goes on with
     } else {
         const Call *call = named(line, length);
         read_arguments(call->kinds);
@@ -597,10 +639,10 @@ static int begins(const char *line, const char *name) { return !strncmp(line, na
 
 // Passes over a line that is too long, or that goes on with one that was: by its table or job, or by the run.
 static int passed_over(const char *line, size_t longest) {
-    int leans = strstr(line, " ~ ") != 0, of_run = begins(line, "sweep ") || begins(line, "finish");
+    int leans = strstr(line, " ~ ") != 0, of_run = begins(line, "sweep ") || begins(line, "finish") || begins(line, "turn ");
     int passed = longest < line_length || (lost && leans) || (lost_run && of_run);
     if (passed && !leans) lost = 1;
-    if (begins(line, "open ") || begins(line, "run ")) lost_run = passed;
+    if (begins(line, "open ") || begins(line, "run ") || begins(line, "runs ")) lost_run = passed;
     else if (passed && of_run) lost_run = 1;
     return passed;
 }
@@ -654,6 +696,6 @@ int main(int argc, char **argv) {
         fclose(list);
     }
     print_counts();
-    free(line_words.at), free(group_words.at), free(factor), free(stack);
+    free(line_words.at), free(group_words.at), free(factor), free(runs.at), free(factors.at), free(stack);
     return made == 0 || differences != 0;
 }

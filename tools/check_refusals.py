@@ -9,7 +9,7 @@ the same, or:
 
 - it doesn't use it up to the last `return`, so that a refusal that is returned there finds it as it was;
 - behind that there is no branch and the answer is an accepted one, so that no other refusal is given;
-- there it is written through parts `&mut slice[..end]`, by the call or by the function that it hands the whole slice on to.
+- there it is written through parts `&mut slice[..end]` or `&mut slice[start..end]`, by the call or by the function that it hands the whole slice on to.
 
 It tries itself too: each call with a statement put at its start that touches the slice must be found at fault.
 """
@@ -21,7 +21,7 @@ import sys
 
 TOP = sys.argv[1] if len(sys.argv) > 1 else os.path.join(os.path.dirname(os.path.abspath(__file__)), "..")
 # These must be among the calls that are found.
-KNOWN = {"open", "sweep_run", "sweep", "finish", "finish_ranged", "dual_variables", "lift_solution"}
+KNOWN = {"open", "sweep_run", "sweep", "turn", "finish", "finish_ranged", "dual_variables", "lift_solution"}
 TAMPERED = ["{0}[0] = {0}[0];", "clear(&mut *{0});", "clear(&mut {0}[..1]);", "let other = {0};", "clear({0});"]
 LENT = "&mut [f64]"
 
@@ -116,7 +116,7 @@ def kind_of(body, at, name):
     before, after = body[:at], body[at + len(name) :]
     if after.startswith(".len()"):
         return "length"
-    if re.search(r"&mut $", before) and re.match(r"\[\.\.\w+\]", after):
+    if re.search(r"&mut $", before) and re.match(r"\[\w*\.\.\w+\]", after):
         return "part"
     if re.search(r"(?<!&)& *$", before) and after.startswith("["):
         return "read"
@@ -199,7 +199,7 @@ def answer_faults(f):
 
 
 def tail_faults(functions, f, name, start=0):
-    """What an accepted function does with a slice beside lending parts from its start."""
+    """What an accepted function does with a slice beside lending parts with an end."""
     found = []
     for at in uses_of(f.body, name):
         kind = kind_of(f.body, at, name) if at >= start else "length"
@@ -210,7 +210,7 @@ def tail_faults(functions, f, name, start=0):
             elif lent_as == LENT:
                 found += tail_faults(functions, callee, inner)
         elif kind == "other":
-            found.append(f.fault(at, f"uses {name} otherwise than by a part from its start"))
+            found.append(f.fault(at, f"uses {name} otherwise than by a part with an end"))
     return found
 
 

@@ -4,7 +4,7 @@
   tests/make/all.py                      writes tests/lists/*.txt
   tests/make/all.py --check              compares them with what is stored, and writes nothing
   tests/make/all.py KIND COUNT SEED      prints seeded lines instead: KIND is `ranks` (COUNT tables at every rank and rule), `jobs`, `pins` (jobs of version 2), `larger` (of version 3),
-                                         `runs`, `larger-calls` (calls and scripts on 129 to 256 signs), `reduced`, `blocks`, `divided`, `ranged` (finishes over ranges) or `walk` (houses walked in full, float bounds)
+                                         `runs`, `larger-calls` (calls and scripts on 129 to 256 signs), `reduced`, `blocks`, `divided`, `ranged` (finishes over ranges), `walk` (houses walked in full, float bounds) or `turns` (lists of turns)
 
 The same COUNT and SEED give the same lines.
 """
@@ -30,6 +30,7 @@ import standing  # noqa: E402
 import steps  # noqa: E402
 import tables  # noqa: E402
 import walk  # noqa: E402
+import turns  # noqa: E402
 import words  # noqa: E402
 from lists import PROGRAM, TOP, Lines  # noqa: E402
 
@@ -49,9 +50,9 @@ def add_tables(lines):
 
 
 LISTS = {"tables": add_tables, "factors": factors.add, "steps": steps.add, "standing": standing.add, "edges": edges.add, "runs": runs.add, "jobs": jobs.add, "pins": pins.add, "larger": larger.add, "words": words.add,
-         "blocks": blocks.add, "divided": divided.add, "ranged": ranged.add, "walk": walk.add}
+         "blocks": blocks.add, "divided": divided.add, "ranged": ranged.add, "walk": walk.add, "turns": turns.add}
 SEEDED = {"ranks": steps.seeded, "jobs": random_jobs.seeded, "pins": random_jobs.seeded_pins, "larger": random_jobs.seeded_larger, "runs": runs.seeded,
-          "larger-calls": larger.seeded_calls, "reduced": reduced.seeded, "blocks": blocks.seeded, "divided": divided.seeded, "ranged": ranged.seeded, "walk": walk.seeded}
+          "larger-calls": larger.seeded_calls, "reduced": reduced.seeded, "blocks": blocks.seeded, "divided": divided.seeded, "ranged": ranged.seeded, "walk": walk.seeded, "turns": turns.seeded}
 
 
 def stored(check):

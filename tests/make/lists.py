@@ -42,6 +42,10 @@ class Lines:
         """Sets run and factor, whatever they say."""
         self.out.append(" ".join(["run", *map(item, record), item(factor)]))
 
+    def runs(self, records, factors):
+        """Sets the runs that share turns, and their factors."""
+        self.out.append(" ".join(["runs", item(records), item(factors)]))
+
     def text(self):
         return "".join(line + "\n" for line in self.out)
 

@@ -5,3 +5,4 @@ pub mod RangedRunning
 pub mod Asked
 pub mod Enough
 pub mod OnWords
+pub mod Turning

@@ -25,7 +25,7 @@ use Rattle.exports.specs.WordChain.{GivenWords, SeenWords, wordsSeen, wo
 at-least : (least n : ℕ) → (n < least → ⊥) → least ≤ n
 at-least least n h = omega arith
 
-length-words : (run : Run) → length (wordsOf run) ≡ runWords
+pub length-words : (run : Run) → length (wordsOf run) ≡ runWords
 unfolding wordsOf
 length-words run = refl
 

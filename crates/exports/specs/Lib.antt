@@ -3,3 +3,4 @@ pub mod Answers
 pub mod RangedWords
 pub mod Sizes
 pub mod WordChain
+pub mod TurnWords

@@ -2,12 +2,13 @@
 use Prim.Native.Nat.{ℕ}
 use mathlib.Core.List.{List, [], _∷_}
 use Rattle.laws.specs.Lists.{elem}
-use Rattle.limits.specs.Limits.{mostWagons, mostEntries, mostSigns, mostSignEntries, mostRank, mostWidth, mostDraws, mostStart, searchWorkspace, recordWorkspace, mostBytes, leastAnswer, mostSize, mostBlocks}
+use Rattle.limits.specs.Limits.{mostWagons, mostEntries, mostSigns, mostSignEntries, mostRank, mostWidth, mostDraws, mostStart, searchWorkspace, recordWorkspace, mostBytes, leastAnswer, mostSize, mostBlocks, mostRuns, leastTurn, mostTurn}
 use Rattle.sign_words.specs.Size.{signWords}
 use Rattle.exports.specs.Words.{runWords, settingWords, resultWords}
+use Rattle.exports.specs.TurnWords.{hallWords}
 
 abbrev pub callsVersion : ℕ
-callsVersion = 9
+callsVersion = 10
 
 -- in the order of `enum wagonplan_sizes` of include/wagonplan.h
 abbrev pub sizes : List ℕ
@@ -30,6 +31,10 @@ sizes =
     ∷ searchWorkspace
     ∷ signWords mostSigns
     ∷ mostBlocks
+    ∷ mostRuns
+    ∷ leastTurn
+    ∷ mostTurn
+    ∷ hallWords
     ∷ []
 
 -- 0 where there is no such size

@@ -11,4 +11,5 @@ pub mod run; // run.rt: open, sweep, finish
 pub mod search; // search.rt: the search
 pub mod small; // small.rt: small houses in full
 pub mod table; // table.rt: the calls on tables
+pub mod turns; // turns.rt: the turn that several runs share
 mod words; // words.rt: run record, settings and result as words

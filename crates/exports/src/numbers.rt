@@ -1,17 +1,21 @@
 // Root, eighths, bits and default rank, which refuse nothing; the version of the calls, and the sizes.
+use crate::turns::HALL_WORDS;
 use crate::words::RESULT_WORDS;
 use crate::words::RUN_WORDS;
 use crate::words::SETTING_WORDS;
 use limits::LEAST_ANSWER;
+use limits::LEAST_TURN;
 use limits::MOST_BLOCKS;
 use limits::MOST_BYTES;
 use limits::MOST_DRAWS;
 use limits::MOST_ENTRIES;
 use limits::MOST_RANK;
+use limits::MOST_RUNS;
 use limits::MOST_SIGN_ENTRIES;
 use limits::MOST_SIGNS;
 use limits::MOST_SIZE;
 use limits::MOST_START;
+use limits::MOST_TURN;
 use limits::MOST_WAGONS;
 use limits::MOST_WIDTH;
 use limits::MOST_WORDS;
@@ -64,7 +68,7 @@ pub extern "C" fn wagonplan_raw_default_sdp_rank(m: u16) -> u16
 pub extern "C" fn wagonplan_raw_version() -> u32
     ensures { λ r. ⌜ r ≡ callsVersion ⌝ }
 {
-    9
+    10
 }
 
 // The size that is asked for, 0 where there is none.
@@ -72,7 +76,7 @@ pub extern "C" fn wagonplan_raw_version() -> u32
 pub extern "C" fn wagonplan_raw_size(which: u32) -> usize
     ensures { λ r. ⌜ r ≡ sizeOf which ⌝ }
 {
-    let sizes: [usize; 18] = [
+    let sizes: [usize; 22] = [
         MOST_BYTES,
         MOST_WAGONS,
         MOST_ENTRIES,
@@ -91,8 +95,12 @@ pub extern "C" fn wagonplan_raw_size(which: u32) -> usize
         SEARCH_WORKSPACE,
         MOST_WORDS,
         MOST_BLOCKS,
+        MOST_RUNS,
+        LEAST_TURN as usize,
+        MOST_TURN as usize,
+        HALL_WORDS,
     ];
-    if which < 18 {
+    if which < 22 {
         return sizes[which as usize];
     }
     0

@@ -16,7 +16,7 @@ use Rattle.tables.proofs.Checks.{hall-accepted}
 use Rattle.run_record.specs.declared.Run.{Run}
 use Rattle.run_record.specs.CostTable.{CostTable, quadratic, linear}
 use Rattle.run_limits.specs.Start.{isSigns, drawsFollow, startCount, startLength}
-use Rattle.run_record.specs.Numbers.{tableShort, factorRefused, factorShort, recordRefused, sweepShort, sweepNumber, drawsRefused, drawsShort, choiceShort, FinishLengths, finishShort, widthRefused, finishNumber, openRankRefused, startShort, openFactorShort, openShort, openNumber, ruleRefused}
+use Rattle.run_record.specs.Numbers.{tableShort, factorRefused, factorShort, recordRefused, costTableNumber, sweepShort, sweepNumber, memberNumber, drawsRefused, drawsShort, choiceShort, FinishLengths, finishShort, widthRefused, finishNumber, openRankRefused, startShort, openFactorShort, openShort, openNumber, ruleRefused}
 use Rattle.run_record.proofs.Short.{tested}
 use Rattle.run_record.proofs.Holds.{table-lent, costs-lent}
 use Rattle.run_limits.proofs.Ranks.{meant-low, meant-some}
@@ -124,13 +124,11 @@ pub record Sweeping (run : Run) (t : CostTable) (factor : ℕ) : Type 0 where
   pub factor-room : used run ≤ factor
 
 module _ (run : Run) (t : CostTable) (factor : ℕ) where
-  pub sweep-accepted : sweepNumber run t factor ≡ 0 → Sweeping run t factor
-  unfolding sweepNumber sweepShort
-  sweep-accepted ok =
-      let s = clear (sweepShort run t factor) 30 (first-head _ _ ok) in
-      let past = first-rest _ _ (first-rest _ _ ok) in
-      let a = agrees run (t .n) (clear (recordRefused run (t .n)) 32 (first-head _ _ past)) in
-      let hall : HallOf t = hall-accepted (first-head _ _ (first-rest _ _ past)) in
+  fit : sweepShort run t factor ≡ false → recordRefused run (t .n) ≡ false → costTableNumber t ≡ 0 → Sweeping run t factor
+  unfolding sweepShort
+  fit s r h =
+      let a = agrees run (t .n) r in
+      let hall : HallOf t = hall-accepted h in
       let table : tableShort t ≡ false = any-head _ _ s in
       record {
         slices = table-lent t table (hall .entries);
@@ -142,6 +140,19 @@ module _ (run : Run) (t : CostTable) (factor : ℕ) where
         running = a .runs;
         factor-room = factor-long run t factor hall a (any-head _ _ (any-rest _ _ s));
       }
+
+  pub sweep-accepted : sweepNumber run t factor ≡ 0 → Sweeping run t factor
+  unfolding sweepNumber
+  sweep-accepted ok =
+      let past = first-rest _ _ (first-rest _ _ ok) in
+      fit (clear (sweepShort run t factor) 30 (first-head _ _ ok)) (clear (recordRefused run (t .n)) 32 (first-head _ _ past)) (first-head _ _ (first-rest _ _ past))
+
+  -- a run among several, stopped or not, is as fit
+  pub member-accepted : memberNumber run t factor ≡ 0 → Sweeping run t factor
+  unfolding memberNumber
+  member-accepted ok =
+      let past = first-rest _ _ ok in
+      fit (clear (sweepShort run t factor) 30 (first-head _ _ ok)) (clear (recordRefused run (t .n)) 32 (first-head _ _ past)) (first-head _ _ (first-rest _ _ past))
 
 -- ---- finish
 

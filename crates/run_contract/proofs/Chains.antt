@@ -30,7 +30,7 @@ use Rattle.run_contract.proofs.Accepting.{HallOf, finish-accepted}
 use Rattle.run_contract.proofs.Bounded.{bounded}
 
 -- a slice of any length can be lent
-abbrev lentOf : List Float → ℕ → List Float
+abbrev pub lentOf : List Float → ℕ → List Float
 lentOf kept lent = take lent (kept ++ replicate lent nan)
 
 lent-sized : (kept : List Float) (lent : ℕ) → length (lentOf kept lent) ≡ lent
@@ -44,7 +44,7 @@ lent-same false kept lent e =
     let more : length kept ≤ lent = omega (arith, leb-false lent (length kept) e) in
     take-take (length kept) lent (kept ++ replicate lent nan) more ∙ take-at kept (replicate lent nan) (length kept) refl ∙ sym (take-all lent kept more)
 
-lends : (kept : List Float) (lent : ℕ) → Lends kept lent (lentOf kept lent)
+pub lends : (kept : List Float) (lent : ℕ) → Lends kept lent (lentOf kept lent)
 lends kept lent = record { sized = lent-sized kept lent; same = lent-same (leb lent (length kept)) kept lent refl }
 
 -- a sweep has an outcome

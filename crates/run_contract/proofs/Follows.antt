@@ -104,7 +104,7 @@ sweeps-follow (suc k) w p =
     (ap (λ (s : State). sweepsUpTo k w (s .run) (s .factor)) (sym (turns w p)) ∙ sweeps-follow k w (turned w p))
 
 -- a sweeps and then b over one table are a + b: a run that has stopped stays
-stopped-stays : (b : ℕ) (w : Work) (p : Plain) → p .stage ≡ Stopped → plainSweeps b w p ≡ p
+pub stopped-stays : (b : ℕ) (w : Work) (p : Plain) → p .stage ≡ Stopped → plainSweeps b w p ≡ p
 unfolding plainSweeps
 stopped-stays zero w p e = refl
 stopped-stays (suc b) w p e = ap (λ (stage : Stage). ifOpen stage (plainSweeps b w (turned w p)) p) e

@@ -33,15 +33,15 @@ use Rattle.run_contract.proofs.Opening.{Whole, open-whole, plain-open}
 -- ---- kept and lent
 
 -- a lent slice that a call leaves as it was leaves the kept factor as it was
-kept-stays : (kept : List Float) (lent : ℕ) (factor : List Float) → Lends kept lent factor → keptAfter kept lent factor ≡ kept
+pub kept-stays : (kept : List Float) (lent : ℕ) (factor : List Float) → Lends kept lent factor → keptAfter kept lent factor ≡ kept
 kept-stays kept lent factor l = ap (λ (a : List Float). a ++ drop lent kept) (l .same) ∙ take-append-drop lent kept
 
 -- a lent slice that is long enough begins with the kept factor
-lent-whole : (kept : List Float) (lent : ℕ) (factor : List Float) → Lends kept lent factor → length kept ≤ lent → take (length kept) factor ≡ kept
+pub lent-whole : (kept : List Float) (lent : ℕ) (factor : List Float) → Lends kept lent factor → length kept ≤ lent → take (length kept) factor ≡ kept
 lent-whole kept lent factor l long = l .same ∙ take-all lent kept long
 
 -- and what is written there is kept
-kept-written : (kept : List Float) (lent : ℕ) (new factor : List Float) → length kept ≤ lent → length new ≡ length kept → keptAfter kept lent (over new factor) ≡ new
+pub kept-written : (kept : List Float) (lent : ℕ) (new factor : List Float) → length kept ≤ lent → length new ≡ length kept → keptAfter kept lent (over new factor) ≡ new
 kept-written kept lent new factor long same =
     ap (λ (a : List Float). a ++ drop lent kept) (take-at new (drop (length new) factor) (length kept) same) ∙ ap (λ (a : List Float). new ++ a) (drop-of-length-le kept long) ∙ append-nil new
 
@@ -51,10 +51,10 @@ lent-factor p lent factor w l room = rw w at (lent-whole (p .factor) lent factor
 
 -- ---- sweeps change neither the size nor the rank, nor the factor's length
 
-abbrev Keeps : Plain → Plain → Type 0
+abbrev pub Keeps : Plain → Plain → Type 0
 Keeps p q = (length (q .factor) ≡ length (p .factor)) × (q .size ≡ p .size) × (q .rank ≡ p .rank)
 
-whole-kept : (p q : Plain) → Keeps p q → Whole p → Whole q
+pub whole-kept : (p q : Plain) → Keeps p q → Whole p → Whole q
 whole-kept p q k w = k .0 ∙ w ∙ (cc)
 
 either : (b : Bool) → cond {A = Option Given} b none none ≡ none
@@ -67,7 +67,7 @@ keeps-turned w p =
     let e = turns w p in
     (ap (λ (s : State). length (s .factor)) e ∙ length-stepped (p .rule) _ _ _ _ (p .size) (p .rank) (p .factor), ap (λ (s : State). s .run .size) e, ap (λ (s : State). s .run .rank) e)
 
-keeps-sweeps : (k : ℕ) (w : Work) (p : Plain) → Keeps p (plainSweeps k w p)
+pub keeps-sweeps : (k : ℕ) (w : Work) (p : Plain) → Keeps p (plainSweeps k w p)
 unfolding plainSweeps
 keeps-sweeps zero w p = (refl, refl, refl)
 keeps-sweeps (suc k) w p =
@@ -179,7 +179,7 @@ module _ (p : Plain) (call : FinishCall) (factor : List Float) (b : List ℕ) (d
 -- ---- the list
 
 -- from any state of the plain run
-follows : {run : Run} {kept : List Float} {calls : List Call} {seen : List Seen} → Chain run kept calls seen
+pub follows : {run : Run} {kept : List Float} {calls : List Call} {seen : List Seen} → Chain run kept calls seen
     → (p : Plain) → Whole p → run ≡ recordOf p → kept ≡ p .factor → seen ≡ plainTrace p calls
 follows ends p w r f = refl
 follows (sweeps {call = call} {calls = calls} {seen = seen} factor number run′ factor′ lends says chain) p w r f =
@@ -199,7 +199,7 @@ follows (finishes {kept = kept} {call = call} {calls = calls} {seen = seen} fact
     ∙ ap (λ (x : Seen). x ∷ seen) (finish-seen p call factor b dual workspace answer b′ dual′ workspace′ w lends′ sized says′)
     ∙ ap (λ (xs : List Seen). plainSeen p (finish call) ∷ xs) (follows chain p w r f ∙ ap (λ (q : Plain). plainTrace q calls) stays)
 
-abbrev runOr : Run → Opened → Run
+abbrev pub runOr : Run → Opened → Run
 runOr other (O.Started run) = run
 runOr other (O.Refused number) = other
 

@@ -25,8 +25,8 @@ use Rattle.run_record.specs.declared.Stage.{Stage}
 use Rattle.run_record.specs.declared.Stage.the-variants.{Open, Stopped}
 use Rattle.run_record.specs.declared.Run.{Run}
 use Rattle.run_record.specs.CostTable.{CostTable, quadratic, linear}
-use Rattle.run_record.specs.Numbers.{isStopped, tableShort, factorRefused, factorShort, ownFaults, ownRefused, recordRefused, costTableNumber, badMomentum, sweepShort, sweepNumber, drawsRefused, drawsShort, choiceShort, FinishLengths, finishShort, widthRefused, finishNumber, openRankRefused, startShort, openFactorShort, openShort, ruleRefused, openNumber}
-use Rattle.run_record.specs.Conditions.{Clause, Answered, BadSize, wagons-above, entries-above, BadEntry, row-out, column-out, out-of-order, Unmirrored, TooLarge, tableClauses, BadRank, rank-high, rank-missing, Finite, Momentum, BadRule, rule-above, no-momentum, BadMomentum, BadDraws, width-above, draws-none, draws-above, OwnFault, rank-none, rank-above, sweeps-above, most-while-open, status-above, status-while-open, total-above, BadRecord, sizes-disagree, own-fault, TableTooShort, rows-short, cols-short, values-short, costs-short, FactorTooShort, DrawsTooShort, SweepTooShort, sweep-table, sweep-factor, FinishTooShort, finish-table, finish-draws, finish-factor, finish-b, finish-dual, finish-workspace, OpenTooShort, open-table, open-start, open-factor, openClauses, sweepClauses, finishClauses}
+use Rattle.run_record.specs.Numbers.{isStopped, tableShort, factorRefused, factorShort, ownFaults, ownRefused, recordRefused, costTableNumber, badMomentum, sweepShort, sweepNumber, memberNumber, drawsRefused, drawsShort, choiceShort, FinishLengths, finishShort, widthRefused, finishNumber, openRankRefused, startShort, openFactorShort, openShort, ruleRefused, openNumber}
+use Rattle.run_record.specs.Conditions.{Clause, Answered, BadSize, wagons-above, entries-above, BadEntry, row-out, column-out, out-of-order, Unmirrored, TooLarge, tableClauses, BadRank, rank-high, rank-missing, Finite, Momentum, BadRule, rule-above, no-momentum, BadMomentum, BadDraws, width-above, draws-none, draws-above, OwnFault, rank-none, rank-above, sweeps-above, most-while-open, status-above, status-while-open, total-above, BadRecord, sizes-disagree, own-fault, TableTooShort, rows-short, cols-short, values-short, costs-short, FactorTooShort, DrawsTooShort, SweepTooShort, sweep-table, sweep-factor, FinishTooShort, finish-table, finish-draws, finish-factor, finish-b, finish-dual, finish-workspace, OpenTooShort, open-table, open-start, open-factor, openClauses, sweepClauses, memberClauses, finishClauses}
 use Rattle.run_record.proofs.Deciding.{Decides, reads, stable, less, at-most, equal, neither, both, either, or-else, and-then, none-left, DecidesAny, reads-any, one-or, some-below, too-short, Follows, ends, then-if, flat, answered, of-number}
 
 -- ---- 13 to 16
@@ -460,6 +460,13 @@ sweep-answered run t factor =
     answered
     (then-if 30 (sweep-short-decided run t factor) (then-if 31 (stopped-decided (run .stage)) (then-if 32 (record-decided run (t .n))
     (table-then t (then-if 17 (record-momentum-decided (run .rule)) ends)))) .first-is) refl refl
+
+pub member-answered : (run : Run) (t : CostTable) (factor : ℕ) → Answered (memberNumber run t factor) (memberClauses run t factor)
+unfolding memberNumber
+member-answered run t factor =
+    answered
+    (then-if 30 (sweep-short-decided run t factor) (then-if 32 (record-decided run (t .n)) (table-then t (then-if 17 (record-momentum-decided (run .rule)) ends))) .first-is)
+    refl refl
 
 pub finish-answered : (run : Run) (t : CostTable) (width drawCount : ℕ) (lent : FinishLengths)
     → Answered (finishNumber run t width drawCount lent) (finishClauses run t width drawCount lent)

@@ -201,6 +201,10 @@ sweepClauses run t factor =
     ++ (18 when BadMomentum (run .rule)
     ∷ []))
 
+-- a run among several (02, Note 11): its stage is no matter
+abbrev pub memberClauses : Run → CostTable → ℕ → List Clause
+memberClauses run t factor = 31 when SweepTooShort run t factor ∷ 33 when BadRecord run (t .n) ∷ (tableClauses t ++ (18 when BadMomentum (run .rule) ∷ []))
+
 abbrev pub finishClauses : Run → CostTable → ℕ → ℕ → FinishLengths → List Clause
 finishClauses run t width drawCount lent =
     31 when FinishTooShort run t drawCount lent

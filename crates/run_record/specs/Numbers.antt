@@ -82,6 +82,10 @@ sweepNumber run t factor =
     ∷ 18 if badMomentum (run .rule)
     ∷ [])
 
+-- a run among several, as its turn judges it: a stopped run is judged like an open one
+unfoldable pub memberNumber : Run → CostTable → ℕ → ℕ
+memberNumber run t factor = first (31 if sweepShort run t factor ∷ 33 if recordRefused run (t .n) ∷ costTableNumber t ∷ 18 if badMomentum (run .rule) ∷ [])
+
 -- the finish call: draws rest on their count and on the record's rank, b and the multipliers on n
 unfoldable pub drawsRefused : ℕ → Bool
 drawsRefused draws = eqb draws 0 || ltb mostDraws draws

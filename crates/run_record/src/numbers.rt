@@ -5,7 +5,7 @@ ghost use Prim.Native.Nat.{_*_};
 ghost use lib.Dec.{ltb};
 ghost use Rattle.run_record.specs.CostTable.{costTable};
 ghost use Rattle.run_record.specs.Lengths.{lengthsOf};
-ghost use Rattle.run_record.specs.Numbers.{tableShort, ownRefused, recordRefused, costTableNumber, badMomentum, sweepNumber, drawsRefused, widthRefused, finishNumber, ruleRefused, openNumber};
+ghost use Rattle.run_record.specs.Numbers.{tableShort, ownRefused, recordRefused, costTableNumber, badMomentum, sweepNumber, memberNumber, drawsRefused, widthRefused, finishNumber, ruleRefused, openNumber};
 use super::OpenSettings;
 use super::Run;
 use super::is_stopped;
@@ -124,6 +124,36 @@ pub fn sweep_number(
     let stage = run.stage;
     if is_stopped(stage) {
         return 32;
+    }
+    if record_refused(run, n) {
+        return 33;
+    }
+    let table = table_number(n, count, rows, cols, values, c);
+    if table != 0 {
+        return table;
+    }
+    let rule = run.rule;
+    if bad_momentum(rule) {
+        return 18;
+    }
+    0
+}
+
+// The first number of a run among several, stopped or not.
+pub fn member_number(
+    run: Run,
+    n: usize,
+    count: usize,
+    rows: &[u16],
+    cols: &[u16],
+    values: &[i64],
+    c: &[i64],
+    factor: usize,
+) -> u8
+    ensures { λ r. ⌜ r ≡ memberNumber run (costTable n count (now (rows .entry)) (now (cols .entry)) (now (values .entry)) (now (c .entry))) factor ⌝ }
+{
+    if sweep_short(run, n, count, rows, cols, values, c, factor) {
+        return 31;
     }
     if record_refused(run, n) {
         return 33;

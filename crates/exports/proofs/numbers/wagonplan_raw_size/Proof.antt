@@ -15,4 +15,4 @@ returns-2 : tie.Need-returns-2
 returns-2 c = not-listed _ (c .if1 .left)
 
 pub wagonplan-raw-size-spec : {M : Type 1} → statement M
-wagonplan-raw-size-spec = tie.close (tie.spec (λ c. search needs) (λ c. search needs) returns returns-2)
+wagonplan-raw-size-spec = tie.close (tie.spec (λ c. search needs) (λ c. search needs) (λ c. search needs) (λ c. search needs) returns returns-2)

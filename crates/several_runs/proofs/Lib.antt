@@ -1,0 +1,13 @@
+pub mod Joined
+pub mod Plains
+pub mod OnTurns
+pub mod Counted
+pub mod Claims
+pub mod Cursors
+pub mod Cut
+pub mod TurnChains
+pub mod Moving
+pub mod WholeTurn
+pub mod Refusals
+pub mod Allowed
+pub mod Examples
