@@ -724,7 +724,14 @@ class Commands(Case):
         done = said(pair + "present left a b\npin a left\nblock one a\n")
         self.ends(done, 0)
         self.assertIn("Block one: nothing to gain (no wagon).\nThen all wagons that are not pinned: the cost falls by 1.\nLeft store: a.\nRight store: b.\nPinned, and so left out of their blocks: a.\n", done.stdout.decode())
-        self.ends(run("hall", "clear", REPAIRS), 0)
+        page = os.path.join(self.folder, "cleared.svg")
+        self.ends(run("hall", "clear", self.file("house.txt", pair + "present left a b\nblock one a\n"), "--plan", page), 0)
+        with open(page, encoding="utf-8") as file:
+            drawn = file.read()
+        self.assertEqual((drawn.count('class="wagon moved"'), drawn.count('class="arrow"')), (1, 2))
+        for words in ("With an arrow, moved: a.", "Cost -1, before 0     1 wagon to move", "What the cost falls by: block one 1, then the house 0."):
+            self.assertIn(words, drawn)
+        self.ends(run("hall", "clear", REPAIRS, "--plan", page), 0)
         self.ends(said(pair + "present left a\nblock one a\n"), 1, "they don't name b.")
         self.ends(said(pair + "present left a b\nwidth 0\n"), 1, "a width of at least 1.")
         for line, sentence in (

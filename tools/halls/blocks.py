@@ -1,7 +1,9 @@
 """A house cleared block by block (02, Notes 6 and 10), by the library's call; what it gives is held against the hall, and said."""
+import copy
 import tempfile
 
 from .answer import STORES, changes, cost_of, eighths, hold
+from .picture import plan
 from .program import built, output
 from .say import listed, stores
 from .text import Refused, counted
@@ -62,7 +64,18 @@ def wrongs(hall, found):
             yield f"with {moved} moved to the other store the choice costs {eighths(-change)} less"
 
 
-# ---- words
+# ---- picture and words
+
+
+def drawn(hall, found):
+    """The house when it is cleared, an arrow at each wagon that moves."""
+    shown = copy.copy(hall)
+    shown.moved = {i for i, store in enumerate(found["choice"]) if store != hall.present[i]}
+    before = eighths(cost_of(hall, [hall.present[i] for i in range(len(hall.names))]))
+    saves = [f"block {name} {eighths(fall)}" for name, fall in zip(hall.blocks, found["falls"])] + [f"then the house {eighths(found['blocks'] - found['cost'])}"]
+    figures = f"Cost {eighths(found['cost'])}, before {before}     {counted(len(shown.moved), 'wagon')} to move"
+    promised = [f"What the cost falls by: {', '.join(saves)}.", settled(hall)]
+    return plan(shown, found, {"cost": f"{figures}.".replace("     ", "; "), "figures": figures, "promised": promised, "checked": "Costs and falls were worked out again from the hall's own costs."})
 
 
 def words(hall, found):
@@ -81,8 +94,12 @@ def words(hall, found):
     both = sorted(set(hall.pins) & {i for wagons in hall.blocks.values() for i in wagons})
     if both:
         yield f"Pinned, and so left out of their blocks: {listed(hall, both)}."
+    yield f"This costs {eighths(found['cost'])}. {settled(hall)}"
+
+
+def settled(hall):
     wagon, them = ("free wagon", "all free ones") if hall.pins else ("wagon", "all of them")
-    yield f"This costs {eighths(found['cost'])}. No single {wagon} moved to the other store makes it cheaper, nor {them} at once."
+    return f"No single {wagon} moved to the other store makes it cheaper, nor {them} at once."
 
 
 def saved(fall):

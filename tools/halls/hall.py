@@ -22,6 +22,7 @@ class Hall:
         self.ranged, self.low_costs, self.low_pairs = False, [], {}  # the low ends; costs and pairs are the high ones, which a job has (02, Note 8)
         self.rows, self.retractable, self.pins = {}, set(), {}  # pins: the store of each wagon that may not move
         self.present, self.blocks = {}, {}  # the store that each wagon stands in now; a block's wagons by its name
+        self.moved = set()  # the wagons that a picture shows as rolled; none as the hall is read
         self.rank, self.rule, self.number, self.most, self.minimum, self.tolerances, self.width = 0, 3, 0.0, 200, 0, (0.0, 1e-6), 128
         self.start, self.start_numbers, self.seed, self.draw_count, self.draws = 0, None, "1", 30, []
         self.places, self.lines = {}, {}  # a wagon's index by its name; the last line of each word, the line of each draw

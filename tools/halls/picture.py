@@ -13,7 +13,7 @@ MARGIN, TOP, FOOT = 10.0, 38.0, 46.0
 LABEL = 22.0  # the strip between the stores, with the rows' names
 SIZES = [size / 10 for size in range(120, 9, -1)]
 READABLE = 2.0  # smaller than this, the rows are given up for larger type
-LOCK = 0.9  # the room that a lock takes beside a pinned wagon's name, in sizes of the type
+LOCK = ARROW = 0.9  # the room that a lock takes beside a pinned wagon's name, and an arrow beside one that moves, in sizes of the type
 LEGEND = 34.0  # the room of what a sign means
 INK, PAPER, PLAIN, RED = "#1a1a1a", "#f3f5f8", "#ffffff", "#b71c1c"
 BOLD = ' font-weight="bold"'
@@ -26,7 +26,7 @@ class Layout:
         self.bands, self.page, self.size, self.gap = bands, page, size, 0.25 * size
         self.label = LABEL if bands[0][0] is not None else 6.0
         self.store = (page[0] - 2 * MARGIN - self.label) / 2
-        names = [em(name) + (LOCK if i in hall.pins else 0) for i, name in enumerate(hall.names)]
+        names = [em(name) + (LOCK if i in hall.pins else 0) + (ARROW if i in hall.moved else 0) for i, name in enumerate(hall.names)]
         self.wide, self.high = size * (max(names, default=1) + 0.9), 1.8 * size
         self.across = int((self.store - self.gap) // (self.wide + self.gap))
 
@@ -86,33 +86,45 @@ def box(x, y, wide, high, fill, more=""):
     return f'<rect x="{x:.2f}" y="{y:.2f}" width="{wide:.2f}" height="{high:.2f}" fill="{fill}"{more}/>'
 
 
-def plan(hall, answer):
+def plan(hall, answer, said=None):
+    """The page; below the stores stands what is said of the answer: its figures, what is promised, and how that was checked."""
+    said = said or usual(hall, answer)
     found = layout(hall, answer)
     wide, high = found.page
     size, view = f'width="{wide:g}mm" height="{high:g}mm"', f'viewBox="0 0 {wide:g} {high:g}"'
     yield f'<svg xmlns="http://www.w3.org/2000/svg" {size} {view} role="img" aria-labelledby="title text" font-family="Helvetica, Arial, sans-serif">'
     yield f'<title id="title">{escape(title_of(hall))}</title>'
-    yield f'<desc id="text">{escape(told(hall, answer))}</desc>'
+    yield f'<desc id="text">{escape(told(hall, answer, said))}</desc>'
     yield f"<style>@page {{ size: {wide:g}mm {high:g}mm; margin: 0 }}</style>"
     yield box(0, 0, wide, high, "#ffffff")
     yield text(MARGIN, 20, fitted(8.0, title_of(hall), wide - 2 * MARGIN), title_of(hall), more=BOLD)
     yield from heads(hall, answer, found)
     yield from drawn_bands(hall, found)
-    yield from foot(hall, answer, found)
+    yield from foot(hall, said, found)
     yield "</svg>"
+
+
+def usual(hall, answer):
+    figures = f"Cost {eighths(answer['cost'])}     Floor {eighths(answer['floor'])}"
+    if "low" in answer:
+        figures = f"Cost from {eighths(answer['low'])} to {eighths(answer['high'])}     Floor {eighths(answer['low_floor'])}"
+    searched = f"The search took {counted(answer['rounds'], 'round')} from a cost of {eighths(answer['rounded'])}."
+    checked = f"Cost and floor were worked out again from the hall's own costs. {searched}"
+    return {"cost": f"Cost {between(answer)}.", "figures": figures, "promised": promises(hall, answer), "checked": checked}
 
 
 def title_of(hall):
     return f"{hall.title}: {counted(len(hall.names), 'wagon')} into two stores"
 
 
-def told(hall, answer):
+def told(hall, answer, said):
     """The whole plan in words, for who can't see it."""
     sides = [f"{side.capitalize()} store: {listed(hall, wagons)}." for side, wagons in zip(STORES, stores(hall, answer))]
     rows = [f"Row {row}: {listed(hall, members)}." for row, members in hall.rows.items()]
     retractable = [f"Retractable, in red: {listed(hall, sorted(hall.retractable))}."] if hall.retractable else []
     still = [f"Pinned, with a lock, may not move: {pinned(hall)}."] if hall.pins else []
-    return " ".join([*sides, *retractable, *still, *rows, f"Cost {between(answer)}.", *promises(hall, answer)])
+    rolled = [f"With an arrow, moved: {listed(hall, sorted(hall.moved))}."] if hall.moved else []
+    return " ".join([*sides, *retractable, *still, *rolled, *rows, said["cost"], *said["promised"]])
 
 
 def heads(hall, answer, found):
@@ -148,16 +160,18 @@ def place(found, side, many, k, y):
 
 
 def wagon(hall, found, i, side, row, corner):
-    """A box with the name; a retractable one red with white type, so that it is told apart in black and white too; a pinned one with a lock."""
+    """A box with the name; a retractable one red with white type, so that it is told apart in black and white too; a pinned one with a lock; one that moves with an arrow to its store."""
     x, y = corner
-    red, still, size = i in hall.retractable, i in hall.pins, found.size
-    words = f"{hall.names[i]}: {STORES[side]} store" + (f", row {row}" if row else "") + (", retractable" if red else "") + (", pinned" if still else "")
+    red, still, rolls, size = i in hall.retractable, i in hall.pins, i in hall.moved, found.size
+    words = f"{hall.names[i]}: {STORES[side]} store" + (f", row {row}" if row else "") + (", retractable" if red else "") + (", pinned" if still else "") + (", moved" if rolls else "")
     ink = "#ffffff" if red else INK
-    yield f'<g class="wagon{" retractable" if red else ""}{" pinned" if still else ""}"><title>{escape(words)}</title>'
+    yield f'<g class="wagon{" retractable" if red else ""}{" pinned" if still else ""}{" moved" if rolls else ""}"><title>{escape(words)}</title>'
     yield box(x, y, found.wide, found.high, RED if red else PLAIN, f' stroke="{INK}" stroke-width="{0.7 if still else 0.25}" rx="0.8"')
     if still:
         yield lock(x + 0.4 * size, y + found.high / 2 - 0.5 * size, size, ink)
-    middle = x + (found.wide + (LOCK * size if still else 0)) / 2
+    if rolls:
+        yield arrow(x + (0.4 + (LOCK if still else 0)) * size, y + found.high / 2, size, side, ink)
+    middle = x + (found.wide + ((LOCK if still else 0) + (ARROW if rolls else 0)) * size) / 2
     yield text(middle, y + found.high / 2 + 0.36 * size, size, hall.names[i], "middle", ink) + "</g>"
 
 
@@ -168,20 +182,21 @@ def lock(x, y, size, ink):
     return f'<g class="lock"><path d="{body}" fill="{ink}"/><path d="{shackle}" fill="none" stroke="{ink}" stroke-width="{0.11 * size:.2f}"/></g>'
 
 
-def foot(hall, answer, found):
-    """The figures, what is promised, and what red and a lock mean."""
+def arrow(x, y, size, side, ink):
+    """A triangle of 0.65 by 0.7 sizes that points to the store, its middle at the height y."""
+    base, tip = (0.65, 0) if side == 0 else (0, 0.65)
+    return f'<path class="arrow" d="M{x + tip * size:.2f} {y:.2f} L{x + base * size:.2f} {y - 0.35 * size:.2f} v{0.7 * size:.2f} Z" fill="{ink}"/>'
+
+
+def foot(hall, said, found):
+    """The figures, what is promised, and what red, a lock and an arrow mean."""
     y, width = found.page[1] - FOOT + 10, found.page[0] - 2 * MARGIN
-    figures = f"Cost {eighths(answer['cost'])}     Floor {eighths(answer['floor'])}"
-    if "low" in answer:
-        figures = f"Cost from {eighths(answer['low'])} to {eighths(answer['high'])}     Floor {eighths(answer['low_floor'])}"
-    legends = LEGEND * (bool(hall.retractable) + bool(hall.pins))
+    figures, promised, checked = said["figures"], said["promised"], said["checked"]
+    legends = LEGEND * (bool(hall.retractable) + bool(hall.pins) + bool(hall.moved))
     yield text(MARGIN, y, fitted(7.5, figures, width - max(40, legends + 6)), figures, more=f'{BOLD} xml:space="preserve"')
-    promised = promises(hall, answer)
     size = min(fitted(4.2, line, width, 0.9) for line in promised)
     for k, line in enumerate(promised):
         yield text(MARGIN, y + 8 + 6 * k, size, line)
-    searched = f"The search took {counted(answer['rounds'], 'round')} from a cost of {eighths(answer['rounded'])}."
-    checked = f"Cost and floor were worked out again from the hall's own costs. {searched}"
     yield text(MARGIN, y + 8 + 6 * len(promised), fitted(3.4, checked, width, 0.9), checked)
     x = found.page[0] - MARGIN - LEGEND
     if hall.retractable:
@@ -191,3 +206,7 @@ def foot(hall, answer, found):
     if hall.pins:
         yield lock(x + 2, y - 4.6, 5, INK)
         yield text(x + 9, y - 0.6, 4.2, "pinned")
+        x -= LEGEND
+    if hall.moved:
+        yield arrow(x + 2, y - 2.1, 5, 1, INK)
+        yield text(x + 9, y - 0.6, 4.2, "moves")
