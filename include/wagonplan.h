@@ -355,7 +355,7 @@ static inline uint8_t wagonplan_answer(wagonplan_u8 job, wagonplan_u8_mut worksp
     return wagonplan_leave(mode, wagonplan_raw_answer(job.at, job.len, workspace.at, workspace.len, answer.at, answer.len));
 }
 
-// Opens a run over (H, c). `numbers` are the start's, as in a job record; the factor takes m * rank doubles, 4,096 at most.
+// Opens a run over (H, c). `numbers` are the start's, as in a job record; the factor takes m * rank doubles, 8,192 at most.
 static inline uint8_t wagonplan_open(const wagonplan_table *t, const wagonplan_settings *settings, wagonplan_f64 numbers, wagonplan_f64_mut factor,
                                      wagonplan_run *run) {
     uint64_t given[WAGONPLAN_SETTING_WORDS], words[WAGONPLAN_RUN_WORDS] = {0};
