@@ -17,9 +17,10 @@ use Rattle.laws.specs.Lists.{over, fill, tabulate}
 use Rattle.laws.proofs.MapFirst.{length-fill}
 use Rattle.laws.proofs.Made.{length-tabulate, tabulate-getD, over-all}
 use Rattle.ieee.specs.Floats.{zero64}
-use Rattle.limits.specs.Limits.{mostWagons, mostEntries, mostSigns, mostRank, mostFactor, mostStart, mostDrawn, searchWorkspace}
+use Rattle.limits.specs.Limits.{mostWagons, mostEntries, mostMagnitude, mostSigns, mostRank, mostFactor, mostStart, mostDrawn, searchWorkspace}
 use Rattle.run_record.specs.declared.Run.{Run}
 use Rattle.tables.specs.Stored.{Room}
+use Rattle.tables.specs.Check.{Hall}
 use Rattle.pinned.specs.Pinned.{freeOf, freeTable, lifted, Reducing, Shrinks}
 use Rattle.pinned.specs.declared.reduce.Shrunk.{Shrunk}
 use Rattle.pinned.proofs.Free as Free
@@ -56,9 +57,9 @@ use Rattle.record_call.proofs.Figures.{rank-low, figures-fit}
 use Rattle.record_call.proofs.Accepted.{opens, sweeps, start-whole, stopped-is, stops, factor-whole, finishes, few, rank-is, rank-few, size-is}
 
 -- (H, c) reduced into slices, whose fronts hold that of the run; and the constant
-pub record ReducedRun (s : List ℕ) (t : Shrunk) (rows cols : List ℕ) (values c : List ℤ) : Type 0 where
+pub record ReducedRun (s : List ℕ) (most : ℕ) (t : Shrunk) (rows cols : List ℕ) (values c : List ℤ) : Type 0 where
   pub many : t .free ≡ length (freeOf (jobCosts s .n) (jobStates s))
-  pub few : t .count ≤ mostEntries
+  pub few : t .count ≤ most
   pub costs-are : costTable (t .free) (t .count) (take (t .count) rows) (take (t .count) cols) (take (t .count) values) (take (t .free) c) ≡ runCosts s
   pub constant-is : t .constant ≡ pinnedCost s
 
@@ -172,24 +173,30 @@ module _ (s : List ℕ) (e : jobNumber s ≡ 0) where
 
     -- reduced
     module _ {rows cols : List ℕ} {values c : List ℤ} {rows′ cols′ : List ℕ} {values′ c′ : List ℤ} (t : Shrunk) (many : t .free ≡ length (freeOf (own .n) states))
-        (made : Shrinks (own .n) (quadratic own) (linear own) states rows cols values c rows′ cols′ values′ c′ (t .count) (t .constant)) (r : TableRoom rows cols values c) where
-      count-few : t .count ≤ mostEntries
+        (made : Shrinks (own .n) (quadratic own) (linear own) states rows cols values c rows′ cols′ values′ c′ (t .count) (t .constant)) (r : Room 0 (own .count) rows cols values) where
+      -- the same table, of so many entries at most as it has
+      own-hall : Hall mostWagons (own .count) mostMagnitude (own .n) (quadratic own) (linear own)
+      own-hall =
+          let h = own-reducing .hall in
+          record { wagons = h .wagons; entries = omega arith; in-range = h .in-range; rising = h .rising; mirrored = h .mirrored; magnitude = h .magnitude }
+
+      count-less : t .count ≤ own .count
       unfolding freeTable
-      count-few = omega (arith, made .many, reduce-hall (own-reducing .hall) states .entries)
+      count-less = omega (arith, made .many, reduce-hall own-hall states .entries)
 
       room : Room 0 (t .count) rows cols values
-      room = record { rows-room = omega (arith, count-few, r .rows-room); cols-room = omega (arith, count-few, r .cols-room); values-room = omega (arith, count-few, r .values-room) }
+      room = record { rows-room = omega (arith, count-less, r .rows-room); cols-room = omega (arith, count-less, r .cols-room); values-room = omega (arith, count-less, r .values-room) }
 
       run-is : reducedCosts own states ≡ runCosts s
       unfolding runCosts
       run-is = rw (is, same)
 
-      pub reduced-run : ReducedRun s t rows′ cols′ values′ c′
+      pub reduced-run : ReducedRun s (own .count) t rows′ cols′ values′ c′
       unfolding reducedCosts pinnedCost
       reduced-run =
           record {
             many = many ∙ rw (same, is);
-            few = count-few;
+            few = count-less;
             costs-are = same-costs many (made .many) (rows-front made room) (cols-front made room) (values-front made room) (rw many (costs-front made)) ∙ run-is;
             constant-is = made .constant-is ∙ rw (same, is);
           }
@@ -228,7 +235,7 @@ module _ (s : List ℕ) (e : jobNumber s ≡ 0) where
   pub free-cut : (j : Job) → j ≡ jobOf s → (free free′ : List ℕ) → free′ ≡ over (freeOf (jobCosts s .n) (jobStates s)) free → take (j .free) free′ ≡ freeOf (jobCosts s .n) (jobStates s)
   free-cut j is free free′ made = rw made (take-at (freeOf (jobCosts s .n) (jobStates s)) _ (j .free) (sym (job-free j is)))
 
-  module _ {rows cols : List ℕ} {values c : List ℤ} {t : Shrunk} (r : ReducedRun s t rows cols values c) where
+  module _ {rows cols : List ℕ} {values c : List ℤ} {most : ℕ} {t : Shrunk} (r : ReducedRun s most t rows cols values c) where
     pub run-few : t .free ≤ mostWagons
     unfolding runCosts reducedCosts
     run-few = omega (arith, r .many, run-hall s e .wagons)

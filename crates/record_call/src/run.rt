@@ -26,6 +26,7 @@ ghost use mathlib.Core.Path.{_≡_};
 ghost use Prim.Native.Nat.{_+_, _*_, _≤_, _<_};
 ghost use lib.ListN.{length};
 ghost use Rattle.laws.specs.Lists.{over};
+ghost use Rattle.tables.specs.Stored.{Room};
 ghost use Rattle.run_record.specs.CostTable.{costTable};
 ghost use Rattle.limits.specs.Limits.{mostWagons, mostSigns, mostDrawn, searchWorkspace};
 ghost use Rattle.run_contract.specs.Calls.{openSize, openRank};
@@ -34,6 +35,9 @@ ghost use Rattle.job_record.specs.Number.{jobNumber};
 ghost use Rattle.job_record.specs.Values.{jobStates, jobOf, jobDrawn};
 ghost use Rattle.record_call.specs.Record.{runCosts, jobSettings, jobDraws, stopped, jobResult, jobChoice, fieldsOf, jobFields, wholeChoice};
 ghost use Rattle.record_call.specs.Decoded.{Decoded, AtFronts, OwnCosts, FreeRun, FiguresFit};
+
+// Entries of a table for which small arrays do.
+const FEW_ENTRIES: usize = 256;
 
 // The job's open and, where its most is above 0, a sweep up to the most.
 fn run_job(
@@ -221,8 +225,8 @@ fn finish_read(
     )
 }
 
-// The fields of a job with pins: H and c are reduced into arrays, where the run is; the free wagons and their choice go over the fronts of
-// `free` and `chosen`.
+// The fields of a job with pins: H and c are reduced into the slices `to_rows` to `to_c`, where the run is; the free wagons and their choice go over the
+// fronts of `free` and `chosen`.
 fn finish_reduced(
     job: &[u8],
     j: Job,
@@ -234,15 +238,16 @@ fn finish_reduced(
     free: &mut [u16],
     chosen: &mut [u8],
     workspace: &mut [u64],
+    to_rows: &mut [u16],
+    to_cols: &mut [u16],
+    to_values: &mut [i64],
+    to_c: &mut [i64],
 ) -> Answer
     requires { ⌜ OwnCosts (now job) j (now rows) (now cols) (now values) (now c) × (now states ≡ jobStates (now job))
-        × (mostWagons ≤ length (now free)) × (mostWagons ≤ length (now chosen)) × (searchWorkspace ≤ length (now workspace)) ⌝ }
+        × (mostWagons ≤ length (now free)) × (mostWagons ≤ length (now chosen)) × (searchWorkspace ≤ length (now workspace))
+        × Room 0 (j .count) (now «to_rows») (now «to_cols») (now «to_values») × (mostWagons ≤ length (now «to_c»)) ⌝ }
     ensures { λ r. ⌜ FreeRun (now (job .entry)) (now (free .entry)) (now (chosen .entry)) r (now (free .exit)) (now (chosen .exit)) ⌝ }
 {
-    let mut to_rows = [0u16; MOST_ENTRIES];
-    let mut to_cols = [0u16; MOST_ENTRIES];
-    let mut to_values = [0i64; MOST_ENTRIES];
-    let mut to_c = [0i64; MOST_WAGONS];
     let t = reduce(
         j.n,
         j.count,
@@ -252,10 +257,10 @@ fn finish_reduced(
         c,
         states,
         free,
-        &mut to_rows,
-        &mut to_cols,
-        &mut to_values,
-        &mut to_c,
+        to_rows,
+        to_cols,
+        to_values,
+        to_c,
     );
     let count = t.count;
     let some = t.free;
@@ -271,6 +276,98 @@ fn finish_reduced(
         workspace,
     );
     fields_of(j.n, t.constant, x)
+}
+
+// The same in arrays for a table of few entries, which take no time to clear.
+fn finish_few(
+    job: &[u8],
+    j: Job,
+    rows: &[u16],
+    cols: &[u16],
+    values: &[i64],
+    c: &[i64],
+    states: &[u8],
+    free: &mut [u16],
+    chosen: &mut [u8],
+    workspace: &mut [u64],
+) -> Answer
+    requires { ⌜ OwnCosts (now job) j (now rows) (now cols) (now values) (now c) × (now states ≡ jobStates (now job))
+        × (mostWagons ≤ length (now free)) × (mostWagons ≤ length (now chosen)) × (searchWorkspace ≤ length (now workspace)) × (j .count ≤ 256) ⌝ }
+    ensures { λ r. ⌜ FreeRun (now (job .entry)) (now (free .entry)) (now (chosen .entry)) r (now (free .exit)) (now (chosen .exit)) ⌝ }
+{
+    let mut to_rows = [0u16; FEW_ENTRIES];
+    let mut to_cols = [0u16; FEW_ENTRIES];
+    let mut to_values = [0i64; FEW_ENTRIES];
+    let mut to_c = [0i64; MOST_WAGONS];
+    finish_reduced(
+        job,
+        j,
+        rows,
+        cols,
+        values,
+        c,
+        states,
+        free,
+        chosen,
+        workspace,
+        &mut to_rows,
+        &mut to_cols,
+        &mut to_values,
+        &mut to_c,
+    )
+}
+
+// The same in arrays for every table.
+fn finish_pinned(
+    job: &[u8],
+    j: Job,
+    rows: &[u16],
+    cols: &[u16],
+    values: &[i64],
+    c: &[i64],
+    states: &[u8],
+    free: &mut [u16],
+    chosen: &mut [u8],
+    workspace: &mut [u64],
+) -> Answer
+    requires { ⌜ OwnCosts (now job) j (now rows) (now cols) (now values) (now c) × (now states ≡ jobStates (now job))
+        × (mostWagons ≤ length (now free)) × (mostWagons ≤ length (now chosen)) × (searchWorkspace ≤ length (now workspace)) ⌝ }
+    ensures { λ r. ⌜ FreeRun (now (job .entry)) (now (free .entry)) (now (chosen .entry)) r (now (free .exit)) (now (chosen .exit)) ⌝ }
+{
+    if j.count <= FEW_ENTRIES {
+        return finish_few(
+            job,
+            j,
+            rows,
+            cols,
+            values,
+            c,
+            states,
+            free,
+            chosen,
+            workspace,
+        );
+    }
+    let mut to_rows = [0u16; MOST_ENTRIES];
+    let mut to_cols = [0u16; MOST_ENTRIES];
+    let mut to_values = [0i64; MOST_ENTRIES];
+    let mut to_c = [0i64; MOST_WAGONS];
+    finish_reduced(
+        job,
+        j,
+        rows,
+        cols,
+        values,
+        c,
+        states,
+        free,
+        chosen,
+        workspace,
+        &mut to_rows,
+        &mut to_cols,
+        &mut to_values,
+        &mut to_c,
+    )
 }
 
 // The answer of a job with pins: its fields, and over the front of b the choice of the free wagons with the pinned ones in their stores.
@@ -293,7 +390,7 @@ fn pinned_answer(
     let n = j.n;
     let some = j.free;
     read_states(job, &mut states);
-    let fields = finish_reduced(
+    let fields = finish_pinned(
         job,
         j,
         rows,
