@@ -35,7 +35,7 @@ extern "C" {
 // ---- sizes --------------------------------------------------------------------------------------
 
 enum {
-    WAGONPLAN_VERSION = 10, // of these declarations; `wagonplan_version` answers the archive's
+    WAGONPLAN_VERSION = 11, // of these declarations; `wagonplan_version` answers the archive's
 
     WAGONPLAN_JOB_MOST = 65536,         // bytes of a job record
     WAGONPLAN_WAGONS_MOST = 255,        // n; 127 in jobs of version 1 or 2
@@ -217,6 +217,7 @@ uint8_t wagonplan_raw_open(size_t n, size_t count, const uint16_t *rows, size_t,
                            size_t, const uint64_t *settings, size_t, const double *numbers, size_t, double *factor, size_t, uint64_t *words, size_t);
 uint8_t wagonplan_raw_sweep(uint64_t *words, size_t, size_t n, size_t count, const uint16_t *rows, size_t, const uint16_t *cols, size_t, const int64_t *values,
                             size_t, const int64_t *c, size_t, uint32_t k, double *factor, size_t);
+uint8_t wagonplan_raw_exchange_rule(uint64_t *words, size_t, uint64_t rule, double number);
 uint8_t wagonplan_raw_finish(const uint64_t *words, size_t, size_t n, size_t count, const uint16_t *rows, size_t, const uint16_t *cols, size_t,
                              const int64_t *values, size_t, const int64_t *c, size_t, size_t width, size_t draw_count, const double *draws, size_t,
                              const double *factor, size_t, uint8_t *b, size_t, double *dual_variables, size_t, uint64_t *workspace, size_t, uint64_t *result,
@@ -378,6 +379,19 @@ static inline uint8_t wagonplan_sweep(wagonplan_run *run, const wagonplan_table 
                                  t->c.at, t->c.len, k, factor.at, factor.len);
     if (number == 0) memcpy(run, words, sizeof words);
     return wagonplan_leave(mode, number);
+}
+
+// Another rule for a run that is open, with its number as in `wagonplan_settings`: sweeps made, last objective, tolerances, limits and rows left standing carry
+// over, the factor isn't touched, and from the next sweep on the run goes by the new rule. A rule above 4 is 18, and so is a bad momentum, the new or the old;
+// a stopped run is 32.
+static inline uint8_t wagonplan_exchange_rule(wagonplan_run *run, uint64_t rule, double number) {
+    uint64_t words[WAGONPLAN_RUN_WORDS];
+    unsigned mode = wagonplan_enter();
+    uint8_t answer;
+    memcpy(words, run, sizeof words);
+    answer = wagonplan_raw_exchange_rule(words, WAGONPLAN_RUN_WORDS, rule, number);
+    if (answer == 0) memcpy(run, words, sizeof words);
+    return wagonplan_leave(mode, answer);
 }
 
 // A turn of so many sweeps, 8 to 10,000, that up to eight runs share, each over its own table; their factors lie one after the other, as the tables do. With a
@@ -626,7 +640,7 @@ static inline const char *wagonplan_sentence(uint8_t number) {
     case 25: return "A turn has fewer than 8 sweeps, or more than 10,000.";
     case 26: return "A turn has no run, or more than 8.";
     case 31: return "A lent slice is too short.";
-    case 32: return "The stage is wrong: a sweep when stopped, or a finish before.";
+    case 32: return "The stage is wrong: a sweep or an exchange of the rule when stopped, or a finish before.";
     case 33: return "The run record contradicts itself or the table.";
     default: return "No such number.";
     }

@@ -28,6 +28,7 @@ KINDS = [
     ("leaf-edges", "leaf", 1000),
     ("reduced", "leaf", 200),
     ("run", "run", 60),
+    ("exchange", "run", 60),
 ]
 TRACES = {"jobs-small": 40, "pinned-small": 20}
 

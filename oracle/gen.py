@@ -1198,7 +1198,8 @@ def length(rng, needed, bad=0.05):
     return needed + rng.choice([0, 0, 0, 1, 50])
 
 
-def open_line(rng, h, bad):
+def open_line(rng, h, bad, far=False):
+    """`far`: with sweeps enough that it is open for some calls."""
     m = h.n + 1
     rank, rule, start = rng.choice([0, some_rank(rng, True)]), rng.randrange(5), rng.randrange(3)
     if start == 1 and rank == 0 and rng.random() > bad:
@@ -1207,6 +1208,8 @@ def open_line(rng, h, bad):
     most, minimum = limits(rng, 60)
     if rng.random() < 0.1:
         most = 2**32 - 1
+    if far:
+        most, minimum = rng.choice([min(most + 20, 2**32 - 1), 60, 150]), rng.choice([minimum, 25, 40])
     if rng.random() < bad:
         k = rng.randrange(4)
         rank = rng.choice([33, 40, 2**64 - 1]) if k == 0 else rank
@@ -1222,13 +1225,13 @@ def open_line(rng, h, bad):
     elif rng.random() < 0.1:
         given += numbers(rng, 3)
     line = " ".join(["open", h.lent(rng, bad), words(
-        rank, rule, number, most, minimum, tolerance(rng), tolerance(rng), start, given,
+        rank, rule, number, most, minimum, *(tolerance(rng) if not far or rng.random() < 0.4 else 0 for _ in range(2)), start, given,
         length(rng, m * r, bad / 2))])
     return line, m, r
 
 
-def sweep_line(rng, h, m, r):
-    k = rng.choice([0, 1, 1, 2, 3, 5, 18, 19, 20, 21, 40])
+def sweep_line(rng, h, m, r, few=(0, 1, 1, 2, 3, 5, 18, 19, 20, 21, 40)):
+    k = rng.choice(few)
     return " ".join(["sweep", h.lent(rng), words(k, length(rng, m * r), 0)])
 
 
@@ -1240,6 +1243,15 @@ def finish_line(rng, h, m, r):
         draws.pop()
     return " ".join(["finish", h.lent(rng), words(
         width, count, draws, length(rng, m * r), length(rng, m - 1), length(rng, m), 0)])
+
+
+def exchange_line(rng):
+    """Another rule, at times a bad one."""
+    if rng.random() < 0.15:
+        return "exchange " + words(rng.choice([5, 6, 255]), odd(rng))
+    rule = rng.randrange(5)
+    number = rng.choice(BAD_MOMENTUM) if rule == 4 and rng.random() < 0.3 else rule_number(rng, rule)
+    return "exchange " + words(rule, odd(rng) if rule == 3 else number)
 
 
 def record_line(rng, m, r):
@@ -1278,6 +1290,24 @@ def script(rng, n=None, pairs=None):
     for _ in range(rng.randint(1, 7)):
         table = h if rng.random() < 0.7 else Hall(rng, h.n, pairs)
         yield (sweep_line if rng.random() < 0.6 else finish_line)(rng, table, m, r)
+    yield finish_line(rng, h, m, r)
+
+
+def exchange_script(rng):
+    """A run whose rule is exchanged between its sweeps."""
+    yield "new"
+    h = Hall(rng, size(rng, "small"))
+    line, m, r = open_line(rng, h, 0.0, True)
+    yield line
+    if rng.random() < 0.1:
+        yield record_line(rng, m, r)
+    for _ in range(rng.randint(1, 4)):
+        yield sweep_line(rng, h, m, r, [1, 1, 2, 3, 5, 18])
+        yield exchange_line(rng)
+    for _ in range(rng.randint(2, 6)):
+        table = h if rng.random() < 0.8 else Hall(rng, h.n)
+        yield rng.choice([lambda: exchange_line(rng), lambda: sweep_line(rng, table, m, r), lambda: sweep_line(rng, table, m, r), lambda: finish_line(rng, table, m, r)])()
+    yield sweep_line(rng, h, m, r, [150])
     yield finish_line(rng, h, m, r)
 
 
@@ -1320,6 +1350,8 @@ def lines(kind, count, seed):
         return wide_lines(rng, kind[5:], count)
     if kind.startswith("full-") and kind[5:] in LEAVES:
         return full_lines(rng, kind[5:], count)
+    if kind == "exchange":
+        return (line for _ in range(count) for line in exchange_script(rng))
     if kind == "run":
         return (line for _ in range(count) for line in script(rng))
     sys.exit(f"gen.py: no kind {kind!r}\n{__doc__}")

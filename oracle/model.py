@@ -1203,6 +1203,19 @@ class Script:
                 made += 1
         return number, []
 
+    def call_exchange(self, w):
+        """02, Note 12: rule and number exchanged on an open run, all else carried over; 32, 33 of the record alone, 18."""
+        rule, value, run = w.u(), w.f(), self.run
+        is_open = run.stage == OPEN
+        number = first(
+            (32, lambda: not is_open),
+            (33, lambda: not 1 <= run.rank <= 32 or run.sweeps >= run.most or run.status != 0 or run.standing > run.size * run.sweeps),
+            (18, lambda: n18(run.rule, run.number) or n18(rule, value)),
+        )
+        if number == 0:
+            run.rule, run.number = rule, 0.0 if rule == 3 else value
+        return number, []
+
     def finish_number(self, w, numbers):
         """The number of a finish over the table just read; and its width and draws."""
         width, draw_count, draws = w.u(), w.u(), w.slice(w.f)

@@ -94,6 +94,8 @@ static uint8_t sweep(Argument *a) {
     wagonplan_table t = table(a + 1);
     return wagonplan_sweep(place(a), &t, (uint32_t)number(a + 7), f64_mut(a + 8));
 }
+static uint8_t exchange_rule(Argument *a) { return wagonplan_exchange_rule(place(a), number(a + 1), double_of(a + 2)); }
+static uint8_t raw_exchange_rule(Argument *a) { return wagonplan_raw_exchange_rule(place(a), a->lent, number(a + 1), double_of(a + 2)); }
 static uint8_t finish(Argument *a) {
     wagonplan_table t = table(a + 1);
     return wagonplan_finish(place(a), &t, number(a + 7), number(a + 8), f64(a + 9), f64(a + 10), u8_mut(a + 11), f64_mut(a + 12), u64_mut(a + 13), place(a + 14));
@@ -212,6 +214,7 @@ static const Call calls[] = {
     {"answer", "jWA", answer, 0},
     {"open", "TSdFR", open_run, raw_open},
     {"sweep", "RTnF", sweep, raw_sweep},
+    {"exchange_rule", "Rnn", exchange_rule, raw_exchange_rule},
     {"finish", "rTnndfBDwU", finish, raw_finish},
     {"finish_ranged", "rLnndfBDwV", finish_ranged, raw_finish_ranged},
     {"turn", "MnPnG", turn, raw_turn},
@@ -639,7 +642,7 @@ static int begins(const char *line, const char *name) { return !strncmp(line, na
 
 // Passes over a line that is too long, or that goes on with one that was: by its table or job, or by the run.
 static int passed_over(const char *line, size_t longest) {
-    int leans = strstr(line, " ~ ") != 0, of_run = begins(line, "sweep ") || begins(line, "finish") || begins(line, "turn ");
+    int leans = strstr(line, " ~ ") != 0, of_run = begins(line, "sweep ") || begins(line, "exchange") || begins(line, "finish") || begins(line, "turn ");
     int passed = longest < line_length || (lost && leans) || (lost_run && of_run);
     if (passed && !leans) lost = 1;
     if (begins(line, "open ") || begins(line, "run ") || begins(line, "runs ")) lost_run = passed;

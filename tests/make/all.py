@@ -4,7 +4,7 @@
   tests/make/all.py                      writes tests/lists/*.txt
   tests/make/all.py --check              compares them with what is stored, and writes nothing
   tests/make/all.py KIND COUNT SEED      prints seeded lines instead: KIND is `ranks` (COUNT tables at every rank and rule), `jobs`, `pins` (jobs of version 2), `larger` (of version 3),
-                                         `runs`, `larger-calls` (calls and scripts on 129 to 256 signs), `reduced`, `blocks`, `divided`, `ranged` (finishes over ranges), `walk` (houses walked in full, float bounds) or `turns` (lists of turns)
+                                         `runs`, `larger-calls` (calls and scripts on 129 to 256 signs), `reduced`, `blocks`, `divided`, `ranged` (finishes over ranges), `walk` (houses walked in full, float bounds), `turns` (lists of turns) or `exchange` (scripts that exchange the rule)
 
 The same COUNT and SEED give the same lines.
 """
@@ -18,6 +18,7 @@ import blocks  # noqa: E402
 import divided  # noqa: E402
 import doubles  # noqa: E402
 import edges  # noqa: E402
+import exchange  # noqa: E402
 import factors  # noqa: E402
 import jobs  # noqa: E402
 import larger  # noqa: E402
@@ -50,9 +51,10 @@ def add_tables(lines):
 
 
 LISTS = {"tables": add_tables, "factors": factors.add, "steps": steps.add, "standing": standing.add, "edges": edges.add, "runs": runs.add, "jobs": jobs.add, "pins": pins.add, "larger": larger.add, "words": words.add,
-         "blocks": blocks.add, "divided": divided.add, "ranged": ranged.add, "walk": walk.add, "turns": turns.add}
+         "blocks": blocks.add, "divided": divided.add, "ranged": ranged.add, "walk": walk.add, "turns": turns.add, "exchange": exchange.add}
 SEEDED = {"ranks": steps.seeded, "jobs": random_jobs.seeded, "pins": random_jobs.seeded_pins, "larger": random_jobs.seeded_larger, "runs": runs.seeded,
-          "larger-calls": larger.seeded_calls, "reduced": reduced.seeded, "blocks": blocks.seeded, "divided": divided.seeded, "ranged": ranged.seeded, "walk": walk.seeded, "turns": turns.seeded}
+          "larger-calls": larger.seeded_calls, "reduced": reduced.seeded, "blocks": blocks.seeded, "divided": divided.seeded, "ranged": ranged.seeded, "walk": walk.seeded, "turns": turns.seeded,
+          "exchange": exchange.seeded}
 
 
 def stored(check):

@@ -48,6 +48,10 @@ def sweep_line(t, k, factor):
     return "sweep " + gen.words(*of_table(t), k, factor, 0)
 
 
+def exchange_line(rule, number):
+    return "exchange " + gen.words(rule, number)
+
+
 def finish_line(t, f):
     return "finish " + gen.words(*of_table(t), *[f[k] for k in (
         "width", "draw_count", "draws", "factor", "b", "dual", "workspace")])
@@ -464,6 +468,8 @@ class Answered:
             self.results.append(result)
             self.states.append(state)
             self.calls.append((name, words))
+            if name == "exchange":
+                self.seen.add((name, number))
             if name in ("open", "sweep", "finish"):
                 self.see(name, number, words[table_length(words) :], result)
 
@@ -488,6 +494,9 @@ class Answered:
 
 
 def add_call(lines, name, words, number, state, result):
+    if name == "exchange":
+        lines.call("exchange_rule", [], words, number, in_order(state[:13]) if number == 0 else [])
+        return
     group, words = cut(words, 1, 1, 0, 0, 0, 0)
     front = state[14 : 14 + state[0] * state[1]] if number == 0 else []
     if name == "open":

@@ -115,6 +115,10 @@ class Asked:
     def heading(self, text):
         self.steps.append(("heading", text))
 
+    def exchange(self, record, rule, value, number, after):
+        """An exchange of one run's rule (02, Note 12), with the number that the oracle answers and the record that it leaves."""
+        self.steps.append(("exchange", record, rule, value, number, after))
+
     def stands(self, records):
         self.steps.append(("runs", [x for r in records for x in words_of(r)], [x for r in records for x in r["factor"]]))
 
@@ -130,6 +134,10 @@ class Asked:
                 lines.heading(*step)
             elif name == "runs":
                 lines.runs(*step)
+            elif name == "exchange":
+                record, rule, value, number, after = step
+                lines.run(words_of(record), record["factor"])
+                lines.call("exchange_rule", [], [rule, value], number, [] if number else words_of(after))
             else:
                 given, sweeps, count, after, wanted, k = step
                 number = model.turn_number(sweeps, count, numbers[k])

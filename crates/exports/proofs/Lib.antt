@@ -2,6 +2,7 @@ pub mod Back
 pub mod Answering
 pub mod Running
 pub mod RangedRunning
+pub mod Exchanging
 pub mod Asked
 pub mod Enough
 pub mod OnWords

@@ -1,4 +1,4 @@
--- Demand 3's last sentence for C's calls: from an accepted open, every list of exported sweeps and finishes, refused ones included, is seen as 01's
+-- Demand 3's last sentence for C's calls: from an accepted open, every list of exported sweeps, finishes and exchanges, refused ones included, is seen as 01's
 -- plain run has it, the records read from the words. By `plain-run` of run_contract. Assumes nothing.
 use Prim.Native.Nat.{ℕ, zero, suc, _+_, _≤_, _<_}
 use mathlib.Core.Path.{_≡_, refl, sym, ap, subst, _∙_}
@@ -11,14 +11,15 @@ use lib.Seq.{take-at}
 use Rattle.run_record.specs.declared.Run.{Run}
 use Rattle.run_record.specs.CostTable.{CostTable}
 use Rattle.run_contract.specs.declared.FinishResult.{FinishResult}
-use Rattle.run_contract.specs.Calls.{Sweeps, used, Finishes, finishedNumber}
+use Rattle.run_contract.specs.Calls.{Sweeps, used, Finishes, finishedNumber, Exchanges}
 use Rattle.run_contract.specs.PlainRun.{Call, plainOpen, Seen, plainTrace}
 use Rattle.run_contract.specs.Chain as chain
 use Rattle.run_contract.specs.Chain.{keptAfter, seenOf, givenOf, Chain}
 use Rattle.run_contract.proofs.OnLists.{plain-run}
 use Rattle.exports.specs.Words.{runWords, settingWords, resultWords, runIn, wordsOf, settingsIn, resultWordsOf}
 use Rattle.exports.specs.Answers.{finishedBy, wordsAfter, OpensWords, SweepsWords}
-use Rattle.exports.specs.WordChain.{GivenWords, SeenWords, wordsSeen, wordsGiven, givenInWords, inWords, Holds, WordChain, ends, sweeps, finishes}
+use Rattle.exports.specs.Exchange.{ExchangesWords}
+use Rattle.exports.specs.WordChain.{GivenWords, SeenWords, wordsSeen, wordsGiven, givenInWords, inWords, Holds, WordChain, ends, sweeps, finishes, exchanges}
 
 -- ---- words that a call leaves hold the record after it
 
@@ -40,6 +41,9 @@ after-long (suc number) run words l e = rw e l
 pub sweep-holds : {words words′ : List ℕ} {t : CostTable} {k number : ℕ} {factor factor′ : List Float} → runWords ≤ length words
     → SweepsWords words t k factor number words′ factor′ → Holds (runIn words′) words′
 sweep-holds {words = words} {words′ = words′} {number = number} l says = record { enough = after-long number (runIn words′) words l (says .sweeps l .1); held = refl }
+
+pub exchange-holds : {words words′ : List ℕ} {rule : ℕ} {value : Float} {number : ℕ} → runWords ≤ length words → ExchangesWords words rule value number words′ → Holds (runIn words′) words′
+exchange-holds {words = words} {words′ = words′} {number = number} l says = record { enough = after-long number (runIn words′) words l (says .exchanges l .1); held = refl }
 
 -- ---- an accepted open
 
@@ -100,6 +104,14 @@ join (finishes {run = run} {kept = kept} {call = call} {seen = seen} words facto
       ap (λ (m : ℕ). wordsSeen m (wordsGiven number (call .table .n) b′ dual′ result′) run kept ∷ seen) (sym (number-is number x))
           ∙ ap (λ (g : Option GivenWords). wordsSeen (finishedNumber answer) g run kept ∷ seen) (given-is number x (call .table .n) b′ dual′ result (gave .2))
           ∙ ap (λ (s : List SeenWords). wordsSeen (finishedNumber answer) (givenInWords (givenOf answer (call .table .n) b′ dual′)) run kept ∷ s) (more .2),
+    )
+join (exchanges {kept = kept} {call = call} words rule number words′ holds byte says rest) =
+    let asked = subst (λ (k : ℕ). Exchanges (runIn words) k (call .number) number (runIn words′)) byte (says .exchanges (holds .enough) .0) in
+    let says′ = subst (λ (h : Run). Exchanges h (call .rule) (call .number) number (runIn words′)) (holds .held) asked in
+    let more = join rest in (
+      seenOf number none (runIn words′) kept ∷ more .0,
+      chain.exchanges number (runIn words′) says′ (more .1),
+      ap (λ (s : List SeenWords). wordsSeen number none (runIn words′) kept ∷ s) (more .2),
     )
 
 -- from an accepted open, whatever settings and tables

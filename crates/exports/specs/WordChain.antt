@@ -7,10 +7,11 @@ use mathlib.Core.Option.{Option, some, none}
 use lib.ListN.{length, take}
 use lib.Ieee.{Float}
 use Rattle.run_record.specs.declared.Run.{Run}
-use Rattle.run_contract.specs.PlainRun.{SweepCall, FinishCall, Call, sweep, finish, Given, Seen}
+use Rattle.run_contract.specs.PlainRun.{SweepCall, FinishCall, ExchangeCall, Call, sweep, finish, exchange, Given, Seen}
 use Rattle.run_contract.specs.Chain.{Lends, keptAfter, Sized}
-use Rattle.exports.specs.Words.{runWords, resultWords, runIn, resultWordsOf}
+use Rattle.exports.specs.Words.{runWords, resultWords, byteIn, runIn, resultWordsOf}
 use Rattle.exports.specs.Answers.{SweepsWords, FinishesWords}
+use Rattle.exports.specs.Exchange.{ExchangesWords}
 
 -- what an accepted finish gives: the words of its result, the choice, the multipliers
 pub record GivenWords : Type 0 where
@@ -41,7 +42,7 @@ givenInWords none = none
 abbrev pub inWords : Seen → SeenWords
 inWords seen = wordsSeen (seen .number) (givenInWords (seen .given)) (seen .run) (seen .factor)
 
--- words that hold a record; those that a call leaves hold the record after it (`open-holds`, `sweep-holds`), and what lies behind is any
+-- words that hold a record; those that a call leaves hold the record after it (`open-holds`, `sweep-holds`, `exchange-holds`), and what lies behind is any
 pub record Holds (run : Run) (words : List ℕ) : Type 0 where
   pub enough : runWords ≤ length words
   pub held : runIn words ≡ run
@@ -67,3 +68,10 @@ pub data WordChain : Run → List Float → List Call → List SeenWords → Typ
       → FinishesWords words (call .table) (call .width) (call .draw-count) (call .draws) factor b dual workspace result number b′ dual′ workspace′ result′
       → WordChain run kept calls seen
       → WordChain run kept (finish call ∷ calls) (wordsSeen number (wordsGiven number (call .table .n) b′ dual′ result′) run kept ∷ seen)
+  exchanges : {run : Run} {kept : List Float} {call : ExchangeCall} {calls : List Call} {seen : List SeenWords}
+      (words : List ℕ) (rule : ℕ) (number : ℕ) (words′ : List ℕ)
+      → Holds run words
+      → byteIn rule ≡ call .rule
+      → ExchangesWords words rule (call .number) number words′
+      → WordChain (runIn words′) kept calls seen
+      → WordChain run kept (exchange call ∷ calls) (wordsSeen number none (runIn words′) kept ∷ seen)

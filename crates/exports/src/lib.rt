@@ -2,6 +2,7 @@
 // them. None has a `requires`.
 pub mod blocks; // blocks.rt: blocks of wagons, then the house
 pub mod choices; // choices.rt: the calls on choices in words
+pub mod exchange; // exchange.rt: another rule for a run that is open
 pub mod factors; // factors.rt: the calls on a sign table and a factor
 pub mod numbers; // numbers.rt: root, eighths, bits, default rank; version and sizes
 pub mod pair; // pair.rt: the reduced pair

@@ -1,11 +1,12 @@
 -- What holds where a call is accepted: the table is a hall in slices that hold it, and every other slice is long enough. Assumes nothing.
 use Prim.Native.Nat.{ℕ, _+_, _*_, _≤_, _<_}
 use mathlib.Core.Path.{_≡_, sym, ap}
-use mathlib.Core.Bool.{false, not}
+use mathlib.Core.Bool.{false, not, _&&_, _||_}
 use native.Mathlib.Numerals.{add-one}
 use native.Mathlib.Omega.{arith}
 use borrow.Author.Tests.{ltb-false, le-ltb, eqb-true, eqb-false, not-false}
 use lib.Dec.{ltb, eqb}
+use lib.Ieee.{Float}
 use lib.ListN.{length}
 use Rattle.laws.proofs.Refusal.{clear, first-head, first-rest}
 use Rattle.laws.proofs.Any.{any-head, any-rest, any-not, any-none, or-left, or-right, and-left}
@@ -15,8 +16,9 @@ use Rattle.tables.specs.Check.{Hall}
 use Rattle.tables.proofs.Checks.{hall-accepted}
 use Rattle.run_record.specs.declared.Run.{Run}
 use Rattle.run_record.specs.CostTable.{CostTable, quadratic, linear}
+use Rattle.run_limits.specs.Momentum.{isMomentum}
 use Rattle.run_limits.specs.Start.{isSigns, drawsFollow, startCount, startLength}
-use Rattle.run_record.specs.Numbers.{tableShort, factorRefused, factorShort, recordRefused, costTableNumber, sweepShort, sweepNumber, memberNumber, drawsRefused, drawsShort, choiceShort, FinishLengths, finishShort, widthRefused, finishNumber, openRankRefused, startShort, openFactorShort, openShort, openNumber, ruleRefused}
+use Rattle.run_record.specs.Numbers.{tableShort, factorRefused, factorShort, recordRefused, costTableNumber, sweepShort, sweepNumber, memberNumber, drawsRefused, drawsShort, choiceShort, FinishLengths, finishShort, widthRefused, finishNumber, openRankRefused, startShort, openFactorShort, openShort, openNumber, ruleRefused, exchangeNumber, badMomentum}
 use Rattle.run_record.proofs.Short.{tested}
 use Rattle.run_record.proofs.Holds.{table-lent, costs-lent}
 use Rattle.run_limits.proofs.Ranks.{meant-low, meant-some}
@@ -208,3 +210,12 @@ module _ (run : Run) (t : CostTable) (width drawCount : ℕ) (lent : FinishLengt
           space-room = ltb-false _ _ (any-head _ _ (any-rest _ _ s₃));
         };
       }
+
+-- ---- exchange
+
+-- the rule that an accepted exchange asks for is one of the five
+pub exchange-rule-few : (run : Run) (rule : ℕ) (number : Float) → exchangeNumber run rule number ≡ 0 → rule ≤ 4
+unfolding exchangeNumber ruleRefused
+exchange-rule-few run rule number ok =
+    let both = clear (badMomentum (run .rule) || (ltb 4 rule || (eqb rule 4 && not (isMomentum number)))) 17 (first-head _ _ (first-rest _ _ (first-rest _ _ ok))) in
+    ltb-false 4 rule (or-left (ltb 4 rule) _ (or-right (badMomentum (run .rule)) _ both))

@@ -5,6 +5,7 @@
 --     sized-any       slices of the lengths that the call says, whatever they hold
 --     sweeps-any      a sweep on such a slice, with any outcome that its promise allows, goes before any chain
 --     finishes-any    so does a finish
+--     exchanges-any   and an exchange
 use Prim.Native.Nat.{ℕ, suc, _+_, _≤_, _<_}
 use mathlib.Core.Path.{_≡_, refl, sym, ap, _∙_}
 use mathlib.Core.List.{List, [], _∷_, _++_}
@@ -16,9 +17,9 @@ use lib.Seq.{length-take-le, take-all, take-at, take-nil}
 use Rattle.ieee.specs.Floats.{at}
 use Rattle.run_record.specs.declared.Run.{Run}
 use Rattle.run_contract.specs.declared.Finished.{Finished}
-use Rattle.run_contract.specs.Calls.{Sweeps, Finishes, finishedNumber}
-use Rattle.run_contract.specs.PlainRun.{SweepCall, FinishCall, Call, sweep, finish, Seen}
-use Rattle.run_contract.specs.Chain.{Lends, keptAfter, seenOf, givenOf, Sized, Chain, sweeps, finishes}
+use Rattle.run_contract.specs.Calls.{Sweeps, Finishes, finishedNumber, Exchanges}
+use Rattle.run_contract.specs.PlainRun.{SweepCall, FinishCall, ExchangeCall, Call, sweep, finish, exchange, Seen}
+use Rattle.run_contract.specs.Chain.{Lends, keptAfter, seenOf, givenOf, Sized, Chain, sweeps, finishes, exchanges}
 
 -- two lists have the same numbers as far as both go
 abbrev Agree : List Float → List Float → Type 0
@@ -68,3 +69,7 @@ module _ (run : Run) (kept : List Float) {calls : List Call} {seen : List Seen} 
       → Chain run kept (finish call ∷ calls) (seenOf (finishedNumber answer) (givenOf answer (call .table .n) b′ dual′) run kept ∷ seen)
   finishes-any call factor b dual workspace answer b′ dual′ workspace′ e h p q r says chain =
       finishes factor b dual workspace answer b′ dual′ workspace′ (lends-agree kept _ factor e h) (sized-any call b dual workspace p q r) says chain
+
+  pub exchanges-any : (call : ExchangeCall) (number : ℕ) (run′ : Run) → Exchanges run (call .rule) (call .number) number run′
+      → Chain run′ kept calls seen → Chain run kept (exchange call ∷ calls) (seenOf number none run′ kept ∷ seen)
+  exchanges-any call number run′ says chain = exchanges number run′ says chain

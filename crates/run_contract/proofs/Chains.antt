@@ -12,7 +12,8 @@ use borrow.Author.Tests.{leb-true, leb-false}
 use Rattle.laws.specs.Lists.{over}
 use Rattle.run_record.specs.declared.Run.{Run}
 use Rattle.run_record.specs.CostTable.{CostTable, quadratic, linear}
-use Rattle.run_record.specs.Numbers.{sweepNumber, finishNumber}
+use Rattle.run_record.specs.Numbers.{sweepNumber, finishNumber, exchangeNumber}
+use Rattle.step_rules.specs.Rule.{ruleOf}
 use Rattle.run_sweep.specs.Work.{callWork}
 use Rattle.run_sweep.specs.Sweep.{sweepsUpTo}
 use Rattle.float_bound.specs.Below.{AtMostEighths}
@@ -23,9 +24,9 @@ use Rattle.finalize.proofs.Demand3.{demand3}
 use Rattle.run_contract.specs.declared.FinishResult.{FinishResult}
 use Rattle.run_contract.specs.declared.Finished.{Finished}
 use Rattle.run_contract.specs.declared.Finished.the-variants as F
-use Rattle.run_contract.specs.Calls.{Sweeps, used, Finishes, finishLengths, finishResult, finishChoice, finishMultipliers}
-use Rattle.run_contract.specs.PlainRun.{FinishCall, Call, sweep, finish, Seen}
-use Rattle.run_contract.specs.Chain.{Lends, keptAfter, Sized, Chain, ends, sweeps, finishes}
+use Rattle.run_contract.specs.Calls.{Sweeps, used, Finishes, finishLengths, finishResult, finishChoice, finishMultipliers, exchanged, Exchanges}
+use Rattle.run_contract.specs.PlainRun.{FinishCall, Call, sweep, finish, exchange, Seen}
+use Rattle.run_contract.specs.Chain.{Lends, keptAfter, Sized, Chain, ends, sweeps, finishes, exchanges}
 use Rattle.run_contract.proofs.Accepting.{HallOf, finish-accepted}
 use Rattle.run_contract.proofs.Bounded.{bounded}
 
@@ -55,6 +56,11 @@ sweep-has run t k factor zero e =
     (s .run, over (s .factor) factor, record { numbered = sym e; refused = λ n. absurd (n refl); accepted = λ z. (refl, refl) })
 sweep-has run t k factor (suc m) e =
     (run, factor, record { numbered = sym e; refused = λ n. (refl, refl); accepted = λ z. absurd (omega arith) })
+
+-- an exchange has an outcome
+exchange-has : (run : Run) (rule : ℕ) (number : Float) (m : ℕ) → exchangeNumber run rule number ≡ m → (run′ : Run) × Exchanges run rule number m run′
+exchange-has run rule number zero e = (exchanged run (ruleOf rule number), record { numbered = sym e; refused = λ n. absurd (n refl); accepted = λ z. refl })
+exchange-has run rule number (suc m) e = (run, record { numbered = sym e; refused = λ n. refl; accepted = λ z. absurd (omega arith) })
 
 -- the result that an answer holds, or another
 abbrev pub resultOr : FinishResult → Finished → FinishResult
@@ -154,3 +160,7 @@ chain-of (finish call ∷ calls) run kept =
     (finishNumber run (call .table) (call .width) (call .draw-count) (finishLengths (call .draws) factor b dual workspace)) refl in
     let rest = chain-of calls run kept in
     (_, finishes factor b dual workspace (one .0) (one .1) (one .2) workspace (lends kept (call .factor-length)) (sized call) (one .3) (rest .1))
+chain-of (exchange call ∷ calls) run kept =
+    let one = exchange-has run (call .rule) (call .number) (exchangeNumber run (call .rule) (call .number)) refl in
+    let rest = chain-of calls (one .0) kept in
+    (_, exchanges _ (one .0) (one .1) (rest .1))

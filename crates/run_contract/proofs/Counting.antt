@@ -24,7 +24,7 @@ use Rattle.ieee.specs.Floats.{tiny, zero64}
 use Rattle.coordinate_sweep.specs.Sweep.{sweepTo, normAt, standingTo}
 use Rattle.step_rules.specs.declared.StepRule.{StepRule}
 use Rattle.step_rules.specs.declared.StepRule.the-variants.{Grad, GradAdv, Coord, CoordNoStep, CoordMomentum}
-use Rattle.step_rules.specs.Rule.{standingIn}
+use Rattle.step_rules.specs.Rule.{ruleOf, standingIn}
 use Rattle.step_rules.proofs.Standing.{standing-in-few}
 use Rattle.run_record.specs.declared.Run.{Run}
 use Rattle.run_record.specs.declared.Stage.{Stage}
@@ -34,7 +34,7 @@ use Rattle.run_sweep.specs.Sweep.{State, advanced, runAfter}
 use Rattle.run_contract.specs.declared.Opened.the-variants as O
 use Rattle.run_contract.specs.Calls.{Settings, Opens, used, finishResult}
 use Rattle.run_contract.specs.Schedule.{coordinateMomentum}
-use Rattle.run_contract.specs.PlainRun.{Plain, Call, sweep, finish, plainOpen, rowsLeft, plainSweeps, ifOpen, acted, recordOf, plainNumber, plainAfter, FinishCall, finishOf, Seen, plainSeen, plainTrace}
+use Rattle.run_contract.specs.PlainRun.{Plain, Call, sweep, finish, exchange, plainOpen, withRule, rowsLeft, plainSweeps, ifOpen, acted, recordOf, plainNumber, plainAfter, FinishCall, finishOf, Seen, plainSeen, plainTrace}
 use Rattle.run_contract.specs.Chain.{Chain}
 use Rattle.run_contract.specs.Log.{Made, madeFrom, ifOpenMade, made, accepted, madeBy, log, plainEnd, Pair, pair, normIn, isLeft, stoodBy, stoodIn, pairs, Among, Once, Numbered, Coordinate, rule-3, rule-4, Stood}
 use Rattle.run_contract.proofs.Follows.{stateOf, turned, turns}
@@ -74,7 +74,7 @@ turned-sweeps : (w : Work) (p : Plain) → turned w p .sweeps ≡ p .sweeps + 1
 unfolding stateOf recordOf runAfter advanced
 turned-sweeps w p = ap (λ (s : State). s .run .sweeps) (turns w p)
 
-turned-size : (w : Work) (p : Plain) → turned w p .size ≡ p .size
+pub turned-size : (w : Work) (p : Plain) → turned w p .size ≡ p .size
 unfolding stateOf recordOf runAfter advanced
 turned-size w p = ap (λ (s : State). s .run .size) (turns w p)
 
@@ -158,9 +158,16 @@ grown-sweeps (suc k) w p =
     let more = grown-join p (turned w p) (plainSweeps k w (turned w p)) (madeFrom w p ∷ []) (made k w (turned w p)) (grown-one w p) (grown-sweeps k w (turned w p)) in
     elim (p .stage) as (λ stage. Grown p (ifOpen stage (plainSweeps k w (turned w p)) p) (ifOpenMade stage (madeFrom w p ∷ made k w (turned w p)))) [ Open ↦ more | Stopped ↦ grown-none p ]
 
+grown-rule : (p : Plain) (rule : StepRule) → Grown p (withRule p rule) []
+unfolding withRule
+grown-rule p rule =
+    let g = grown-none p in
+    record { total-is = g .total-is; sweeps-are = g .sweeps-are; size-is = refl; numbers-are = tt; few-stay = λ l. l }
+
 grown-accepted : (p : Plain) (call : Call) → Grown p (acted p call) (accepted p call)
 grown-accepted p (sweep s) = grown-sweeps (s .k) (callWork (s .table)) p
 grown-accepted p (finish f) = grown-none p
+grown-accepted p (exchange e) = grown-rule p (ruleOf (e .rule) (e .number))
 
 grown-call : (p : Plain) (call : Call) → Grown p (plainAfter p call) (madeBy p call)
 unfolding plainAfter madeBy
@@ -202,7 +209,7 @@ among-right : {A : Type 0} (x : A) (xs ys : List A) → Among x ys → Among x (
 among-right x [] ys a = a
 among-right x (y ∷ xs) ys a = inr (among-right x xs ys a)
 
-among-split : {A : Type 0} (x : A) (xs ys : List A) → Among x (xs ++ ys) → Among x xs ⊎ Among x ys
+pub among-split : {A : Type 0} (x : A) (xs ys : List A) → Among x (xs ++ ys) → Among x xs ⊎ Among x ys
 among-split x [] ys a = inr a
 among-split x (y ∷ xs) ys (inl e) = inl (inl e)
 among-split x (y ∷ xs) ys (inr a) = by (among-split x xs ys a)

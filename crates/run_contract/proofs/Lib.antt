@@ -10,6 +10,7 @@ pub mod Follows
 pub mod Opening
 pub mod OnLists
 pub mod Counting
+pub mod InTurn
 pub mod Chains
 pub mod Tails
 pub mod Examples

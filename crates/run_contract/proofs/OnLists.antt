@@ -1,5 +1,5 @@
--- Demand 3's last sentence, one statement on the whole list: from an accepted open, every chain of sweep and finish calls, refused ones
--- included, is seen as 01's plain run has it. By induction on the list. Assumes nothing.
+-- Demand 3's last sentence, one statement on the whole list: from an accepted open, every chain of sweep, finish and exchange calls, refused
+-- ones included, is seen as 01's plain run has it. By induction on the list. Assumes nothing.
 use Prim.Native.Nat.{ℕ, zero, suc, _*_, _≤_}
 use mathlib.Core.Path.{_≡_, refl, sym, ap, _∙_, subst}
 use mathlib.Core.Bool.{Bool, true, false, cond}
@@ -15,16 +15,17 @@ use Rattle.laws.specs.Lists.{over}
 use Rattle.run_record.specs.declared.Run.{Run}
 use Rattle.run_record.specs.declared.Stage.the-variants.{Open, Stopped}
 use Rattle.run_record.specs.CostTable.{quadratic, linear}
-use Rattle.run_record.specs.Numbers.{sweepNumber, finishNumber}
+use Rattle.run_record.specs.Numbers.{sweepNumber, finishNumber, exchangeNumber}
+use Rattle.step_rules.specs.Rule.{ruleOf}
 use Rattle.run_sweep.specs.Work.{Work, callWork}
 use Rattle.run_sweep.specs.Sweep.{State, sweepsUpTo, advanced, runAfter}
 use Rattle.run_contract.specs.declared.Opened.{Opened}
 use Rattle.run_contract.specs.declared.Opened.the-variants as O
 use Rattle.run_contract.specs.declared.Finished.{Finished}
 use Rattle.run_contract.specs.declared.Finished.the-variants as F
-use Rattle.run_contract.specs.Calls.{Settings, Opens, Sweeps, used, Finishes, finishLengths, finishResult, finishChoice, finishMultipliers, finishedNumber}
-use Rattle.run_contract.specs.PlainRun.{Plain, SweepCall, FinishCall, Call, sweep, finish, plainOpen, sweptFactor, plainSweeps, ifOpen, recordOf, lengthsOf, plainNumber, plainAfter, Given, finishOf, Seen, seenAt, plainSeen, plainTrace}
-use Rattle.run_contract.specs.Chain.{Lends, keptAfter, seenOf, givenOf, Sized, Chain, ends, sweeps, finishes}
+use Rattle.run_contract.specs.Calls.{Settings, Opens, Sweeps, used, Finishes, finishLengths, finishResult, finishChoice, finishMultipliers, finishedNumber, exchanged, Exchanges}
+use Rattle.run_contract.specs.PlainRun.{Plain, SweepCall, FinishCall, ExchangeCall, Call, sweep, finish, exchange, plainOpen, withRule, sweptFactor, plainSweeps, ifOpen, recordOf, lengthsOf, plainNumber, plainAfter, Given, finishOf, Seen, seenAt, plainSeen, plainTrace}
+use Rattle.run_contract.specs.Chain.{Lends, keptAfter, seenOf, givenOf, Sized, Chain, ends, sweeps, finishes, exchanges}
 use Rattle.run_contract.proofs.Accepting.{sweep-accepted, finish-accepted}
 use Rattle.run_contract.proofs.Lengths.{length-stepped, length-choice, length-multipliers}
 use Rattle.run_contract.proofs.Follows.{stateOf, turned, turns, sweeps-follow}
@@ -176,6 +177,37 @@ module _ (p : Plain) (call : FinishCall) (factor : List Float) (b : List ℕ) (d
       ∙ ap (λ (m : ℕ). seenAt m (givenOf answer (call .table .n) b′ dual′) (plainAfter p (finish call))) finish-number
       ∙ ap (λ (g : Option Given). seenAt (plainNumber p (finish call)) g (plainAfter p (finish call))) (both .0)
 
+-- ---- an exchange from a plain run's state
+
+module _ (p : Plain) (call : ExchangeCall) (number : ℕ) (run′ : Run) (w : Whole p) (says : Exchanges (recordOf p) (call .rule) (call .number) number run′) where
+  exchange-number : number ≡ plainNumber p (exchange call)
+  unfolding plainNumber
+  exchange-number = says .numbered
+
+  -- the record that the call leaves; the factor is as it was
+  abbrev After : Plain → Type 0
+  After q = (run′ ≡ recordOf q) × (p .factor ≡ q .factor) × Whole q
+
+  exchange-acts : number ≡ 0 → After (withRule p (ruleOf (call .rule) (call .number)))
+  unfolding recordOf exchanged withRule
+  exchange-acts z = (says .accepted z, refl, w)
+
+  exchange-by : (m : ℕ) → number ≡ m → After (plainAfter p (exchange call))
+  unfolding plainAfter
+  exchange-by zero e = rw (eq-eqb _ _ (sym exchange-number ∙ e)) (exchange-acts e)
+  exchange-by (suc m) e = let n : number ≡ 0 → ⊥ = (λ z. omega arith) in rw (ne-eqb (plainNumber p (exchange call)) 0 (λ z. n (exchange-number ∙ z))) (says .refused n, refl, w)
+
+  pub exchange-left : After (plainAfter p (exchange call))
+  exchange-left = exchange-by number refl
+
+  exchange-seen : seenOf number none run′ (p .factor) ≡ plainSeen p (exchange call)
+  unfolding plainSeen
+  exchange-seen =
+      ap (λ (r : Run). seenOf number none r (p .factor)) (exchange-left .0)
+      ∙ ap (λ (v : List Float). seenOf number none (recordOf (plainAfter p (exchange call))) v) (exchange-left .1)
+      ∙ ap (λ (m : ℕ). seenAt m none (plainAfter p (exchange call))) exchange-number
+      ∙ ap (λ (g : Option Given). seenAt (plainNumber p (exchange call)) g (plainAfter p (exchange call))) (sym (either (eqb (plainNumber p (exchange call)) 0)))
+
 -- ---- the list
 
 -- from any state of the plain run
@@ -198,6 +230,12 @@ follows (finishes {kept = kept} {call = call} {calls = calls} {seen = seen} fact
     ∙ ap (λ (v : List Float). seenOf (finishedNumber answer) (givenOf answer (call .table .n) b′ dual′) (recordOf p) v ∷ seen) f
     ∙ ap (λ (x : Seen). x ∷ seen) (finish-seen p call factor b dual workspace answer b′ dual′ workspace′ w lends′ sized says′)
     ∙ ap (λ (xs : List Seen). plainSeen p (finish call) ∷ xs) (follows chain p w r f ∙ ap (λ (q : Plain). plainTrace q calls) stays)
+follows (exchanges {call = call} {calls = calls} {seen = seen} number run′ says chain) p w r f =
+    let says′ = subst (λ (h : Run). Exchanges h (call .rule) (call .number) number run′) r says in
+    let left = exchange-left p call number run′ w says′ in
+    ap (λ (v : List Float). seenOf number none run′ v ∷ seen) f
+    ∙ ap (λ (x : Seen). x ∷ seen) (exchange-seen p call number run′ w says′)
+    ∙ ap (λ (xs : List Seen). plainSeen p (exchange call) ∷ xs) (follows chain (plainAfter p (exchange call)) (left .2) (left .0) (f ∙ left .1))
 
 abbrev pub runOr : Run → Opened → Run
 runOr other (O.Started run) = run

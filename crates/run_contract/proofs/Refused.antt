@@ -7,12 +7,12 @@ use lib.Ieee.{Float}
 use lib.ListN.{length}
 use Rattle.run_record.specs.declared.Run.{Run}
 use Rattle.run_record.specs.CostTable.{CostTable}
-use Rattle.run_record.specs.Numbers.{sweepNumber, finishNumber}
+use Rattle.run_record.specs.Numbers.{sweepNumber, finishNumber, exchangeNumber}
 use Rattle.run_contract.specs.declared.Opened.{Opened}
 use Rattle.run_contract.specs.declared.Opened.the-variants as O
 use Rattle.run_contract.specs.declared.Finished.{Finished}
 use Rattle.run_contract.specs.declared.Finished.the-variants as F
-use Rattle.run_contract.specs.Calls.{Settings, openedNumber, openNumberOf, Opens, Sweeps, finishedNumber, finishLengths, Finishes}
+use Rattle.run_contract.specs.Calls.{Settings, openedNumber, openNumberOf, Opens, Sweeps, finishedNumber, finishLengths, Finishes, Exchanges}
 
 -- an answer whose number isn't 0 is a refusal by it
 opened-refused : (answer : Opened) (k : ℕ) → openedNumber answer ≡ k → (k ≡ 0 → ⊥) → answer ≡ O.Refused k
@@ -59,3 +59,10 @@ module _ {run : Run} {t : CostTable} {width drawCount : ℕ} {draws factor : Lis
 
   pub finish-workspace : workspace′ ≡ workspace
   finish-workspace = says .refused none .2
+
+module _ {run run′ : Run} {rule : ℕ} {number : Float} {answer : ℕ} (says : Exchanges run rule number answer run′) (some : exchangeNumber run rule number ≡ 0 → ⊥) where
+  pub exchange-answer : answer ≡ exchangeNumber run rule number
+  exchange-answer = says .numbered
+
+  pub exchange-record : run′ ≡ run
+  exchange-record = says .refused (λ z. some (sym (says .numbered) ∙ z))

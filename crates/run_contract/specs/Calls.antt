@@ -1,4 +1,4 @@
--- What the three calls of a run promise (01, "Run"): the predicates that their `ensures` cite, and that the theorem on lists takes as its steps.
+-- What the calls of a run promise (01, "Run"; the exchange of a rule 02, Note 12): the predicates that their `ensures` cite, and that the theorem on lists takes as its steps.
 use Prim.Native.Nat.{ℕ, _+_, _*_, _≤_}
 use mathlib.Core.Path.{_≡_}
 use mathlib.Core.Bool.{cond}
@@ -8,6 +8,7 @@ use lib.Ieee.{Float}
 use lib.ListN.{length, take, drop}
 use Rattle.laws.specs.Lists.{over}
 use Rattle.ieee.specs.Floats.{_+ᶠ_}
+use Rattle.step_rules.specs.declared.StepRule.{StepRule}
 use Rattle.step_rules.specs.Rule.{ruleOf}
 use Rattle.initialize.specs.Initialize.{startBy}
 use Rattle.maxcut_oracle.specs.Table.{workObjective}
@@ -19,7 +20,7 @@ use Rattle.run_record.specs.CostTable.{CostTable, quadratic, linear}
 use Rattle.limits.specs.Limits.{searchWorkspace}
 use Rattle.run_limits.specs.Rank.{rankMeant}
 use Rattle.run_limits.specs.Start.{isSigns, drawsFollow}
-use Rattle.run_record.specs.Numbers.{openNumber, sweepNumber, FinishLengths, finishNumber}
+use Rattle.run_record.specs.Numbers.{openNumber, sweepNumber, FinishLengths, finishNumber, exchangeNumber}
 use Rattle.run_sweep.specs.Work.{signTableOf, callWork}
 use Rattle.run_sweep.specs.Sweep.{sweepsUpTo}
 use Rattle.float_bound.specs.Below.{AtMostEighths}
@@ -129,6 +130,33 @@ pub record Sweeps (run : Run) (t : CostTable) (k : ℕ) (factor : List Float) (n
   pub refused : (number ≡ 0 → ⊥) → (run′ ≡ run) × (factor′ ≡ factor)
   pub accepted : number ≡ 0
       → (run′ ≡ sweepsUpTo k (callWork t) run (take (used run) factor) .run) × (factor′ ≡ over (sweepsUpTo k (callWork t) run (take (used run) factor) .factor) factor)
+
+-- ---- exchange
+
+-- the record with another rule; "sweeps done, last objective, limits, tolerances and the count of Note 2 carry over" (02, Note 12), and so do size,
+-- rank, stage and status
+unfoldable pub exchanged : Run → StepRule → Run
+exchanged old rule =
+    record {
+      size = old .size;
+      rank = old .rank;
+      rule = rule;
+      sweeps = old .sweeps;
+      «last_objective» = old .«last_objective»;
+      «objective_tolerance» = old .«objective_tolerance»;
+      «stationarity_tolerance» = old .«stationarity_tolerance»;
+      most = old .most;
+      minimum = old .minimum;
+      stage = old .stage;
+      status = old .status;
+      standing = old .standing;
+    }
+
+-- from the record, and the rule and number that are asked for, to the call's number and the record after it
+pub record Exchanges (run : Run) (rule : ℕ) (number : Float) (answer : ℕ) (run′ : Run) : Type 0 where
+  pub numbered : answer ≡ exchangeNumber run rule number
+  pub refused : (answer ≡ 0 → ⊥) → run′ ≡ run
+  pub accepted : answer ≡ 0 → run′ ≡ exchanged run (ruleOf rule number)
 
 -- ---- finish
 

@@ -9,8 +9,8 @@ use lib.Ieee.{Float}
 use Rattle.run_record.specs.declared.Run.{Run}
 use Rattle.run_contract.specs.declared.Finished.{Finished}
 use Rattle.run_contract.specs.declared.Finished.the-variants as F
-use Rattle.run_contract.specs.Calls.{Sweeps, Finishes, finishedNumber}
-use Rattle.run_contract.specs.PlainRun.{SweepCall, FinishCall, Call, sweep, finish, Given, Seen}
+use Rattle.run_contract.specs.Calls.{Sweeps, Finishes, finishedNumber, Exchanges}
+use Rattle.run_contract.specs.PlainRun.{SweepCall, FinishCall, ExchangeCall, Call, sweep, finish, exchange, Given, Seen}
 
 -- a slice of so many numbers is lent that has the kept factor as far as both go; what lies behind the factor is any. Any such slice is meant
 -- (`lends-agree`, proofs/Allowed)
@@ -37,8 +37,8 @@ pub record Sized (call : FinishCall) (b : List ℕ) (dual : List Float) (workspa
   pub dual-sized : length dual ≡ call .dual-length
   pub workspace-sized : length workspace ≡ call .workspace-length
 
--- from a run record and its factor, a list of calls, and what is seen after each; a finish is given record and factor to read only. No case asks
--- more than these (`sweeps-any`, `finishes-any`)
+-- from a run record and its factor, a list of calls, and what is seen after each; a finish is given record and factor to read only, an exchange
+-- the record alone. No case asks more than these (`sweeps-any`, `finishes-any`, `exchanges-any`)
 pub data Chain : Run → List Float → List Call → List Seen → Type 0 where
   ends : {run : Run} {kept : List Float} → Chain run kept [] []
   sweeps : {run : Run} {kept : List Float} {call : SweepCall} {calls : List Call} {seen : List Seen}
@@ -54,3 +54,8 @@ pub data Chain : Run → List Float → List Call → List Seen → Type 0 where
       → Finishes run (call .table) (call .width) (call .draw-count) (call .draws) factor b dual workspace answer b′ dual′ workspace′
       → Chain run kept calls seen
       → Chain run kept (finish call ∷ calls) (seenOf (finishedNumber answer) (givenOf answer (call .table .n) b′ dual′) run kept ∷ seen)
+  exchanges : {run : Run} {kept : List Float} {call : ExchangeCall} {calls : List Call} {seen : List Seen}
+      (number : ℕ) (run′ : Run)
+      → Exchanges run (call .rule) (call .number) number run′
+      → Chain run′ kept calls seen
+      → Chain run kept (exchange call ∷ calls) (seenOf number none run′ kept ∷ seen)

@@ -1,4 +1,5 @@
--- The sweeps that a plain run makes in a list of calls, one after the other, and the pairs of sweep and row that stand (02, Note 2). Definitions only.
+-- The sweeps that a plain run makes in a list of calls, one after the other: the pairs of sweep and row that stand (02, Note 2), and each sweep's rule
+-- in turn (02, Note 12). Definitions only.
 use Prim.Native.Nat.{ℕ, zero, suc, _+_, _<_}
 use mathlib.Core.Path.{_≡_}
 use mathlib.Core.Bool.{Bool, false, not, cond}
@@ -12,11 +13,12 @@ use Rattle.ieee.specs.Floats.{tiny, zero64}
 use Rattle.coordinate_sweep.specs.Sweep.{sweepTo, normAt}
 use Rattle.step_rules.specs.declared.StepRule.{StepRule}
 use Rattle.step_rules.specs.declared.StepRule.the-variants.{CoordNoStep, CoordMomentum}
+use Rattle.step_rules.specs.Rule.{ruleOf, stepped}
 use Rattle.run_record.specs.declared.Stage.{Stage}
 use Rattle.run_record.specs.declared.Stage.the-variants.{Open, Stopped}
 use Rattle.run_sweep.specs.Work.{Work, callWork}
 use Rattle.run_contract.specs.Schedule.{coordinateMomentum}
-use Rattle.run_contract.specs.PlainRun.{Plain, Call, sweep, finish, swept, checked, atMost, plainNumber, plainAfter}
+use Rattle.run_contract.specs.PlainRun.{Plain, SweepCall, Call, sweep, finish, exchange, swept, checked, atMost, plainNumber, plainAfter}
 
 -- ---- the sweeps
 
@@ -45,6 +47,7 @@ made (suc k) w p = ifOpenMade (p .stage) (madeFrom w p ∷ made k w (atMost (che
 abbrev pub accepted : Plain → Call → List Made
 accepted p (sweep s) = made (s .k) (callWork (s .table)) p
 accepted p (finish f) = []
+accepted p (exchange e) = []
 
 -- a refused call makes none
 unfoldable pub madeBy : Plain → Call → List Made
@@ -121,3 +124,32 @@ pub record Stood (sweeps : List Made) (number row : ℕ) : Type 0 where
   pub under : Coordinate (one .rule) beta
   pub row-there : row < one .size
   pub norm-small : le tiny (normIn one beta row) ≡ false
+
+-- ---- each sweep's rule in turn
+
+-- m rows of rank numbers after these sweeps, each by its own rule and over its own table: "applying each sweep's rule in turn"
+unfoldable pub applied : ℕ → ℕ → List Made → List Float → List Float
+applied m rank [] factor = factor
+applied m rank (s ∷ sweeps) factor =
+    applied m rank sweeps (stepped (s .rule) (s .work .rows) (s .work .cols) (s .work .values) (s .work .starts) m rank factor)
+
+-- the rule after a call with this number: an accepted exchange's own, else the one before
+abbrev pub ruleBy : ℕ → Call → StepRule → StepRule
+ruleBy number (sweep s) rule = rule
+ruleBy number (finish f) rule = rule
+ruleBy number (exchange e) rule = cond (eqb number 0) (ruleOf (e .rule) (e .number)) rule
+
+-- that of the last accepted exchange of a list of calls, or the one before them
+unfoldable pub ruleAfter : Plain → List Call → StepRule → StepRule
+ruleAfter p [] rule = rule
+ruleAfter p (call ∷ calls) rule = ruleAfter (plainAfter p call) calls (ruleBy (plainNumber p call) call rule)
+
+-- a sweep of the log: the accepted sweep call of the list that made it, over whose table, and by the rule that stood after the calls before
+pub record MadeIn (p : Plain) (calls : List Call) (s : Made) : Type 0 where
+  pub front : List Call
+  pub call : SweepCall
+  pub back : List Call
+  pub split : calls ≡ front ++ (sweep call ∷ back)
+  pub accepted-there : plainNumber (plainEnd p front) (sweep call) ≡ 0
+  pub table-is : s .work ≡ callWork (call .table)
+  pub rule-is : s .rule ≡ ruleAfter p front (p .rule)

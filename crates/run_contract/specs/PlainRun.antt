@@ -4,7 +4,7 @@
 -- the open), one sweep of a rule and the rows that it leaves as they were (`stepped`, `standingIn`), a check's objective, residual and threshold
 -- (`checkObjective`, `checkResidual`, `checkThreshold`), 000's objective of a start (`workObjective`), the start's factor with the size and rank meant
 -- (`startFactor`, `openSize`, `openRank`), the rule of a number (`ruleOf`), what an accepted finish gives of a factor (`finishResult`, `finishChoice`,
--- `finishMultipliers`), and the numbers (`sweepNumber`, `finishNumber`), which proofs/Answered.antt shows to be 01's. When a check is due, its stop
+-- `finishMultipliers`), and the numbers (`sweepNumber`, `finishNumber`, `exchangeNumber`), which proofs/Answered.antt shows to be 01's. When a check is due, its stop
 -- tests, how sweeps done, last objective, stage, status and total move, and what a refused call leaves are its own, here and in specs/Schedule.antt.
 -- That the total is the number of pairs of sweep and row that 02's Note 2 speaks of is proved in proofs/Counting.antt, by specs/Log.antt.
 use Prim.Native.Nat.{ℕ, zero, suc, _+_}
@@ -22,7 +22,7 @@ use Rattle.run_record.specs.declared.Stage.{Stage}
 use Rattle.run_record.specs.declared.Stage.the-variants.{Open, Stopped}
 use Rattle.run_record.specs.declared.Run.{Run}
 use Rattle.run_record.specs.CostTable.{CostTable}
-use Rattle.run_record.specs.Numbers.{sweepNumber, FinishLengths, finishNumber}
+use Rattle.run_record.specs.Numbers.{sweepNumber, FinishLengths, finishNumber, exchangeNumber}
 use Rattle.run_sweep.specs.Work.{Work, signTableOf, callWork}
 use Rattle.run_contract.specs.declared.FinishResult.{FinishResult}
 use Rattle.run_contract.specs.Calls.{Settings, openSize, openRank, startFactor, finishResult, finishChoice, finishMultipliers}
@@ -62,9 +62,15 @@ pub record FinishCall : Type 0 where
   pub dual-length : ℕ
   pub workspace-length : ℕ
 
+-- "A call on an open run exchanges rule and number"; "Demand 3's lists take exchanges too" (02, Note 12)
+pub record ExchangeCall : Type 0 where
+  pub rule : ℕ
+  pub number : Float
+
 pub data Call : Type 0 where
   sweep : SweepCall → Call
   finish : FinishCall → Call
+  exchange : ExchangeCall → Call
 
 -- ---- open
 
@@ -133,6 +139,25 @@ withStop p last stage status =
       last = last;
       stage = stage;
       status = status;
+      standing = p .standing;
+    }
+
+-- the state with another rule: "its plain run then setting rule and number alone" (02, Note 12)
+unfoldable pub withRule : Plain → StepRule → Plain
+withRule p rule =
+    record {
+      factor = p .factor;
+      size = p .size;
+      rank = p .rank;
+      rule = rule;
+      objective-tolerance = p .objective-tolerance;
+      stationarity-tolerance = p .stationarity-tolerance;
+      most = p .most;
+      minimum = p .minimum;
+      sweeps = p .sweeps;
+      last = p .last;
+      stage = p .stage;
+      status = p .status;
       standing = p .standing;
     }
 
@@ -207,11 +232,13 @@ lengthsOf f =
 unfoldable pub plainNumber : Plain → Call → ℕ
 plainNumber p (sweep s) = sweepNumber (recordOf p) (s .table) (s .factor-length)
 plainNumber p (finish f) = finishNumber (recordOf p) (f .table) (f .width) (f .draw-count) (lengthsOf f)
+plainNumber p (exchange e) = exchangeNumber (recordOf p) (e .rule) (e .number)
 
 -- "Finish changes nothing."
 abbrev pub acted : Plain → Call → Plain
 acted p (sweep s) = plainSweeps (s .k) (callWork (s .table)) p
 acted p (finish f) = p
+acted p (exchange e) = withRule p (ruleOf (e .rule) (e .number))
 
 -- "A call to which a number applies .. changes nothing."
 unfoldable pub plainAfter : Plain → Call → Plain
@@ -235,6 +262,7 @@ finishOf p f =
 abbrev pub givenBy : Plain → Call → Option Given
 givenBy p (sweep s) = none
 givenBy p (finish f) = some (finishOf p f)
+givenBy p (exchange e) = none
 
 -- ---- a list of calls
 

@@ -13,6 +13,12 @@ pub struct Swept {
     pub number: u8,
 }
 
+// The record after an exchange of its rule and the call's number; refused, the record is as it was.
+pub struct Exchanged {
+    pub run: Run,
+    pub number: u8,
+}
+
 // What a finish gives; the choice and the multipliers are in the slices lent for them. Floor and costs are in eighths; standing is the record's.
 pub struct FinishResult {
     pub status: u8,

@@ -1,7 +1,7 @@
 -- Open, sweep and finish answer the first number of 01's order whose condition, in 01's words, holds, and 0 where none does. Assumes nothing.
 use Prim.Native.Nat.{ℕ, zero, suc, _+_, _-_, _*_, _<_, _≤_}
 use mathlib.Core.Path.{_≡_, refl, sym, ap, subst}
-use mathlib.Core.Bool.{true, false, not, false≢true}
+use mathlib.Core.Bool.{true, false, not, _||_, false≢true}
 use mathlib.Core.List.{List, [], _∷_, _++_}
 use mathlib.Core.Logic.{_⊎_, inl, inr}
 use native.Mathlib.Omega.{arith}
@@ -25,8 +25,8 @@ use Rattle.run_record.specs.declared.Stage.{Stage}
 use Rattle.run_record.specs.declared.Stage.the-variants.{Open, Stopped}
 use Rattle.run_record.specs.declared.Run.{Run}
 use Rattle.run_record.specs.CostTable.{CostTable, quadratic, linear}
-use Rattle.run_record.specs.Numbers.{isStopped, tableShort, factorRefused, factorShort, ownFaults, ownRefused, recordRefused, costTableNumber, badMomentum, sweepShort, sweepNumber, memberNumber, drawsRefused, drawsShort, choiceShort, FinishLengths, finishShort, widthRefused, finishNumber, openRankRefused, startShort, openFactorShort, openShort, ruleRefused, openNumber}
-use Rattle.run_record.specs.Conditions.{Clause, Answered, BadSize, wagons-above, entries-above, BadEntry, row-out, column-out, out-of-order, Unmirrored, TooLarge, tableClauses, BadRank, rank-high, rank-missing, Finite, Momentum, BadRule, rule-above, no-momentum, BadMomentum, BadDraws, width-above, draws-none, draws-above, OwnFault, rank-none, rank-above, sweeps-above, most-while-open, status-above, status-while-open, total-above, BadRecord, sizes-disagree, own-fault, TableTooShort, rows-short, cols-short, values-short, costs-short, FactorTooShort, DrawsTooShort, SweepTooShort, sweep-table, sweep-factor, FinishTooShort, finish-table, finish-draws, finish-factor, finish-b, finish-dual, finish-workspace, OpenTooShort, open-table, open-start, open-factor, openClauses, sweepClauses, memberClauses, finishClauses}
+use Rattle.run_record.specs.Numbers.{isStopped, tableShort, factorRefused, factorShort, ownFaults, ownRefused, recordRefused, costTableNumber, badMomentum, sweepShort, sweepNumber, memberNumber, drawsRefused, drawsShort, choiceShort, FinishLengths, finishShort, widthRefused, finishNumber, openRankRefused, startShort, openFactorShort, openShort, ruleRefused, openNumber, exchangeNumber}
+use Rattle.run_record.specs.Conditions.{Clause, Answered, BadSize, wagons-above, entries-above, BadEntry, row-out, column-out, out-of-order, Unmirrored, TooLarge, tableClauses, BadRank, rank-high, rank-missing, Finite, Momentum, BadRule, rule-above, no-momentum, BadMomentum, BadDraws, width-above, draws-none, draws-above, OwnFault, rank-none, rank-above, sweeps-above, most-while-open, status-above, status-while-open, total-above, BadRecord, sizes-disagree, own-fault, TableTooShort, rows-short, cols-short, values-short, costs-short, FactorTooShort, DrawsTooShort, SweepTooShort, sweep-table, sweep-factor, FinishTooShort, finish-table, finish-draws, finish-factor, finish-b, finish-dual, finish-workspace, OpenTooShort, open-table, open-start, open-factor, openClauses, sweepClauses, memberClauses, finishClauses, BadExchange, old-momentum, new-rule, exchangeClauses}
 use Rattle.run_record.proofs.Deciding.{Decides, reads, stable, less, at-most, equal, neither, both, either, or-else, and-then, none-left, DecidesAny, reads-any, one-or, some-below, too-short, Follows, ends, then-if, flat, answered, of-number}
 
 -- ---- 13 to 16
@@ -476,6 +476,22 @@ finish-answered run t width drawCount lent =
     (then-if 30 (finish-short-decided run t drawCount lent) (then-if 31 (open-decided (run .stage)) (then-if 32 (record-decided run (t .n))
     (table-then t (then-if 17 (record-momentum-decided (run .rule)) (then-if 18 (width-decided width drawCount) ends))))) .first-is) refl refl
 
+exchange-decided : (run : Run) (rule : ℕ) (number : Float) → Decides (badMomentum (run .rule) || ruleRefused rule number) (BadExchange run rule number)
+exchange-decided run rule number = reads to from (either (record-momentum-decided (run .rule)) (rule-decided rule number))
+  where
+    to : BadMomentum (run .rule) ⊎ BadRule rule number → BadExchange run rule number
+    to (inl b) = old-momentum b
+    to (inr b) = new-rule b
+
+    from : BadExchange run rule number → BadMomentum (run .rule) ⊎ BadRule rule number
+    from (old-momentum b) = inl b
+    from (new-rule b) = inr b
+
+pub exchange-answered : (run : Run) (rule : ℕ) (number : Float) → Answered (exchangeNumber run rule number) (exchangeClauses run rule number)
+unfolding exchangeNumber
+exchange-answered run rule number =
+    answered (then-if 31 (stopped-decided (run .stage)) (then-if 32 (own-decided run) (then-if 17 (exchange-decided run rule number) ends)) .first-is) refl refl
+
 -- number by number
 
 module _ (t : CostTable) (rank rule : ℕ) (number : Float) (most start numbers factor : ℕ) where
@@ -513,3 +529,12 @@ module _ (run : Run) (t : CostTable) (width drawCount : ℕ) (lent : FinishLengt
   finish-numbers =
       let a = finish-answered run t width drawCount lent in
       (of-number 30 a, of-number 31 a, of-number 32 a, of-number 12 a, of-number 13 a, of-number 14 a, of-number 15 a, of-number 17 a, of-number 18 a)
+
+module _ (run : Run) (rule : ℕ) (number : Float) where
+  abbrev asked : ℕ
+  asked = exchangeNumber run rule number
+
+  pub exchange-numbers : (asked ≡ 32 → run .stage ≡ Stopped) × (asked ≡ 33 → OwnFault run) × (asked ≡ 18 → BadExchange run rule number)
+  exchange-numbers =
+      let a = exchange-answered run rule number in
+      (of-number 31 a, of-number 32 a, of-number 17 a)

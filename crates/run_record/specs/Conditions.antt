@@ -1,4 +1,4 @@
--- What each number of open, sweep and finish says, in 01's words ("Numbers from the input", "Numbers from the state"): each condition a proposition,
+-- What each number of open, sweep, finish and the exchange of a rule says, in 01's words ("Numbers from the input", "Numbers from the state"): each condition a proposition,
 -- each call a list of its numbers with their conditions, in 01's order. That `openNumber`, `sweepNumber` and `finishNumber` answer by them is
 -- proved in proofs/Answered.antt. Definitions only.
 use Prim.Native.Nat.{ℕ, suc, _+_, _*_, _<_, _≤_}
@@ -214,3 +214,16 @@ finishClauses run t width drawCount lent =
     ++ (18 when BadMomentum (run .rule)
     ∷ 19 when BadDraws width drawCount
     ∷ []))
+
+-- "Number 18 serves a bad rule" (02, Note 12): the one that is asked for, or a bad momentum in the record
+pub data BadExchange (run : Run) (rule : ℕ) (number : Float) : Type 0 where
+  old-momentum : BadMomentum (run .rule) → BadExchange run rule number
+  new-rule : BadRule rule number → BadExchange run rule number
+
+-- "32 a stopped run"
+abbrev pub exchangeClauses : Run → ℕ → Float → List Clause
+exchangeClauses run rule number =
+    32 when (run .stage ≡ Stopped)
+    ∷ 33 when OwnFault run
+    ∷ 18 when BadExchange run rule number
+    ∷ []

@@ -1,4 +1,4 @@
--- The refusal numbers of open, sweep and finish: for each call the first of its numbers, in 01's order, whose condition holds. Assumes nothing.
+-- The refusal numbers of open, sweep, finish and the exchange of a rule: for each call the first of its numbers, in 01's order, whose condition holds. Assumes nothing.
 use Prim.Native.Nat.{ℕ, _+_, _*_}
 use mathlib.Core.Bool.{Bool, true, false, not, _&&_, _||_}
 use mathlib.Core.List.{List, [], _∷_}
@@ -156,4 +156,13 @@ openNumber t rank rule number most start numbers factor =
     ∷ 17 if openRankRefused rank start
     ∷ 18 if ruleRefused rule number
     ∷ 19 if ltb 2 start
+    ∷ [])
+
+-- the exchange of a run's rule (02, Note 12), on the record alone: 33 is what a call without a table can judge of it
+unfoldable pub exchangeNumber : Run → ℕ → Float → ℕ
+exchangeNumber run rule number =
+    first
+    (32 if isStopped (run .stage)
+    ∷ 33 if ownRefused run
+    ∷ 18 if (badMomentum (run .rule) || ruleRefused rule number)
     ∷ [])

@@ -1,11 +1,11 @@
 // The number that each call answers: the first in 01's order whose condition holds, 0 where none does.
 ghost use mathlib.Core.Path.{_≡_};
-ghost use mathlib.Core.Bool.{false};
+ghost use mathlib.Core.Bool.{false, _||_};
 ghost use Prim.Native.Nat.{_*_};
 ghost use lib.Dec.{ltb};
 ghost use Rattle.run_record.specs.CostTable.{costTable};
 ghost use Rattle.run_record.specs.Lengths.{lengthsOf};
-ghost use Rattle.run_record.specs.Numbers.{tableShort, ownRefused, recordRefused, costTableNumber, badMomentum, sweepNumber, memberNumber, drawsRefused, widthRefused, finishNumber, ruleRefused, openNumber};
+ghost use Rattle.run_record.specs.Numbers.{tableShort, ownRefused, recordRefused, costTableNumber, badMomentum, sweepNumber, memberNumber, drawsRefused, widthRefused, finishNumber, ruleRefused, openNumber, exchangeNumber};
 use super::OpenSettings;
 use super::Run;
 use super::is_stopped;
@@ -284,6 +284,34 @@ pub fn open_number(
     }
     if 2 < asked.start {
         return 19;
+    }
+    0
+}
+
+// Whether 18 refuses an exchange: by the record's rule, or by the one that is asked for.
+fn exchange_refused(run: Run, rule: u8, number: f64) -> bool
+    ensures { λ r. ⌜ r ≡ (badMomentum (run .rule) || ruleRefused rule number) ⌝ }
+{
+    let old = run.rule;
+    if bad_momentum(old) {
+        return true;
+    }
+    rule_refused(rule, number)
+}
+
+// The number that the exchange of a rule answers.
+pub fn exchange_number(run: Run, rule: u8, number: f64) -> u8
+    ensures { λ r. ⌜ r ≡ exchangeNumber run rule number ⌝ }
+{
+    let stage = run.stage;
+    if is_stopped(stage) {
+        return 32;
+    }
+    if own_refused(run) {
+        return 33;
+    }
+    if exchange_refused(run, rule, number) {
+        return 18;
     }
     0
 }

@@ -1,6 +1,7 @@
 pub mod Joined
 pub mod Plains
 pub mod OnTurns
+pub mod AfterExchange
 pub mod Counted
 pub mod Claims
 pub mod Cursors

@@ -13,8 +13,8 @@ use Rattle.run_record.specs.declared.Stage.the-variants.{Stopped}
 use Rattle.run_record.specs.declared.Run.{Run}
 use Rattle.run_sweep.specs.Work.{Work, callWork}
 use Rattle.run_contract.specs.declared.Opened.the-variants as O
-use Rattle.run_contract.specs.Calls.{Settings, Opens, used}
-use Rattle.run_contract.specs.PlainRun.{Plain, FinishCall, plainOpen, plainSweeps, recordOf, finishOf}
+use Rattle.run_contract.specs.Calls.{Settings, Opens, used, Exchanges}
+use Rattle.run_contract.specs.PlainRun.{Plain, FinishCall, ExchangeCall, exchange, plainOpen, plainSweeps, plainAfter, recordOf, finishOf}
 use Rattle.run_contract.specs.Chain.{Lends, keptAfter}
 use Rattle.several_runs.specs.Turn.{Tables, tableAt, runAt, factorAt, turnNumber, shareOf, joined, Turns}
 
@@ -136,3 +136,16 @@ module _ (count : ℕ) (t : Tables) where
     -- each is seen as plain runs that share it have it: its number, and records and factors after it
     pub seen-so : seen ≡ sharedTrace (λ i. plainOpen (o i)) calls
     pub each : (i : ℕ) → i < count → Shared o calls i
+
+-- ---- an exchange between turns (02, Note 12)
+
+-- records of which run i's is what an exchange of its rule may leave, the others as they were
+pub record OneExchanged (count : ℕ) (runs : List Run) (i : ℕ) (call : ExchangeCall) (number : ℕ) (runs′ : List Run) : Type 0 where
+  pub within : i < count
+  pub room : count ≤ length runs′
+  pub says : Exchanges (runAt runs i) (call .rule) (call .number) number (runAt runs′ i)
+  pub others : (j : ℕ) → j < count → (j ≡ i → ⊥) → runAt runs′ j ≡ runAt runs j
+
+-- plain runs of which run i takes it, by demand 3's plain run
+abbrev pub exchangedAt : (ℕ → Plain) → ℕ → ExchangeCall → ℕ → Plain
+exchangedAt at i call j = cond (eqb j i) (plainAfter (at j) (exchange call)) (at j)

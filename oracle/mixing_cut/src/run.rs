@@ -1,4 +1,4 @@
-//! Scripts of open, sweep and finish calls. The numbers and the state's rules are the harness's
+//! Scripts of open, sweep, exchange and finish calls. The numbers and the state's rules are the harness's
 //! own; sweeps, checks, rounding and search are the Rust's, through `plain`.
 
 use crate::job::Settings;
@@ -80,6 +80,7 @@ impl Script {
             "record" => self.record(&mut words)?,
             "open" => self.open(&mut words)?,
             "sweep" => self.sweep(&mut words)?,
+            "exchange" => self.exchange(&mut words)?,
             "finish" => self.finish(&mut words, &mut result)?,
             _ => return Err(format!("no call is named {name:?}")),
         };
@@ -165,6 +166,18 @@ impl Script {
         Ok(number)
     }
 
+    /// Another rule for the sweeps to come (02, Note 12): each of them is `apply_step` with it.
+    fn exchange(&mut self, words: &mut In) -> Result<u8, String> {
+        let (rule, value) = (byte(words)?, words.double()?);
+        let (run, _) = self.state.as_mut().ok_or("no run is open")?;
+        let number = exchange_number(run, rule, value);
+        if number == 0 {
+            run.rule = rule;
+            run.number = if rule == 3 { 0.0 } else { value };
+        }
+        Ok(number)
+    }
+
     fn finish(&mut self, words: &mut In, result: &mut Out) -> Result<u8, String> {
         let table = Lent::read(words)?;
         let width = words.count()?;
@@ -245,9 +258,13 @@ fn short_factor(run: &Run, table: &Lent, length: usize) -> bool {
 }
 
 fn number33(run: &Run, table: &Lent) -> bool {
+    !size_agrees(run, table) || damaged(run)
+}
+
+/// 33 of the record alone.
+fn damaged(run: &Run) -> bool {
     let open = run.stage == Stage::Open;
-    !size_agrees(run, table)
-        || bad_record_rank(run)
+    bad_record_rank(run)
         || run.sweeps > run.most
         || (open && run.sweeps == run.most)
         || run.status > 2
@@ -265,6 +282,14 @@ fn sweep_number(run: &Run, table: &Lent, factor: usize) -> u8 {
         (15, &|| table.number15()),
         (16, &|| table.number16()),
         (18, &|| bad_rule(run.rule, run.number)),
+    ])
+}
+
+fn exchange_number(run: &Run, rule: u8, value: f64) -> u8 {
+    first(&[
+        (32, &|| run.stage == Stage::Stopped),
+        (33, &|| damaged(run)),
+        (18, &|| bad_rule(run.rule, run.number) || bad_rule(rule, value)),
     ])
 }
 
