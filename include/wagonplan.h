@@ -35,7 +35,7 @@ extern "C" {
 // ---- sizes --------------------------------------------------------------------------------------
 
 enum {
-    WAGONPLAN_VERSION = 11, // of these declarations; `wagonplan_version` answers the archive's
+    WAGONPLAN_VERSION = 12, // of these declarations; `wagonplan_version` answers the archive's
 
     WAGONPLAN_JOB_MOST = 65536,         // bytes of a job record
     WAGONPLAN_WAGONS_MOST = 255,        // n; 127 in jobs of version 1 or 2
@@ -48,7 +48,7 @@ enum {
     WAGONPLAN_START_MOST = 8448,        // doubles that a start takes
     WAGONPLAN_FACTOR_MOST = 8192,       // doubles of a factor: m * rank
     WAGONPLAN_WORKSPACE = 16384,        // bytes of workspace to lend with a job record, at least
-    WAGONPLAN_SEARCH_WORKSPACE = 1024,  // words of 64 bits of workspace to lend to a finish, a search or a search by blocks, at least
+    WAGONPLAN_SEARCH_WORKSPACE = 1024,  // words of 64 bits of workspace to lend to a finish or a search of any kind, at least
     WAGONPLAN_ANSWER = 315,             // bytes of answer slice to lend, at least: a record of 255 wagons
     WAGONPLAN_REFUSAL = 6,              // bytes of a refusal: 00 00 00 02 01 and the number
     WAGONPLAN_REDUCED_MOST = 1024,      // original size of a reduced problem
@@ -263,6 +263,9 @@ uint8_t wagonplan_raw_block_search(size_t n, size_t count, const uint16_t *rows,
                                    const int64_t *c, size_t, const uint16_t *pinned, size_t, const uint8_t *stores, size_t, const uint8_t *present, size_t,
                                    const uint16_t *block_sizes, size_t, const uint16_t *block_wagons, size_t, size_t width, uint8_t *choice, size_t,
                                    int64_t *falls, size_t, uint64_t *workspace, size_t);
+uint8_t wagonplan_raw_limited_search(size_t n, size_t count, const uint16_t *rows, size_t, const uint16_t *cols, size_t, const int64_t *values, size_t,
+                                     const int64_t *c, size_t, const uint8_t *present, size_t, size_t k, size_t width, uint8_t *choice, size_t,
+                                     uint64_t *workspace, size_t, int64_t *cost, uint64_t *rounds);
 double wagonplan_raw_sqrt(double x);
 double wagonplan_raw_eighth(int64_t v);
 double wagonplan_raw_double_of(uint64_t bits);
@@ -586,6 +589,18 @@ static inline uint8_t wagonplan_block_search(const wagonplan_table *t, const wag
                                      choice.len, falls.at, falls.len, workspace.at, workspace.len));
 }
 
+// Rolls at most k of the n wagons: the local search of width 1 to WAGONPLAN_WIDTH_MOST from where they stand, `present`, a byte 0 or 1 for each, by single wagons, over
+// choices in which at most k wagons stand in another store than there. n bytes of choice, where they stand in the end, with its cost in eighths and the search's
+// rounds. It costs no more than `present`, and no choice that differs from it in one wagon and from `present` in at most k costs less. k is 0 to n; 0 gives
+// `present` back. The workspace is that of a finish.
+static inline uint8_t wagonplan_limited_search(const wagonplan_table *t, wagonplan_u8 present, size_t k, size_t width, wagonplan_u8_mut choice,
+                                               wagonplan_u64_mut workspace, int64_t *cost, uint64_t *rounds) {
+    unsigned mode = wagonplan_enter();
+    return wagonplan_leave(mode, wagonplan_raw_limited_search(t->n, t->count, t->rows.at, t->rows.len, t->cols.at, t->cols.len, t->values.at, t->values.len,
+                                                              t->c.at, t->c.len, present.at, present.len, k, width, choice.at, choice.len, workspace.at,
+                                                              workspace.len, cost, rounds));
+}
+
 // The correctly rounded square root; NaN below 0.
 static inline double wagonplan_sqrt(double x) {
     unsigned mode = wagonplan_enter();
@@ -631,7 +646,7 @@ static inline const char *wagonplan_sentence(uint8_t number) {
     case 16: return "The magnitude is above 2^40: the entries' absolute values, plus twice those of c; for a sign table above 2^42 eighths.";
     case 17: return "The rank is above 32, or 0 where it must be given: with a start by a factor, and for divided multipliers.";
     case 18: return "The rule is above 4, or the momentum is not a finite number from 0 to below 1.";
-    case 19: return "W is above 128, or 0 where blocks are searched, the start is none of 0 to 2, or the draws are not 1 to 1,000.";
+    case 19: return "W is above 128, or 0 where blocks are searched or at most k wagons may move, the start is none of 0 to 2, or the draws are not 1 to 1,000.";
     case 20: return "The original size is above 1,024, or a map or fixed index is out of range or mapped twice.";
     case 21: return "A pinned wagon is out of range or pinned twice, or its store is above 1.";
     case 22: return "A byte of the present choice is above 1, there are more than 16 blocks, or a wagon is out of range or twice within a block.";
@@ -639,6 +654,8 @@ static inline const char *wagonplan_sentence(uint8_t number) {
     case 24: return "There are more than 16 wagons, too many to walk every choice.";
     case 25: return "A turn has fewer than 8 sweeps, or more than 10,000.";
     case 26: return "A turn has no run, or more than 8.";
+    case 27: return "A byte of the present choice is above 1, where at most k wagons may move.";
+    case 28: return "k, how many wagons may move, is above the number of wagons.";
     case 31: return "A lent slice is too short.";
     case 32: return "The stage is wrong: a sweep or an exchange of the rule when stopped, or a finish before.";
     case 33: return "The run record contradicts itself or the table.";

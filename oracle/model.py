@@ -391,8 +391,8 @@ def round_all(table, factor, draws):
     return best
 
 
-def search(table, width, start):
-    """Signs, objective, sizes of the non-empty levels."""
+def search(table, width, start, keep=lambda child: True):
+    """Signs, objective, sizes of the non-empty levels, of the children that are kept."""
     best = (start, obj_rounded(table, start))
     levels = []
     if width == 0:
@@ -408,8 +408,9 @@ def search(table, width, start):
     def children(x, o):
         for i in range(m):
             change = 4 * own[i] - 4 * x[i] * sum(v * x[j] for j, v in rows[i])
-            if change < 0:
-                yield x[:i] + [-x[i]] + x[i + 1 :], o + change
+            child = x[:i] + [-x[i]] + x[i + 1 :]
+            if change < 0 and keep(child):
+                yield child, o + change
 
     level = list(children(*best))
     while level:
@@ -442,6 +443,28 @@ def by_blocks(n, entries, c, pins, present, blocks, width):
         b, fall = searched_among(n, entries, c, width, set(block) - set(pins), b)
         falls.append(fall)
     return searched_among(n, entries, c, width, set(range(n)) - set(pins), b)[0], falls
+
+
+# ---- at most k wagons moved (02, Note 13) --------------------------------------------------------
+
+
+def wagons_moved(b, present):
+    return sum(x != y for x, y in zip(b, present, strict=True))
+
+
+def limited(n, entries, c, present, k, width):
+    """The choice, its cost in eighths, the rounds: the anchor stays, and at most k wagons stand elsewhere than they do now."""
+    start = [1 - 2 * b for b in present] + [1]
+    found, objective, levels = search(sign_table(n, entries, c), width, start, lambda x: x[n] == 1 and wagons_moved(decode(x), present) <= k)
+    return decode(found), objective, len(levels)
+
+
+def limited_holds(entries, c, present, k, b, cost_, rounds):
+    """02's promises of the choice b: within k, no dearer than the present one, and no choice within k that differs from it in one wagon costs less."""
+    one = [b[:i] + [1 - b[i]] + b[i + 1 :] for i in range(len(b))]
+    fall = cost(entries, c, present) - cost_
+    return (wagons_moved(b, present) <= k and cost_ == cost(entries, c, b) and 4 * rounds <= fall and (k > 0 or b == present)
+            and all(cost_ <= cost(entries, c, x) for x in one if wagons_moved(x, present) <= k))
 
 
 # ---- the run --------------------------------------------------------------------------------

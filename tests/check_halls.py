@@ -741,6 +741,38 @@ class Commands(Case):
             self.ends(said(pair + line), 1, sentence)
         self.ends(run("hall", "clear", self.file("house.txt", pair + "present left a b\n"), WAGONPLAN_ARCHIVE=os.path.join(self.folder, "none.a")), 1, "Blocks are cleared by the archive")
 
+    def test_roll(self):
+        pair, three = "wagon a -1\nwagon b -1\npair a b 3\n", "wagon a -1\nwagon b -2\nwagon c -3\n"
+        said = lambda text, *more: run("hall", "roll", self.file("house.txt", text), *more)
+        settled = lambda k: f"Rolling one wagon more, with at most {k} in all, or one wagon less makes it no cheaper."
+        for text, told in (
+                (pair + "present left a b\nmoves 1\n", ["Roll 1 wagon tonight, of at most 1: a from the left to the right.", "Left store: b.", "Right store: a.",
+                 f"This costs -1, 1 less than before. {settled(1)}", "The search took 1 round."]),
+                (pair + "present left a b\nmoves 0\n", ["Roll no wagon tonight, of at most 0.", "Left store: a, b.", "Right store: no wagon.", f"This costs 0, as before. {settled(0)}", "The search took 0 rounds."]),
+                (three + "present left a c\npresent right b\nmoves 1\n", ["Roll 1 wagon tonight, of at most 1: c from the left to the right.", "Left store: a.", "Right store: b, c.",
+                 f"This costs -5, 3 less than before. {settled(1)}", "The search took 1 round."]),
+                (three + "present left a b c\nmoves 2\nwidth 1\n", ["Roll 2 wagons tonight, of at most 2: b from the left to the right, c from the left to the right.", "Left store: a.", "Right store: b, c.",
+                 f"This costs -5, 5 less than before. {settled(2)}", "The search took 2 rounds."])):
+            done = said(text)
+            self.ends(done, 0)
+            self.assertEqual(done.stdout.decode().splitlines(), told)
+        page = os.path.join(self.folder, "rolled.svg")
+        self.ends(said(three + "present left a b c\nmoves 2\n", "--plan", page), 0)
+        with open(page, encoding="utf-8") as file:
+            drawn = file.read()
+        self.assertEqual((drawn.count('class="wagon moved"'), drawn.count('class="arrow"')), (2, 3))
+        for words in ("With an arrow, moved: b, c.", "Cost -5, before 0     2 wagons to roll, at most 2", "Roll 2 wagons tonight, of at most 2: b from the left", settled(2)):
+            self.assertIn(words, drawn)
+        self.ends(run("hall", "roll", STALLS, "--plan", page), 0)
+        for text, sentence in (
+                ("present left a\nmoves 1\n", "they don't name b."), ("present left a b\n", "`moves K` says how many may be rolled."),
+                ("present left a b\nmoves 3\n", "line 5: 3 wagons may be rolled, and the hall has 2."), ("present left a b\nmoves 1\npin a left\n", "line 6: the search for at most so many wagons takes no pins"),
+                ("present left a b c\nmoves 1\n", "no wagon above is named c"), ("present left a b\nmoves 1\nwidth 0\n", "line 6: wagons to roll are searched with a width of at least 1"),
+                ("moves 256\n", "the number of moves is 256; it is from 0 to 255"), ("moves -1\n", "the number of moves is -1; it is from 0 to 255"), ("moves\n", "it is written `moves K`"),
+                ("wagon c 1..2\npresent left a b c\nmoves 1\n", "has costs written as ranges")):
+            self.ends(said(pair + text), 1, sentence)
+        self.ends(run("hall", "roll", STALLS, WAGONPLAN_ARCHIVE=os.path.join(self.folder, "none.a")), 1, "Wagons to roll are found by the archive")
+
     def test_job_on_standard_input(self):
         done = run("plan", given=record.job_of(hall.read_hall(DOORWAY)))
         self.ends(done, 0)

@@ -200,6 +200,11 @@ static uint8_t block_search(Argument *a) {
     return wagonplan_block_search(&t, &house, number(a + 11), u8_mut(a + 12), i64_mut(a + 13), u64_mut(a + 14));
 }
 
+static uint8_t limited_search(Argument *a) {
+    wagonplan_table t = table(a);
+    return wagonplan_limited_search(&t, u8(a + 6), number(a + 7), number(a + 8), u8_mut(a + 9), u64_mut(a + 10), place(a + 11), place(a + 12));
+}
+
 static uint8_t give_double(Argument *a, double x) { return memcpy(a->at, &x, 8), 0; }
 static uint8_t give_word(Argument *a, uint64_t x) { return memcpy(a->at, &x, 8), 0; }
 static uint8_t root(Argument *a) { return give_double(a + 1, wagonplan_sqrt(double_of(a))); }
@@ -234,6 +239,7 @@ static const Call calls[] = {
     {"from_principal_submatrix", "QkkHHIv", from_principal_submatrix, 0},
     {"lift_solution", "nkkddD", lift_solution, 0},
     {"block_search", "TkbbkhnBIw", block_search, 0},
+    {"limited_search", "TbnnBwvv", limited_search, 0},
     {"sqrt", "ne", root, 0},
     {"eighth", "ne", eighth, 0},
     {"double_of", "ne", double_from, 0},

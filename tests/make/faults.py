@@ -3,7 +3,7 @@ import itertools
 
 from lists import SEARCH_WORKSPACE
 
-ORDER = [31, 32, 33, 13, 14, 15, 16, 21, 22, 24, 17, 18, 19, 20]
+ORDER = [31, 32, 33, 13, 14, 15, 16, 21, 22, 24, 27, 28, 17, 18, 19, 20]
 LIMIT = 2**40
 
 

@@ -24,11 +24,20 @@ def cleared(hall):
 
 def ready(hall):
     """What the call would refuse, in the hall's own words."""
-    missing = [i for i in range(len(hall.names)) if i not in hall.present]
-    if missing:
-        raise Refused(f"{hall.path}: to clear a house, `present left WAGON..` and `present right WAGON..` say where each wagon stands; they don't name {listed(hall, missing)}.")
+    if unnamed(hall):
+        raise Refused(f"{hall.path}: to clear a house, `present left WAGON..` and `present right WAGON..` say where each wagon stands; they don't name {listed(hall, unnamed(hall))}.")
     if hall.width == 0:
         raise Refused(f"{hall.path}: a house is cleared with a width of at least 1.")
+
+
+def unnamed(hall):
+    """The wagons of which no line says where they stand."""
+    return [i for i in range(len(hall.names)) if i not in hall.present]
+
+
+def here(hall):
+    """The store that each wagon stands in now."""
+    return [hall.present[i] for i in range(len(hall.names))]
 
 
 def first_choice(hall):
@@ -43,7 +52,7 @@ def given(hall):
     parts += [*hall.costs, len(hall.pins)]
     for i, store in hall.pins.items():
         parts += [i, store]
-    parts += [*(hall.present[i] for i in range(len(hall.names))), len(hall.blocks)]
+    parts += [*here(hall), len(hall.blocks)]
     for wagons in hall.blocks.values():
         parts += [len(wagons), *wagons]
     return " ".join(map(str, [*parts, hall.width])).encode()
@@ -71,7 +80,7 @@ def drawn(hall, found):
     """The house when it is cleared, an arrow at each wagon that moves."""
     shown = copy.copy(hall)
     shown.moved = {i for i, store in enumerate(found["choice"]) if store != hall.present[i]}
-    before = eighths(cost_of(hall, [hall.present[i] for i in range(len(hall.names))]))
+    before = eighths(cost_of(hall, here(hall)))
     saves = [f"block {name} {eighths(fall)}" for name, fall in zip(hall.blocks, found["falls"])] + [f"then the house {eighths(found['blocks'] - found['cost'])}"]
     figures = f"Cost {eighths(found['cost'])}, before {before}     {counted(len(shown.moved), 'wagon')} to move"
     promised = [f"What the cost falls by: {', '.join(saves)}.", settled(hall)]
@@ -80,7 +89,7 @@ def drawn(hall, found):
 
 def words(hall, found):
     """For the crew: what moves, block by block what that saves, and where each wagon is in the end."""
-    present = [hall.present[i] for i in range(len(hall.names))]
+    present = here(hall)
     yield told(hall, present, found["choice"])
     first, away = first_choice(hall), [i for i, store in hall.pins.items() if hall.present[i] != store]
     yield f"Before, it costs {eighths(cost_of(hall, present))}."

@@ -22,6 +22,7 @@ class Hall:
         self.ranged, self.low_costs, self.low_pairs = False, [], {}  # the low ends; costs and pairs are the high ones, which a job has (02, Note 8)
         self.rows, self.retractable, self.pins = {}, set(), {}  # pins: the store of each wagon that may not move
         self.present, self.blocks = {}, {}  # the store that each wagon stands in now; a block's wagons by its name
+        self.moves = None  # how many wagons may be rolled from there, where a line says it
         self.moved = set()  # the wagons that a picture shows as rolled; none as the hall is read
         self.rank, self.rule, self.number, self.most, self.minimum, self.tolerances, self.width = 0, 3, 0.0, 200, 0, (0.0, 1e-6), 128
         self.start, self.start_numbers, self.seed, self.draw_count, self.draws = 0, None, "1", 30, []
@@ -99,6 +100,9 @@ class Hall:
         if len(self.blocks) == BLOCKS:
             raise Refused(f"block {shown(name)} is number {BLOCKS + 1}; a hall has at most {BLOCKS} blocks")
         self.blocks[name] = members
+
+    def set_moves(self, many):
+        self.moves = count("number of moves", many, 0, WAGONS)
 
     def set_rank(self, rank):
         self.rank = count("rank", rank, 0, RANK)
@@ -195,6 +199,7 @@ LINES = {
     "pin": ("NAME left|right", 2, 2, Hall.pin),
     "present": ("left|right WAGON..", 2, MANY, Hall.set_present),
     "block": ("NAME WAGON..", 1, MANY, Hall.block),
+    "moves": ("K", 1, 1, Hall.set_moves),
     "rank": ("R", 1, 1, Hall.set_rank),
     "rule": ("NAME [NUMBER]", 1, 2, Hall.set_rule),
     "sweeps": ("MOST [MINIMUM]", 1, 2, Hall.set_sweeps),

@@ -20,7 +20,7 @@ ghost use Rattle.limits.specs.Limits.{mostWagons, mostBlocks};
 ghost use Rattle.block_search.specs.Numbers.{aboveOne, badList, badPins, badBlock, badBlocks, badWidth, listNumber, choicesShort, blocksShort, listsShort, callShort, blockNumber};
 
 // Whether one of the first bytes is above 1.
-fn any_above(count: usize, bytes: &[u8]) -> bool
+pub fn any_above(count: usize, bytes: &[u8]) -> bool
     requires { ⌜ count ≤ length (now bytes) ⌝ }
     ensures { λ r. ⌜ r ≡ aboveOne count (now (bytes .entry)) ⌝ }
 {
@@ -89,7 +89,7 @@ fn bad_blocks(n: usize, present: &[u8], sizes: &[u16], wagons: &[u16]) -> bool
 }
 
 // 19.
-fn bad_width(width: usize) -> bool
+pub fn bad_width(width: usize) -> bool
     ensures { λ r. ⌜ r ≡ badWidth width ⌝ }
 {
     if width < 1 {
@@ -125,7 +125,7 @@ fn list_number(
 }
 
 // 31 of c, the present choice and the choice, by their lengths.
-fn choices_short(n: usize, c: usize, present: usize, choice: usize) -> bool
+pub fn choices_short(n: usize, c: usize, present: usize, choice: usize) -> bool
     ensures { λ r. ⌜ r ≡ choicesShort n c present choice ⌝ }
 {
     if too_short(MOST_WAGONS < n, n, c) {

@@ -22,13 +22,16 @@ use Rattle.sdp_local_search.specs.declared.BeamSearched.{BeamSearched}
 use Rattle.sdp_local_search.specs.declared.BeamSearched.the-variants as S
 use Rattle.sdp_local_search.specs.BeamSearch.{Limits}
 use Rattle.sdp_local_search.specs.Call.{BeamSearches}
+use Rattle.limited_search.specs.declared.Limited.{Limited}
+use Rattle.limited_search.specs.declared.Limited.the-variants as L
+use Rattle.limited_search.specs.Call.{LimitedSearches}
 use Rattle.reduced.specs.declared.from_principal_submatrix.Reduced.{Reduced}
 use Rattle.reduced.specs.declared.from_principal_submatrix.Reduced.the-variants as R
 use Rattle.reduced.specs.Submatrix.{Slices, Reduces}
 use Rattle.exhaustive.specs.declared.Walked.{Walked}
 use Rattle.exhaustive.specs.declared.Walked.the-variants as W
 use Rattle.exhaustive.specs.Contract.{walkNumber, Walks}
-use Rattle.exports.specs.Answers.{eighthsBy, boundBy, entriesBy, apartBy, searchedBy, reducedBy, walkedBy}
+use Rattle.exports.specs.Answers.{eighthsBy, boundBy, entriesBy, apartBy, searchedBy, limitedBy, reducedBy, walkedBy}
 
 -- a value, or a refusal by a number above 0
 abbrev eighths-whole : Eighths → Bool
@@ -84,6 +87,16 @@ pub search-refused : {most : Limits} {m count : ℕ} {rows cols : List ℕ} {val
     → BeamSearches most m count rows cols values width start out workspace out′ workspace′ (searchedBy k objective rounds)
 search-refused zero objective rounds b = absurd (subst T (sym (ap found (b .answers (sym (b .numbered))))) tt)
 search-refused (suc k) objective rounds b = b
+
+abbrev moved : Limited → Bool
+moved (L.Found cost rounds) = true
+moved (L.Refused k) = false
+
+pub limited-refused : {n count : ℕ} {rows cols : List ℕ} {values c : List ℤ} {present : List ℕ} {k width : ℕ} {choice workspace choice′ workspace′ : List ℕ}
+    (number : ℕ) (cost : ℤ) (rounds : ℕ) → LimitedSearches n count rows cols values c present k width choice workspace choice′ workspace′ (L.Refused number)
+    → LimitedSearches n count rows cols values c present k width choice workspace choice′ workspace′ (limitedBy number cost rounds)
+limited-refused zero cost rounds b = absurd (subst T (sym (ap moved (b .answers (sym (b .numbered))))) tt)
+limited-refused (suc number) cost rounds b = b
 
 abbrev counted : Reduced → Bool
 counted (R.Count entries) = true

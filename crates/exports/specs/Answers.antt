@@ -17,6 +17,8 @@ use Rattle.sign_calls.specs.declared.Apart.{Apart}
 use Rattle.sign_calls.specs.declared.Apart.the-variants as A
 use Rattle.sdp_local_search.specs.declared.BeamSearched.{BeamSearched}
 use Rattle.sdp_local_search.specs.declared.BeamSearched.the-variants as S
+use Rattle.limited_search.specs.declared.Limited.{Limited}
+use Rattle.limited_search.specs.declared.Limited.the-variants as L
 use Rattle.reduced.specs.declared.from_principal_submatrix.Reduced.{Reduced}
 use Rattle.reduced.specs.declared.from_principal_submatrix.Reduced.the-variants as R
 use Rattle.exhaustive.specs.declared.Least.{Least}
@@ -53,6 +55,10 @@ apartBy (suc k) signs = A.Refused (suc k)
 abbrev pub searchedBy : ℕ → ℤ → ℕ → BeamSearched
 searchedBy zero objective rounds = S.Found objective rounds
 searchedBy (suc k) objective rounds = S.Refused (suc k)
+
+abbrev pub limitedBy : ℕ → ℤ → ℕ → Limited
+limitedBy zero cost rounds = L.Found cost rounds
+limitedBy (suc k) cost rounds = L.Refused (suc k)
 
 abbrev pub reducedBy : ℕ → ℕ → Reduced
 reducedBy zero count = R.Count count

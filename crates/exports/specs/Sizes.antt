@@ -8,7 +8,7 @@ use Rattle.exports.specs.Words.{runWords, settingWords, resultWords}
 use Rattle.exports.specs.TurnWords.{hallWords}
 
 abbrev pub callsVersion : ℕ
-callsVersion = 11
+callsVersion = 12
 
 -- in the order of `enum wagonplan_sizes` of include/wagonplan.h
 abbrev pub sizes : List ℕ

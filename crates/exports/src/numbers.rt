@@ -68,7 +68,7 @@ pub extern "C" fn wagonplan_raw_default_sdp_rank(m: u16) -> u16
 pub extern "C" fn wagonplan_raw_version() -> u32
     ensures { λ r. ⌜ r ≡ callsVersion ⌝ }
 {
-    11
+    12
 }
 
 // The size that is asked for, 0 where there is none.

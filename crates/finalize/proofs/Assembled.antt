@@ -61,7 +61,7 @@ rounded-objective : (factor : List Float) (rank m : ℕ) (draws : List Float) (t
 unfolding roundedSol roundedObjective objectiveIn
 rounded-objective factor rank m draws t drawCount = refl
 
-fill-choice : (n : ℕ) (signs b : List ℕ) → n ≤ length b → fill (decodedByte n signs) n b ≡ over (choiceOf n signs) b
+pub fill-choice : (n : ℕ) (signs b : List ℕ) → n ≤ length b → fill (decodedByte n signs) n b ≡ over (choiceOf n signs) b
 unfolding choiceOf
 fill-choice n signs b h = fill-tabulate (decodedByte n signs) b n h
 

@@ -61,16 +61,16 @@ decoded-byte n signs i = go (sameSign (elem signs i) (elem signs n))
     go false = (omega arith, refl)
 
 module _ (n : ℕ) (signs : List ℕ) where
-  length-choice : length (choiceOf n signs) ≡ n
+  pub length-choice : length (choiceOf n signs) ≡ n
   unfolding choiceOf
   length-choice = length-tabulate (decodedByte n signs) n
 
   -- the choice at the front of a slice, and alone
-  choice-byte : (xs : List ℕ) (i : ℕ) → i < n → elem (over (choiceOf n signs) xs) i ≡ decodedByte n signs i
+  pub choice-byte : (xs : List ℕ) (i : ℕ) → i < n → elem (over (choiceOf n signs) xs) i ≡ decodedByte n signs i
   unfolding choiceOf
   choice-byte xs i h = List·getD-append (tabulate (decodedByte n signs) n) _ 0 i (rw (length-tabulate (decodedByte n signs) n) h) ∙ getD-tabulate (decodedByte n signs) n i 0 h
 
-  choice-at : (xs : List ℕ) (i : ℕ) → i < n → choiceAt (over (choiceOf n signs) xs) i ≡ decoded n signs i
+  pub choice-at : (xs : List ℕ) (i : ℕ) → i < n → choiceAt (over (choiceOf n signs) xs) i ≡ decoded n signs i
   choice-at xs i h = ap bit (choice-byte xs i h) ∙ decoded-byte n signs i .1
 
   alone-at : (i : ℕ) → i < n → choiceAt (choiceOf n signs) i ≡ decoded n signs i
@@ -84,7 +84,7 @@ other (suc x) zero d = refl
 other (suc x) (suc y) d = absurd (d refl)
 
 module _ (n : ℕ) (b b′ : List ℕ) (a : ℕ → ℤ) (is : (i : ℕ) → i < n → choiceAt b i ≡ a i) where
-  moved-one : (d : DifferInOne n b b′) (j : ℕ) → j < n → oneMoved (d .wagon) a j ≡ choiceAt b′ j
+  pub moved-one : (d : DifferInOne n b b′) (j : ℕ) → j < n → oneMoved (d .wagon) a j ≡ choiceAt b′ j
   unfolding oneMoved
   moved-one d j h = go (ℕ-discrete (d .wagon) j)
     where
@@ -96,7 +96,7 @@ module _ (n : ℕ) (b b′ : List ℕ) (a : ℕ → ℤ) (is : (i : ℕ) → i <
   unfolding allMoved
   moved-all d j h = rw (← (is j h)) (sym (other (elem b j) (elem b′ j) (d .differ j h)))
 
-fall : (x y : ℤ) (d : ℕ) → (x +ℤ pos d) ≤ℤ y → pos d ≤ℤ (y -ℤ x)
+pub fall : (x y : ℤ) (d : ℕ) → (x +ℤ pos d) ≤ℤ y → pos d ≤ℤ (y -ℤ x)
 fall x y d h = omega (integers, add-parts x (pos d), add-parts y (negℤ x), neg-⁺ x, neg-⁻ x)
 
 -- 01's children of x, by index: those whose change is below 0

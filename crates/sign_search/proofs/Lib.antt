@@ -6,6 +6,7 @@ pub mod Examples
 -- the code's loops
 pub mod ChangeLaws
 pub mod TurnLaws
+pub mod NearLaws
 pub mod ExpandLaws
 pub mod MoveLaws
 pub mod Searches

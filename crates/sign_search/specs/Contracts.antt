@@ -1,6 +1,6 @@
 -- What the functions of the search on a table ask and leave.
 use Prim.Native.Nat.{ℕ, suc, _*_, _≤_, _<_}
-use mathlib.Core.Bool.{cond}
+use mathlib.Core.Bool.{Bool, cond}
 use mathlib.Core.List.{List}
 use mathlib.Core.Path.{_≡_}
 use lib.Dec.{eqb}
@@ -14,8 +14,9 @@ use Rattle.tables.specs.Flip.{flipTerm}
 use Rattle.sign_words.specs.Packed.{unpacked, Tidy}
 use Rattle.local_search.specs.LocalSearch.{All, Found, nextLevel}
 use Rattle.local_search.specs.Level.{Choice, below, signLevel}
-use Rattle.local_search.specs.SignSearch.{improvesC, childrenC, Safe, searchedFrom}
-use Rattle.sign_search.specs.Search.{objectiveIn, changeIn, heightIn, Mirrors, beamSearch}
+use Rattle.local_search.specs.SignSearch.{keeping, childrenC, Safe, searchedFrom}
+use Rattle.sign_search.specs.Within.{Bounds, within}
+use Rattle.sign_search.specs.Search.{objectiveIn, changeIn, heightIn, Mirrors, beamSearch, limitedSearch}
 
 -- a table of m signs whose sums an i64 holds
 pub record SumsFit (m : ℕ) (t : Table) : Type 0 where
@@ -103,9 +104,28 @@ pub record Turns (t : Table) (x : List ℕ) (i from to : ℕ) (changes : List �
   pub ends : RowStart (t .count) (t .row) (suc i) to
   pub changes-are : Changes t x changes
 
--- 01's children on a table of m signs
-abbrev pub tableChildren : Table → ℕ → Choice → List Choice
-tableChildren t m = childrenC (changeIn t) (improvesC (changeIn t)) m
+-- child i of a choice, where its change is below 0 and it lies within the bounds
+abbrev pub existsIn : Table → Bounds → Choice → ℕ → Bool
+existsIn t b c i = keeping (changeIn t) (within b) (c .signs) i
+
+-- the children on a table of m signs
+abbrev pub tableChildren : Table → Bounds → ℕ → Choice → List Choice
+tableChildren t b m = childrenC (changeIn t) (existsIn t b) m
+
+-- the bounds fit choices of m signs in n words; the start is one of these
+pub record BoundsFit (flips : ℕ) (origin : List ℕ) (n m : ℕ) : Type 0 where
+  pub flips-few : flips ≤ m
+  pub as-long : length origin ≡ n
+  pub start-tidy : Tidy m origin
+
+-- a choice in bytes and in words, and the start in as many words; unused bits of both are 0
+pub record BothPacked (x row origin : List ℕ) : Type 0 where
+  pub row-is : unpacked (length x) row ≡ x
+  pub as-many : length row ≡ length origin
+  pub signs-held : length x ≤ 64 * length row
+  pub words-few : length row < 65536
+  pub row-tidy : Tidy (length x) row
+  pub start-tidy : Tidy (length x) origin
 
 abbrev pub TableSafe : Table → Choice → Type 0
 TableSafe t c = Safe (changeIn t) c
@@ -145,8 +165,8 @@ pub record LevelExpands (t : Table) (n m count width : ℕ) (from-objectives : L
   pub safe : All (TableSafe t) (signLevel n m count from-objectives from-signs)
 
 -- the next level, and its count
-pub record NextLevel (t : Table) (m width : ℕ) (before after : List Choice) (count : ℕ) : Type 0 where
-  pub level : after ≡ nextLevel below (tableChildren t m) width before
+pub record NextLevel (t : Table) (b : Bounds) (m width : ℕ) (before after : List Choice) (count : ℕ) : Type 0 where
+  pub level : after ≡ nextLevel below (tableChildren t b m) width before
   pub room : count ≤ width
 
 -- what it takes to make the next level and to copy it back
@@ -168,9 +188,9 @@ pub record SearchFits (n m width changes objectives signs next-objectives next-s
   pub next-objectives-room : width ≤ next-objectives
   pub next-signs-room : width * n ≤ next-signs
 
--- 01's search from a choice with its objective
-abbrev pub searchedIn : Table → ℕ → Choice → Found Choice
-searchedIn t width start = searchedFrom (changeIn t) (improvesC (changeIn t)) width (heightIn t (start .signs)) start
+-- the search within the bounds, from a choice with its objective
+abbrev pub searchedIn : Table → Bounds → ℕ → Choice → Found Choice
+searchedIn t b width start = searchedFrom (changeIn t) (existsIn t b) width (heightIn t (start .signs)) start
 
 -- the room that the search takes, of `most` signs in n words: level 1 holds m choices, and every later one `width`
 pub record LevelRoom (most n m width level : ℕ) : Type 0 where
@@ -183,3 +203,9 @@ pub record Found-by (t : Table) (width : ℕ) (start : List ℕ) (least : ℤ) (
   pub answer-is : answer ≡ beamSearch t width start .answer
   pub least-is : least ≡ objectiveIn t answer
   pub rounds-are : rounds ≡ beamSearch t width start .rounds
+
+-- the same of the search within the bounds
+pub record Found-within (t : Table) (b : Bounds) (width : ℕ) (start : List ℕ) (least : ℤ) (rounds : ℕ) (answer : List ℕ) : Type 0 where
+  pub answer-is : answer ≡ limitedSearch t (within b) width start .answer
+  pub least-is : least ≡ objectiveIn t answer
+  pub rounds-are : rounds ≡ limitedSearch t (within b) width start .rounds

@@ -1,3 +1,4 @@
+pub mod Within
 pub mod Search
 pub mod Choices
 pub mod Contracts

@@ -3,3 +3,4 @@ pub mod changes;
 pub mod levels;
 pub mod moves;
 pub mod search;
+pub mod within;

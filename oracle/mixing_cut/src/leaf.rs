@@ -6,6 +6,7 @@ use crate::draws::lent;
 use crate::job::Settings;
 use crate::leaf_calls;
 use crate::leaf_numbers;
+use crate::limited::limited;
 use crate::maxcut_oracle::{
     compute_rounded_sol, compute_rounded_sols, dual_variables, entrywise_lower_bound, grad, obj,
     obj_rounded,
@@ -63,6 +64,7 @@ pub fn leaf(line: &str) -> Result<String, String> {
         "submatrix" => submatrix,
         "lift" => lift,
         "blocks" => blocks,
+        "limited" => limited_moves,
         "sign_table_number" => leaf_numbers::sign_table,
         "submatrix_number" => leaf_numbers::submatrix,
         "lift_number" => leaf_numbers::lift,
@@ -389,6 +391,20 @@ fn blocks(words: &mut In, out: &mut Out) -> Done {
     out.bytes(&choice);
     out.count(falls.len());
     falls.into_iter().for_each(|fall| out.whole(fall));
+    Ok(())
+}
+
+/// H, c, k, the width, the present choice.
+fn limited_moves(words: &mut In, out: &mut Out) -> Done {
+    let h = table(words)?;
+    let (c, k, width) = (words.wholes()?, words.count()?, words.count()?);
+    let present = bits(words)?;
+    want(c.len() == h.size && present.len() == h.size, "one c and one byte for each wagon")?;
+    want(width > 0, "a width above 0")?;
+    let (choice, cost, rounds) = limited(&h, &c, k, width, &present);
+    out.bytes(&choice);
+    out.whole(cost);
+    out.count(rounds);
     Ok(())
 }
 

@@ -13,6 +13,7 @@ mod leaf;
 mod leaf_calls;
 mod leaf_numbers;
 mod lent;
+mod limited;
 mod pinned;
 mod plain;
 mod problem;

@@ -28,9 +28,24 @@ pub fn search(q: &CsMat<f64>, width: usize, start: &Array1<f64>) -> Searched {
 
 /// The levels one by one, with the Rust's children, its sort and its cut.
 pub fn by_levels(q: &CsMat<f64>, width: usize, start: &Array1<f64>) -> Searched {
+    levels_keeping(q, width, start, |_| true)
+}
+
+/// The same, but children that aren't kept are dropped before the sort and the cut.
+pub fn levels_keeping(
+    q: &CsMat<f64>,
+    width: usize,
+    start: &Array1<f64>,
+    keep: impl Fn(&Array1<f64>) -> bool,
+) -> Searched {
+    let children = |x: &Array1<f64>| {
+        let mut all = get_improving_children(x, q);
+        all.retain(|(_, child)| keep(child));
+        all
+    };
     let mut best = (obj_rounded(q, start), start.clone());
     let mut levels = Vec::new();
-    let mut level = get_improving_children(start, q);
+    let mut level = children(start);
     while !level.is_empty() {
         levels.push(level.len());
         for child in &level {
@@ -38,8 +53,7 @@ pub fn by_levels(q: &CsMat<f64>, width: usize, start: &Array1<f64>) -> Searched 
                 best = child.clone();
             }
         }
-        let mut next: Vec<_> =
-            level.iter().flat_map(|(_, x)| get_improving_children(x, q)).collect();
+        let mut next: Vec<_> = level.iter().flat_map(|(_, x)| children(x)).collect();
         next.sort_by(|a, b| a.0.partial_cmp(&b.0).expect("objectives are numbers"));
         next.truncate(width);
         level = next;

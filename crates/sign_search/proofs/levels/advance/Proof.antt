@@ -10,22 +10,22 @@ use lib.ListN.{length}
 use Rattle.local_search.proofs.Decoded.{signLevel-copied, tidy-copied}
 
 -- the rows of the next level have room in the buffers of both
-room : (c : tie.After-expand-level) → let a = c .before .before .before .before .before .before .before .before .before .before .before .before .before .before .args in let x = c .expand-level in (x .result * a .words ≤ length (now (a .signs))) × (x .result * a .words ≤ length (x .last .1 .1 .1 .1 .1 .1 .1 .1 .1 .1 .1 .1 .0))
+room : (c : tie.After-expand-level) → let a = c .before .before .before .before .before .before .before .before .before .before .before .before .before .before .before .args in let x = c .expand-level in (x .result * a .words ≤ length (now (a .signs))) × (x .result * a .words ≤ length (x .last .1 .1 .1 .1 .1 .1 .1 .1 .1 .1 .1 .1 .0))
 room c =
-    let p = c .before .before .before .before .before .before .before .before .before .before .before .before .before .before .pre .0 in
-    let more = mul-le-mul-right (c .before .before .before .before .before .before .before .before .before .before .before .before .before .before .args .words) (c .expand-level .ensures .0 .room) in
+    let p = c .before .before .before .before .before .before .before .before .before .before .before .before .before .before .before .pre .0 in
+    let more = mul-le-mul-right (c .before .before .before .before .before .before .before .before .before .before .before .before .before .before .before .args .words) (c .expand-level .ensures .0 .room) in
     (omega (arith, more, p .signs-room), omega (arith, more, p .expands .signs-room, c .expand-level .kept .1 .1 .1 .1 .1 .1 .1 .1 .1 .1 .1 .1 .0))
 
 expand-level-requires : tie.Need-expand-level-requires
-expand-level-requires c κs = (c .before .before .before .before .before .before .before .before .before .before .before .before .before .pre .0 .expands, c .before .before .before .before .before .before .before .before .before .before .before .before .before .pre .1, c .before .before .before .before .before .before .before .before .before .before .before .before .before .pre .2, c .before .before .before .before .before .before .before .before .before .before .before .before .before .pre .3)
+expand-level-requires c κs = (c .before .before .before .before .before .before .before .before .before .before .before .before .before .before .pre .0 .expands, c .before .before .before .before .before .before .before .before .before .before .before .before .before .before .pre .1, c .before .before .before .before .before .before .before .before .before .before .before .before .before .before .pre .2, c .before .before .before .before .before .before .before .before .before .before .before .before .before .before .pre .3, c .before .before .before .before .before .before .before .before .before .before .before .before .before .before .pre .4, c .before .before .before .before .before .before .before .before .before .before .before .before .before .before .pre .5)
 
 mul-taken : tie.Need-mul-taken
-mul-taken c = omega (arith, room (c .before .before .before .before .before .before .before .before) .0, c .before .before .before .before .before .before .before .before .before .before .before .before .before .before .before .before .before .before .before .before .before .before .good .1 .1 .1 .1 .1 .1 .1 .1 .1 .0 .0)
+mul-taken c = omega (arith, room (c .before .before .before .before .before .before .before .before) .0, c .before .before .before .before .before .before .before .before .before .before .before .before .before .before .before .before .before .before .before .before .before .before .before .good .1 .1 .1 .1 .1 .1 .1 .1 .1 .0 .0)
 
 copy-objectives-requires : tie.Need-copy-objectives-requires
 copy-objectives-requires c κs =
     let x = c .before .before .before .before .before .before .before .before .before .before .expand-level in
-    let p = c .before .before .before .before .before .before .before .before .before .before .before .before .before .before .before .before .before .before .before .before .before .before .before .before .pre .0 in
+    let p = c .before .before .before .before .before .before .before .before .before .before .before .before .before .before .before .before .before .before .before .before .before .before .before .before .before .pre .0 in
     (omega (arith, x .ensures .0 .room, p .objectives-room), omega (arith, x .ensures .0 .room, p .expands .objectives-room, x .kept .1 .1 .1 .1 .1 .1 .1 .1 .1 .1 .1 .0))
 
 sub-copy : tie.Need-sub-copy
@@ -72,8 +72,8 @@ same-length-7 c = c .before .before .before .before .before .before .before .bef
 
 returns : tie.Need-returns
 returns c =
-    let a = c .before .before .before .before .before .before .before .before .before .before .before .before .before .before .before .before .before .before .before .before .before .before .before .before .before .before .before .before .before .before .before .before .args in
-    let p = c .before .before .before .before .before .before .before .before .before .before .before .before .before .before .before .before .before .before .before .before .before .before .before .before .before .before .before .before .before .before .before .before .pre .0 in
+    let a = c .before .before .before .before .before .before .before .before .before .before .before .before .before .before .before .before .before .before .before .before .before .before .before .before .before .before .before .before .before .before .before .before .before .args in
+    let p = c .before .before .before .before .before .before .before .before .before .before .before .before .before .before .before .before .before .before .before .before .before .before .before .before .before .before .before .before .before .before .before .before .before .pre .0 in
     let x = c .before .before .before .before .before .before .before .before .before .before .before .before .before .before .before .before .before .before .expand-level in
     let m = length (now (a .current)) in
     let few : x .result ≤ length (x .last .1 .1 .1 .1 .1 .1 .1 .1 .1 .1 .1 .0) = omega (arith, x .ensures .0 .room, p .expands .objectives-room, x .kept .1 .1 .1 .1 .1 .1 .1 .1 .1 .1 .1 .0) in

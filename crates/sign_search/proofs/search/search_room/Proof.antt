@@ -28,6 +28,7 @@ search-words-requires c κs =
       p .3,
       rw (toZ-ofZ (c .before .before .before .before .before .before .before .before .before .fits .objective)) (p .4),
       p .5,
+      p .6,
     )
 
 same-length : tie.Need-same-length

@@ -31,6 +31,7 @@ search-packed-requires c κs =
         same = c .before .before .before .before .before .before .copy .ensures;
       },
       p .8,
+      p .9,
     )
 
 unpack-requires : tie.Need-unpack-requires

@@ -1,0 +1,4 @@
+pub mod Numbers
+pub mod Starts
+pub mod Nearness
+pub mod Calls

@@ -1,0 +1,4 @@
+pub mod Numbers
+pub mod Search
+pub mod Near
+pub mod Call
