@@ -13,9 +13,9 @@ import sys
 
 TOP = sys.argv[1] if len(sys.argv) > 1 else os.path.join(os.path.dirname(os.path.abspath(__file__)), "..")
 # Numbers that are looked for nowhere: 65536 is also how many values 16 bits have, 256 how many a byte has, 16 and 8 are widths of blocks of columns and bytes of a word, 2 and 4 are too common. And in a crate: the exponent past a
-# double's last, the greatest byte.
+# double's last, the greatest byte, parts of a length and sizes of a product.
 NOWHERE = {65536, 256, 16, 8, 4, 2}
-ELSEWHERE = {("ieee", 1024), ("exports", 255)}
+ELSEWHERE = {("ieee", 1024), ("exports", 255), ("row_length", 2**10), ("row_length", 2**12), ("row_length", 2**40), ("row_length", 2**42)}
 EXAMPLES = ("proofs/Examples.antt", "record_call/proofs/Halls.antt")
 BOUND = r"(?:≤|<=|<|\*|;|replicate) (\d+)\b"
 

@@ -1,0 +1,10 @@
+pub mod Root
+pub mod Norm
+pub mod Chain
+pub mod Row
+pub mod Gradient
+pub mod Rows
+pub mod Sweep
+pub mod Theorem
+pub mod OfTable
+pub mod AtMostTwo

@@ -1,0 +1,4 @@
+pub mod OfCall
+pub mod Later
+pub mod Starts
+pub mod Examples
