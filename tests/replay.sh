@@ -5,6 +5,7 @@
 #   tests/replay.sh --stack            the stored lists, and how much stack each call takes
 #   tests/replay.sh --fast-math        the stored lists, from a host that is compiled and linked with -ffast-math
 #   tests/replay.sh KIND COUNT SEED    seeded calls of tests/make/all.py
+#   tests/replay.sh --build            builds it, and no more
 set -euo pipefail
 cd "$(dirname "$0")/.."
 archive=$(tools/archive.sh)
@@ -12,6 +13,7 @@ mkdir -p target/tests
 build() { gcc -std=c11 -O2 -g -Wall -Wextra -Werror -D_GNU_SOURCE -Iinclude "${@:2}" -o "target/tests/$1" tests/replay.c "$archive" -lpthread; }
 build replay
 case ${1:-} in
+--build) ;;
 '') target/tests/replay tests/lists/*.txt ;;
 --stack) target/tests/replay --stack tests/lists/*.txt ;;
 --fast-math)

@@ -5,7 +5,7 @@
   tests/make/all.py --check              compares them with what is stored, and writes nothing
   tests/make/all.py KIND COUNT SEED      prints seeded lines instead: KIND is `ranks` (COUNT tables at every rank and rule), `jobs`, `pins` (jobs of version 2), `larger` (of version 3),
                                          `runs`, `larger-calls` (calls and scripts on 129 to 256 signs), `reduced`, `blocks`, `divided`, `ranged` (finishes over ranges), `walk` (houses walked in full, float bounds), `turns` (lists of turns), `exchange` (scripts that exchange the rule), `limited` (at most k wagons moved)
-                                         or `lengths` (runs under rule 3, the largest miss of a row's length said at the end)
+                                         `distances` or `lengths` (runs under rule 3, the largest miss of a row's length said at the end)
 
 The same COUNT and SEED give the same lines.
 """
@@ -57,7 +57,7 @@ LISTS = {"tables": add_tables, "factors": factors.add, "steps": steps.add, "stan
          "blocks": blocks.add, "divided": divided.add, "ranged": ranged.add, "walk": walk.add, "turns": turns.add, "exchange": exchange.add, "limited": limited.add, "lengths": lengths.add}
 SEEDED = {"ranks": steps.seeded, "jobs": random_jobs.seeded, "pins": random_jobs.seeded_pins, "larger": random_jobs.seeded_larger, "runs": runs.seeded,
           "larger-calls": larger.seeded_calls, "reduced": reduced.seeded, "blocks": blocks.seeded, "divided": divided.seeded, "ranged": ranged.seeded, "walk": walk.seeded, "turns": turns.seeded,
-          "exchange": exchange.seeded, "limited": limited.seeded, "lengths": lengths.seeded}
+          "exchange": exchange.seeded, "limited": limited.seeded, "lengths": lengths.seeded, "distances": words.seeded}
 
 
 def stored(check):

@@ -119,3 +119,17 @@ def add(lines):
     lines.heading("random choices and words")
     add_random(lines, rng)
     add_faults(lines)
+
+
+def seeded(lines, count, seed):
+    """So many calls of `distance`, each choice packed where it is made of signs: of signs and of any words in turn, some of them longer slices or too short."""
+    for turn in range(0, count, 100):
+        rng = random.Random(f"distances {seed} {turn}")
+        for k in range(turn, min(count, turn + 100)):
+            m = rng.choice([rng.randint(1, 64), rng.randint(65, 256), rng.choice(SIZES)])
+            words = model.choice_words(m)
+            if k % 2:
+                apart(lines, m, *[[rng.getrandbits(64) for _ in range(max(0, words + rng.choice([0, 0, 0, 1, -1])))] for _ in "xy"])
+            else:
+                add_pair(lines, m, *[bytes(rng.choice(BYTES) for _ in range(m)) for _ in "xy"])
+        yield
