@@ -119,13 +119,29 @@ def function_of(name, edit):
     return there.pop() if len(there) == 1 else None
 
 
+def lines_of(name, function):
+    """First and last line of a function in its file, attributes included."""
+    folder = os.path.join(TOP, "crates", name, "src")
+    files = [os.path.join(folder, *function[:-1]) + ".rt"] if function[:-1] else [os.path.join(folder, root) for root in ("lib.rt", "main.rt")]
+    lines = text_of(next(path for path in files if os.path.isfile(path))).split("\n")
+    opened = next(k for k, line in enumerate(lines) if re.match(rf"(?:pub )?(?:extern \"C\" )?fn {function[-1]}\b", line))
+    first = opened - (lines[opened - 1].startswith("#["))
+    return first + 1, opened + 1 + lines[opened:].index("}")
+
+
 def said_of(name, function, said):
-    """What a run said of one function: its own facts that fail, and that it isn't proved; None where that isn't both there."""
+    """What a run said of one function: its own facts that fail, and that it isn't proved; None where that isn't both there. Where a function has no proof
+    of its own, the checker's search stands for it, and the facts are told at the function's lines."""
     place = re.escape("/".join(["crates", name, "proofs", *function]) + "/")
     fact = re.compile(rf"(?:note: )?\S*{place}\S+:\d+:\d+: (?:error: |it is not proved that )")
     lines = [line for line in said.split("\n") if fact.match(line) and "so this cannot be checked" not in line]
-    verdict = f"fn {'::'.join((name,) + function)}: not proved"
-    return "\n".join(lines + [verdict, "logic=not-proved"]) if lines and re.search(rf"^{verdict}(;|$)", said, re.M) else None
+    root = "(?:lib|main)" if len(function) == 1 else "/".join(function[:-1])
+    first, last = lines_of(name, function)
+    for found in re.finditer(rf"^note: \S*/crates/{name}/src/{root}\.rt:(\d+):\d+: it is not proved that .*$", said, re.M):
+        lines += [found.group(0)] if first <= int(found.group(1)) <= last else []
+    called = "::".join((name,) + function)
+    verdict = re.search(rf"^fn {called}: (?:not proved(?=;|$)|no proof: expected .*; `search` does not close .*$)", said, re.M)
+    return "\n".join(lines + [verdict.group(0), "logic=not-proved"]) if lines and verdict else None
 
 
 class Trial:
