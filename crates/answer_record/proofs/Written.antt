@@ -9,7 +9,7 @@ use mathlib.Core.List.{List, [], ◌∷◌, ◌++◌, append_assoc}
 use native.Mathlib.Omega.{arith}
 use native.Mathlib.Nat.{not-suc-le-zero, zero-add}
 use native.Mathlib.Numerals.{add-one}
-use lib.ListN.{length, get_or, set, take, drop, length_set, length-append, length-take, length-drop}
+use lib.ListN.{length, get_or, set, take, drop, length-set, length-append, length-take, length-drop}
 use lib.Seq.{length-take-le, take-set-le, drop-set-lt, drop-cons, get_or-set_same, append_snoc, take_at, drop_at, drop-drop, paste, paste-zero, paste-suc}
 use Rattle.laws.specs.Lists.{over}
 use Rattle.job_reader.specs.Encode.{bytes_of}
@@ -60,11 +60,11 @@ put_written zero s at v h = none s at
 put_written (suc n) s at v h =
     let low = v % 256 in
     let rest : List ℕ = set s (at + n) low in
-    let long : at + n ≤ length rest = simp length_set (omega arith) in
+    let long : at + n ≤ length rest = simp length-set (omega arith) in
     let bytes : List ℕ = bytes_of n (v / 256) in
     let size : length bytes ≡ n = length_bytes_of n (v / 256) in
     let tail : drop (at + n) rest ≡ low ∷ drop (suc (at + n)) s =
-    drop-cons rest (at + n) 0 (simp length_set (omega arith)) ∙ rw (get_or-set_same s (at + n) low 0 (omega arith), drop-set-lt (suc (at + n)) s (at + n) low (omega arith)) in
+    drop-cons rest (at + n) 0 (simp length-set (omega arith)) ∙ rw (get_or-set_same s (at + n) low 0 (omega arith), drop-set-lt (suc (at + n)) s (at + n) low (omega arith)) in
     let more : at + length (bytes ++ (low ∷ [])) ≡ suc (at + n) = simp length-append (omega arith) in
     put_written n rest at (v / 256) long
     ∙ rw (size, take-set-le at s (at + n) low (omega arith), tail, more, ← append_assoc (take at s) bytes (low ∷ []))

@@ -137,8 +137,8 @@ module _ (n count : ℕ) (rows cols : List ℕ) (values c : List ℤ) (pinned st
     pub pins_fit : PinsFit n pinned stores present
     pins_fit = let l = slices_long choice falls workspace not_short in record {
       wagons_there = pinned_within;
-      stores_there = l.stores-long;
-      present_there = l.present-long hall_good.wagons;
+      stores_there = l.stores_long;
+      present_there = l.present_long hall_good.wagons;
       stores_low = stores_low;
       present_low = present_low;
     }
@@ -153,15 +153,15 @@ module _ (n count : ℕ) (rows cols : List ℕ) (values c : List ℤ) (pinned st
     pub clear_fits : (b : List ℕ) (space : ℕ) → length b ≡ n → search_workspace ≤ space
         → ClearFits n count rows cols values c width pinned stores present sizes wagons b falls space
     clear_fits b space m s = let l = slices_long choice falls workspace not_short in record {
-      lent = l.table-long hall_good.entries;
-      costs_there = l.costs-long hall_good.wagons;
+      lent = l.table_long hall_good.entries;
+      costs_there = l.costs_long hall_good.wagons;
       hall = hall_good;
       width_some = width_some;
       width_few = width_few;
       pins = pins_fit;
-      wagons_there = l.wagons-long few_blocks;
+      wagons_there = l.wagons_long few_blocks;
       blocks_few = few_blocks;
-      falls_room = l.falls-long few_blocks;
+      falls_room = l.falls_long few_blocks;
       choice_many = m;
       space_room = s;
     }

@@ -28,7 +28,7 @@ fn names(list: &[u16], i: usize) -> bool
 }
 
 // Whether wagon i is free: the list names it, or the whole house is searched, and it isn't pinned.
-fn is_free_lem(pinned: &[u16], whole: bool, list: &[u16], i: usize) -> bool
+fn is_free(pinned: &[u16], whole: bool, list: &[u16], i: usize) -> bool
     ensures { result ≡ moved_by pinned.now whole list.now i }
 {
     if names(pinned, i) {
@@ -45,7 +45,7 @@ fn state_of(pinned: &[u16], whole: bool, list: &[u16], b: &[u8], i: usize) -> u8
     requires { i < length b.now }
     ensures { result ≡ cond (moved_by pinned.now whole list.now i) 2 (elem b.now i) }
 {
-    if is_free_lem(pinned, whole, list, i) {
+    if is_free(pinned, whole, list, i) {
         return 2;
     }
     b[i]

@@ -9,7 +9,7 @@ use limits::{
     MOST_BLOCKS, MOST_ENTRIES, MOST_MAGNITUDE, MOST_WAGONS, MOST_WIDTH, SEARCH_WORKSPACE,
 };
 use reduced::indices::index_refusal;
-use tables::check::{hall_number, short_table, too_short_lem, wide};
+use tables::check::{hall_number, short_table, too_short, wide};
 
 // Whether one of the first bytes is above 1.
 pub fn any_above(count: usize, bytes: &[u8]) -> bool
@@ -120,13 +120,13 @@ fn list_number(
 pub fn choices_short(n: usize, c: usize, present: usize, choice: usize) -> bool
     ensures { result ≡ choices_short n c present choice }
 {
-    if too_short_lem(MOST_WAGONS < n, n, c) {
+    if too_short(MOST_WAGONS < n, n, c) {
         return true;
     }
-    if too_short_lem(MOST_WAGONS < n, n, present) {
+    if too_short(MOST_WAGONS < n, n, present) {
         return true;
     }
-    too_short_lem(MOST_WAGONS < n, n, choice)
+    too_short(MOST_WAGONS < n, n, choice)
 }
 
 // How many wagons a block has: fewer than 2^16.
@@ -167,7 +167,7 @@ fn blocks_short(sizes: &[u16], wagons: usize, falls: usize) -> bool
 fn lists_short(pinned: usize, stores: usize, sizes: &[u16], wagons: usize, falls: usize) -> bool
     ensures { result ≡ lists_short pinned stores sizes.now wagons falls }
 {
-    if too_short_lem(false, pinned, stores) {
+    if too_short(false, pinned, stores) {
         return true;
     }
     blocks_short(sizes, wagons, falls)
@@ -202,7 +202,7 @@ fn call_short(
     if lists_short(pinned.len(), stores.len(), sizes, wagons.len(), falls) {
         return true;
     }
-    too_short_lem(false, SEARCH_WORKSPACE, workspace)
+    too_short(false, SEARCH_WORKSPACE, workspace)
 }
 
 // The first number that applies; the lengths are those of the slices that the call writes.

@@ -10,7 +10,7 @@ use native.Mathlib.Omega.{arith}
 use borrow.Author.Tests.{eq-eqb, ne_eqb}
 use lib.Dec.{eqb}
 use lib.IntN.{ℤ, pos, nat_abs, ◌+ℤ◌, +ℤ_idr}
-use lib.ListN.{length, get_or, set, replicate, length_set, length-replicate, get_or-replicate}
+use lib.ListN.{length, get_or, set, replicate, length-set, length-replicate, get_or-replicate}
 use lib.Seq.{get_or-set_same, get_or-set_other}
 use mir.Syntax.{w64}
 use mir.Val.{SFits}
@@ -46,7 +46,7 @@ module _ (rows cols : List ℕ) (values : List ℤ) (k : ℕ) (grid : List ℤ) 
     (row : a ≡ elem rows k) (column : b ≡ elem cols k) (value : v ≡ elem_z values k) (low : a < 16) (left : b < 16) where
   pub next_laid : Laid rows cols values (k + 1) (set grid (a * 16 + b) (elem_z grid (a * 16 + b) +ℤ v))
   next_laid = record {
-    long = length_set grid (a * 16 + b) (elem_z grid (a * 16 + b) +ℤ v) ∙ p.long;
+    long = length-set grid (a * 16 + b) (elem_z grid (a * 16 + b) +ℤ v) ∙ p.long;
     at = λ i j l m. go i j l m (ℕ_discrete i a) (ℕ_discrete j b) ∙ sym (sum_more k (share (table_of 0 rows cols values) i j));
   }
     where

@@ -180,19 +180,19 @@ module _ {d : ℕ} {cost : ℤ} {fields grid : List ℤ} {visited : ℕ} {least 
       g = s.g;
       turn = s.turn * 2 + 1;
       few = omega (arith, s.few);
-      visited_is = w.visited-on ∙ ap (λ (x : ℕ). x + 2 ^ (d - 1)) (s.visited_is ∙ ap (λ (x : ℕ). s.turn * x) (double d z)) ∙ second_half s.turn (2 ^ (d - 1));
-      within = omega (arith, s.within, double d z, w.visited-on);
-      cost_is = e ∙ top_cost ∙ ap s.f (sym w.visited-on);
+      visited_is = w.visited_on ∙ ap (λ (x : ℕ). x + 2 ^ (d - 1)) (s.visited_is ∙ ap (λ (x : ℕ). s.turn * x) (double d z)) ∙ second_half s.turn (2 ^ (d - 1));
+      within = omega (arith, s.within, double d z, w.visited_on);
+      cost_is = e ∙ top_cost ∙ ap s.f (sym w.visited_on);
       fields_are = λ j h.
           r.raised_is j h
           ∙ ap (λ z. z +ℤ pos 8 *ℤ elem_z grid ((d - 1) * 16 + j)) (s.fields_are j (omega arith) ∙ ap (s.g j) at_top)
           ∙ sym (s.shifts j (d - 1) s.turn h top_below)
-          ∙ ap (λ (x : ℕ). s.g j (x + 2 ^ (d - 1))) (sym at_top) ∙ ap (s.g j) (sym w.visited-on);
+          ∙ ap (λ (x : ℕ). s.g j (x + 2 ^ (d - 1))) (sym at_top) ∙ ap (s.g j) (sym w.visited_on);
       grows = λ j q h. s.grows j q (omega arith);
       shifts = λ i j q l h. s.shifts i j q l (omega arith);
       costs_small = s.costs_small;
       grid_small = s.grid_small;
-      best = subst (λ (x : ℕ). Best s.f x least' number') (sym w.visited-on) w.best-on;
+      best = subst (λ (x : ℕ). Best s.f x least' number') (sym w.visited_on) w.best_on;
     }
 
     -- both
@@ -201,8 +201,8 @@ module _ {d : ℕ} {cost : ℤ} {fields grid : List ℤ} {visited : ℕ} {least 
     both_stand {least' = least'} {number' = number'} v w =
         let e : visited + 2 ^ d ≡ visited + 2 ^ (d - 1) + 2 ^ (d - 1) = omega (arith, double d z) in
         record {
-          visited_on = w.visited-on ∙ ap (λ (x : ℕ). x + 2 ^ (d - 1)) v ∙ sym e;
-          best_on = subst (λ (x : ℕ). Best s.f x least' number') (ap (λ (x : ℕ). x + 2 ^ (d - 1)) v ∙ sym e) w.best-on;
+          visited_on = w.visited_on ∙ ap (λ (x : ℕ). x + 2 ^ (d - 1)) v ∙ sym e;
+          best_on = subst (λ (x : ℕ). Best s.f x least' number') (ap (λ (x : ℕ). x + 2 ^ (d - 1)) v ∙ sym e) w.best_on;
         }
 
 -- the two choices of one digit
@@ -217,7 +217,7 @@ two_stand {d} {fields = fields} {grid = grid} one s e₁ e₂ e₃ m e₄ e₅ e
     let none : d - 1 ≡ 0 = omega (arith, one) in
     let w = end_stands none (low_stands z s refl) e₁ e₂ e₃ in
     let r : Raised (d - 1) fields grid fields = record { raised_is = λ i h. absurd (omega (arith, none)) } in
-    both_stand z s w.visited-on (end_stands none (high_stands z s w r m) e₄ e₅ e₆)
+    both_stand z s w.visited_on (end_stands none (high_stands z s w r m) e₄ e₅ e₆)
 
 -- ---- at first
 

@@ -7,7 +7,7 @@ ghost use Rattle.tables.specs.Check.{hall_number};
 ghost use Rattle.exhaustive.specs.Contract.{walk_short, walk_number};
 
 use limits::{MOST_ENTRIES, MOST_MAGNITUDE, MOST_WAGONS, MOST_WALKED};
-use tables::check::{hall_number, short_table, too_short_lem};
+use tables::check::{hall_number, short_table, too_short};
 
 // Whether there are more wagons.
 fn many(n: usize) -> bool
@@ -32,10 +32,10 @@ fn slices_short(
         return true;
     }
     let refused = many(n);
-    if too_short_lem(refused, n, c) {
+    if too_short(refused, n, c) {
         return true;
     }
-    too_short_lem(refused, n, b)
+    too_short(refused, n, b)
 }
 
 // Wagon i's cost, 0 where there is none.

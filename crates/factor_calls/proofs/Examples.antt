@@ -35,7 +35,7 @@ pub call_is_four : {answer : ℕ} {out' : List Float}
 unfolding of_bits to_bits of_int add mul div Floats.eighth_of Rows.map_first Turns.up_to Sum.total Lists.any_below Lists.tabulate Refusal.or_else Refusal.first Refusal.any_of Refusal.short
     Check.bad_size Check.before Check.bad_entry Check.bad_order Check.unmirrored Check.table_number Check.short_table Norms.dot_to Norms.dot_of Vectors.add_scaled
     Whole.row_takes Whole.whole_row Whole.numerator whole_multipliers rank_meant answered bad_signs Numbers.factor_refused Numbers.factor_short Numbers.dual_short dual_number
-call_is_four w = (w.answers, ap (λ (xs : List Float). map bits_of xs) w.multipliers-are)
+call_is_four w = (w.answers, ap (λ (xs : List Float). map bits_of xs) w.multipliers_are)
 
 pub divided_is_one : {answer : ℕ} {out' : List Float}
     → Multiplies (divided_number 1 1 (0 ∷ []) (0 ∷ []) (pos 8 ∷ []) 1 1 1) (divided_multipliers (table_of 1 (0 ∷ []) (0 ∷ []) (pos 8 ∷ [])) 1 1 (two64 ∷ [])) (zero64 ∷ []) answer out'
@@ -44,7 +44,7 @@ unfolding of_bits to_bits of_int add mul div Floats.eighth_of Rows.map_first Tur
     Check.bad_size Check.before Check.bad_entry Check.bad_order Check.unmirrored Check.table_number Check.short_table Norms.dot_to Norms.dot_of Vectors.add_scaled
     Whole.row_takes Whole.whole_row Whole.numerator answered bad_signs Numbers.bad_given_rank Numbers.given_factor_short Numbers.divided_short divided_number
     Equation8.self_product Equation8.divided_at divided_multipliers
-divided_is_one w = (w.answers, ap (λ (xs : List Float). map bits_of xs) w.multipliers-are)
+divided_is_one w = (w.answers, ap (λ (xs : List Float). map bits_of xs) w.multipliers_are)
 
 pub rank_none : divided_number 1 1 (0 ∷ []) (0 ∷ []) (pos 8 ∷ []) 0 0 1 ≡ 17
 unfolding Sum.total Lists.any_below Refusal.or_else Refusal.first Refusal.any_of Refusal.short

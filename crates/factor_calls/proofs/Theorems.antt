@@ -59,7 +59,7 @@ module _ (m count : ℕ) (rows cols : List ℕ) (values : List ℤ) (rank : ℕ)
       record {
         draw = least_draw factor (rank_meant m rank) m draws (table_of count rows cols values) k;
         given = omega arith;
-        lent = w.signs-are ∙ sym (accepted_is _ (λ _. out) (over (signs_of factor (rank_meant m rank) m draws (least_draw factor (rank_meant m rank) m draws (table_of count rows cols values) k)) out) refl ok);
+        lent = w.signs_are ∙ sym (accepted_is _ (λ _. out) (over (signs_of factor (rank_meant m rank) m draws (least_draw factor (rank_meant m rank) m draws (table_of count rows cols values) k)) out) refl ok);
         answers = w.answers ∙ sym (accepted_is _ E.Refused (E.Value (f (least_draw factor (rank_meant m rank) m draws (table_of count rows cols values) k))) refl ok);
         none_lower = λ j h. least_least f (k - 1) j (omega arith);
         before_higher = λ j h. more _ _ (least_first f (k - 1) j h);
@@ -68,7 +68,7 @@ module _ (m count : ℕ) (rows cols : List ℕ) (values : List ℤ) (rank : ℕ)
 -- what an accepted call lends out in the first m places: f at each, and behind them what stood there
 module _ {number : ℕ} (f : ℕ → Float) (m : ℕ) (out : List Float) {answer : ℕ} {out' : List Float} (w : Multiplies number (tabulate f m) out answer out') (ok : number ≡ 0) where
   wrote : out' ≡ over (tabulate f m) out
-  wrote = w.multipliers-are ∙ sym (accepted_is _ (λ _. out) (over (tabulate f m) out) refl ok)
+  wrote = w.multipliers_are ∙ sym (accepted_is _ (λ _. out) (over (tabulate f m) out) refl ok)
 
   made_at : (i : ℕ) → i < m → at out' i ≡ f i
   made_at i h =

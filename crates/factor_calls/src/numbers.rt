@@ -4,7 +4,7 @@ ghost use Rattle.factor_calls.specs.Numbers.{bad_rank, bad_draws, factor_short, 
 
 use limits::{MOST_DRAWS, MOST_RANK, MOST_SIGN_ENTRIES, MOST_SIGN_MAGNITUDE, MOST_SIGNS};
 use run_limits::rank_meant;
-use tables::check::{bad_signs, short_table, table_number, too_short_lem};
+use tables::check::{bad_signs, short_table, table_number, too_short};
 
 // 17.
 fn bad_rank(rank: usize) -> bool
@@ -86,7 +86,7 @@ fn rounded_short(
     if draws_short(m, rank, k, draws) {
         return true;
     }
-    too_short_lem(bad_signs(m), m, out)
+    too_short(bad_signs(m), m, out)
 }
 
 // The first number of `compute_rounded_sol`, or 0.
@@ -148,7 +148,7 @@ fn dual_short(
     if factor_short(m, rank, factor) {
         return true;
     }
-    too_short_lem(bad_signs(m), m, out)
+    too_short(bad_signs(m), m, out)
 }
 
 // The first number of `dual_variables`, or 0.

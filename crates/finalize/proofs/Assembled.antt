@@ -117,14 +117,14 @@ module _ (n : ℕ) (h : Table) (c : ℕ → ℤ) (rank width draw_count : ℕ) (
       → Finalizes n h c rank width draw_count draws factor b b' multipliers multipliers' diagonal bound floor rounded cost rounds
   unfolding diagonal_total float_bound floor_eighths multipliers_of rounded_signs rounded_cost search_result searched_choice searched_cost searched_rounds
   of_signs w = record {
-    diagonal_is = w.diagonal-is;
-    bound_is = w.bound-is;
-    floor_is = w.floor-is;
+    diagonal_is = w.diagonal_is;
+    bound_is = w.bound_is;
+    floor_is = w.floor_is;
     rounded_is = w.chooses.rounded_is;
     cost_is = w.chooses.cost_is;
     rounds_are = w.chooses.rounds_are;
     choice_is = w.chooses.choice_is;
-    multipliers_are = w.multipliers-are;
+    multipliers_are = w.multipliers_are;
   }
 
   pub finalizes : {t : Table} → t ≡ sign_table n h c
@@ -150,8 +150,8 @@ module _ (n : ℕ) (h : Table) (c : ℕ → ℤ) where
       let ps = sign_places n h c in
       rw (
         w.rows_are,
-        w.cols-are,
-        w.values-are,
+        w.cols_are,
+        w.values_are,
         taken (rows_of ps) rows entries (e ∙ sym (length-map ps (λ p. p.0))) r,
         taken (cols_of ps) cols entries (e ∙ sym (length-map ps (λ p. p.1))) k,
         taken (values_of (sign_of n h c) ps) values entries (e ∙ sym (length-map ps (λ p. sign_of n h c p.0 p.1))) v,

@@ -1,6 +1,6 @@
 -- Whole eighths in doubles: up to 2 ^ 53 in magnitude the double of v eighths is worth exactly v / 8 (`eighth_exact`), and sums of such
 -- doubles are those of the whole numbers (`eighth_add`, `eighth_less`). Assumes nothing.
-use Rattle.std.proofs.Common.{◌≡◌, ℕ, zero, suc, ◌+◌, ◌-◌, ◌*◌, ◌^◌, ◌<◌, ◌≤◌, Bool, true, false, cond, not, ◌&&◌, ltb, ◌⊎◌, ℤ, pos, negsuc, ◌+ℤ◌, ◌-ℤ◌, nat_abs, sym, refl, ap, ◌∙◌, subst, inl, inr, ⊎_elim, zero-le, le_trans, le_of_eq, lt_of_lt_of_le, mul_assoc, mul_comm, add_mul, lt_of_mul-lt-mul_right, eq-or-lt_of_le, mul-lt-mul_of_pos_right, mul-pos, mul_right_comm, not-le_of_lt, arith, lit<, pow_pos, pow_mono, pow-add, le-ltb, lt-ltb}
+use Rattle.std.proofs.Common.{◌≡◌, ℕ, zero, suc, ◌+◌, ◌-◌, ◌*◌, ◌^◌, ◌<◌, ◌≤◌, Bool, true, false, cond, not, ◌&&◌, ltb, ◌⊎◌, ℤ, pos, negsuc, ◌+ℤ◌, ◌-ℤ◌, nat_abs, sym, refl, ap, ◌∙◌, subst, inl, inr, ⊎_elim, zero-le, le_trans, le_of_eq, lt_of_lt_of_le, mul_assoc, mul_comm, add-mul, lt_of_mul-lt-mul_right, eq-or-lt_of_le, mul-lt-mul_of_pos_right, mul-pos, mul_right_comm, not-le_of_lt, arith, lit<, pow_pos, pow_mono, pow-add, le-ltb, lt-ltb}
 use mathlib.Core.Bool.{beq}
 use native.Mathlib.Nat.{mul-sub}
 use lib.IntN.{sub_ℕ, +ℤ_idr}
@@ -83,7 +83,7 @@ module _ {a b c n k d : ℕ} (p : Same a c n d) (q : Same b c k d) where
   same_add : (s : Bool) → round binary64 s (a + b) c ≡ round binary64 s (n + k) d
   same_add s =
       round_same binary64 s (a + b) c (n + k) d p.above p.below
-      (add_mul a b d ∙ ap (λ (x : ℕ). x + b * d) p.cross ∙ ap (λ (x : ℕ). n * c + x) q.cross ∙ sym (add_mul n k c))
+      (add-mul a b d ∙ ap (λ (x : ℕ). x + b * d) p.cross ∙ ap (λ (x : ℕ). n * c + x) q.cross ∙ sym (add-mul n k c))
 
 -- by cases on the two tests of `sum`
 pick : (q l : Bool) {x x' y y' z z' : Float} → x ≡ x' → y ≡ y' → z ≡ z' → cond q x (cond l y z) ≡ cond q x' (cond l y' z')

@@ -12,7 +12,7 @@ use mathlib.Core.Bool.{Bool, true, false, cond, ◌&&◌, not}
 use mathlib.Core.List.{List, [], ◌∷◌, ◌++◌}
 use native.Mathlib.Omega.{arith}
 use native.Mathlib.Decide.{dec_le}
-use borrow.Author.Tests.{le-leb, lt-leb, le-ltb, leb-true, ne_eqb, eqb-true, not_false}
+use borrow.Author.Tests.{le-leb, lt-leb, le-ltb, leb-true, ne_eqb, eqb-true, not-false}
 use lib.Dec.{eqb, leb, ltb}
 use lib.ListN.{replicate}
 use lib.Ieee.{Float}
@@ -56,7 +56,7 @@ stops (suc a) b c h = refl
 -- a version that isn't refused, and a head, has a known version
 version_known : (format : Format) (s : List ℕ) → version_number format s ≡ 0 → known format (version s) ≡ true
 unfolding version_number
-version_known format s e = not_false _ (clear _ 11 (first_head _ _ (first_rest _ _ e)))
+version_known format s e = not-false _ (clear _ 11 (first_head _ _ (first_rest _ _ e)))
 
 head_known : (format : Format) (s : List ℕ) → first (head_numbers format s) ≡ 0 → known format (version s) ≡ true
 unfolding head_numbers

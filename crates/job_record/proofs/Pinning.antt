@@ -11,7 +11,7 @@ use mathlib.Core.Logic.{◌⊎◌, inl, inr}
 use native.Mathlib.Omega.{arith}
 use native.Mathlib.Numerals.{add-one}
 use native.Mathlib.Decide.{ℕ_discrete}
-use borrow.Author.Tests.{le-ltb, le-leb, lt-leb, eq-eqb, ne_eqb, eqb-true, ltb-false, leb-false, not_false}
+use borrow.Author.Tests.{le-ltb, le-leb, lt-leb, eq-eqb, ne_eqb, eqb-true, ltb-false, leb-false, not-false}
 use lib.ListN.{length, set, get_or, replicate, length-replicate, get_or-replicate, length-append}
 use lib.Seq.{get_or-set_same, get_or-set_other}
 use lib.Dec.{leb, ltb, eqb}
@@ -252,7 +252,7 @@ free_left s n at zero e = rw (← states_begin s n at) (all ∙ one)
 free_left s n at (suc k) e =
     let earlier = both _ _ e in
     let p = accepted s n at k earlier.1 in
-    let free = eqb-true _ _ (not_false _ (seen s n at k earlier.0 p.wagon ∙ p.new)) in
+    let free = eqb-true _ _ (not-false _ (seen s n at k earlier.0 p.wagon ∙ p.new)) in
     let less = one_less n (states_of s n at k) (pin_wagon s at k) (pin_store s at k) (length_states s n at k) p.wagon free p.store in
     let same : total n (counted (set (states_of s n at k) (pin_wagon s at k) (pin_store s at k))) ≡ total n (counted (states_of s n at (suc k))) = rw (states_next s n at k, add-one k) in
     omega (arith, less, same, free_left s n at k earlier.0)

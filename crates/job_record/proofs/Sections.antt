@@ -4,7 +4,7 @@ use mathlib.Core.Path.{◌≡◌, refl, sym, ◌∙◌}
 use mathlib.Core.Bool.{Bool, true, false, cond, ◌&&◌, not}
 use mathlib.Core.List.{List}
 use native.Mathlib.Omega.{arith}
-use borrow.Author.Tests.{ltb-false, eqb-true, eqb-false, not_false, eq-eqb}
+use borrow.Author.Tests.{ltb-false, eqb-true, eqb-false, not-false, eq-eqb}
 use lib.Dec.{ltb}
 use lib.ListN.{length}
 use Rattle.laws.specs.Refusal.{first}
@@ -47,9 +47,9 @@ head s e =
     let count = bounded_passed s 6 2 most_entries 12 (first_head _ _ (first_rest _ _ later)) in
     record {
       small = ltb-false _ _ (clear _ 10 (first_head _ _ frame));
-      framed = eqb-true _ _ (not_false _ (clear _ 10 (first_head _ _ (first_rest _ _ (first_rest _ _ frame)))));
+      framed = eqb-true _ _ (not-false _ (clear _ 10 (first_head _ _ (first_rest _ _ (first_rest _ _ frame)))));
       there = count.0;
-      versioned = not_false _ (clear _ 11 (first_head _ _ (first_rest _ _ version)));
+      versioned = not-false _ (clear _ 11 (first_head _ _ (first_rest _ _ version)));
       few_of = n.1;
       few = omega (arith, n.1, most_wagons_lem (big_endian s 4 1));
       short = count.1;
@@ -83,7 +83,7 @@ settings s at e₁ =
       there = omega (arith, start.0);
       rank = (bounded_passed s at 1 most_rank 16 (first_head _ _ e₁)).1;
       rule = (bounded_passed s (at + 1) 1 last_rule 17 (first_head _ _ e₂)).1;
-      momentum = λ is. not_false _ (both_not _ _ (clear _ 17 (first_head _ _ (first_rest _ _ (first_head _ _ e₃)))) (eq-eqb _ _ is));
+      momentum = λ is. not-false _ (both_not _ _ (clear _ 17 (first_head _ _ (first_rest _ _ (first_head _ _ e₃)))) (eq-eqb _ _ is));
       width = (bounded_passed s (at + 34) 1 most_width 18 (first_head _ _ e₅)).1;
       start = start.1;
       given = λ is none. eqb-false _ _ (both_not _ _ (clear _ 16 (first_head _ _ e₇)) (eq-eqb _ _ is)) none;

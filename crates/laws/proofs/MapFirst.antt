@@ -50,6 +50,8 @@ module _ {A : Type 0} where
   pub get_d_map_first : (f : ℕ → A → A) (n : ℕ) (xs : List A) (i : ℕ) (d : A) → i < n → i < length xs
       → get_or (map_first f n xs) i d ≡ f i (get_or xs i d)
   unfolding map_first
+  get_d_map_first f zero xs i d h l = elim h [ ]
+  get_d_map_first f (suc n) [] i d h l = elim l [ ]
   get_d_map_first f (suc n) (x ∷ xs) zero d h l = refl
   get_d_map_first f (suc n) (x ∷ xs) (suc i) d h l = get_d_map_first (λ j. f (suc j)) n xs i d (omega arith) (omega arith)
 

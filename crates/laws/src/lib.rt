@@ -1,1 +1,3 @@
+#![tactic(auto)]
+
 // Definitions (specs/) and lemmas (proofs/) that more than one crate cites. No code.

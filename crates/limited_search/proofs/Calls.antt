@@ -47,12 +47,12 @@ module _ (n count : ℕ) (rows cols : List ℕ) (values c : List ℤ) (present :
       → LimitedSearches n count rows cols values c present k width choice workspace (part' ++ drop (n - 0) choice) (used ++ drop (search_workspace - 0) workspace)
       (Answer (to_z w64 (of_z w64 least)) rounds)
   searches part part' used least rounds whole long fills l =
-      let is : part' ≡ choice_of n answer = l.choice-is ∙ choice_whole n answer part whole in
+      let is : part' ≡ choice_of n answer = l.choice_is ∙ choice_whole n answer part whole in
       let wrote : part' ++ drop (n - 0) choice ≡ over (choice_of n answer) choice = written n part' (choice_of n answer) choice long is in
       record {
         numbered = sym none;
         refused = λ q. absurd (q none);
-        answers = λ e. ap₂ Answer (objective_held (hall_sign_table hall) answer l.least-is ∙ l.least-is) l.rounds-are;
+        answers = λ e. ap₂ Answer (objective_held (hall_sign_table hall) answer l.least_is ∙ l.least_is) l.rounds_are;
         writes = λ e. wrote;
         kept = tail_kept search_workspace used workspace fills;
         near =

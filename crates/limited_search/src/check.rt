@@ -4,7 +4,7 @@ ghost use Rattle.limited_search.specs.Numbers.{move_number, call_short, limited_
 
 use block_search::check::{any_above, bad_width, choices_short};
 use limits::{MOST_ENTRIES, MOST_MAGNITUDE, MOST_WAGONS, SEARCH_WORKSPACE};
-use tables::check::{hall_number, short_table, too_short_lem};
+use tables::check::{hall_number, short_table, too_short};
 
 // 27, 28, 19.
 fn move_number(n: usize, present: &[u8], k: usize, width: usize) -> u8
@@ -43,7 +43,7 @@ fn call_short(
     if choices_short(n, c, present, choice) {
         return true;
     }
-    too_short_lem(false, SEARCH_WORKSPACE, workspace)
+    too_short(false, SEARCH_WORKSPACE, workspace)
 }
 
 // The first number that applies; the lengths are those of the slices that the call writes.

@@ -1,4 +1,5 @@
 // 01's limits, each named once; specs/Limits.antt has the same names. What follows from another limit is computed from it.
+#![tactic(auto)]
 
 // (H, c)
 pub const MOST_WAGONS: usize = 255;

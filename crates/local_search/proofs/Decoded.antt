@@ -2,7 +2,7 @@
 use Prim.Native.Nat.{ℕ, zero, suc, ◌+◌, ◌*◌, ◌-◌, ◌≤◌, ◌<◌}
 use native.Mathlib.Omega.{arith}
 use mathlib.Core.Bool.{Bool, true, false, cond}
-use mathlib.Core.List.{List, [], ◌∷◌, ◌++◌, map, map_append}
+use mathlib.Core.List.{List, [], ◌∷◌, ◌++◌, map, map-append}
 use mathlib.Core.Path.{◌≡◌, refl, sym, ap, ap₂, ◌∙◌, subst}
 use lib.IntN.{ℤ, pos, ◌+ℤ◌}
 use lib.Signed.{lt_z}
@@ -74,7 +74,7 @@ module _ (m : ℕ) where
   unfolding improving
   children_map changes parent zero h held = refl
   children_map changes parent (suc n) h held =
-      map_append (decoded m) (listed_children changes n parent) (child_at (improves_c (change_of changes)) (flip_w changes) parent n)
+      map-append (decoded m) (listed_children changes n parent) (child_at (improves_c (change_of changes)) (flip_w changes) parent n)
       ∙ ap₂ ◌++◌ (children_map changes parent n (omega arith) held)
       (cond_map (improves_c (change_of changes) parent n) (flip_w changes n parent)
       ∙ ap (λ (x : Choice). cond (improves_c (change_of changes) parent n) (x ∷ []) []) (decoded_child changes parent n (omega arith) held))

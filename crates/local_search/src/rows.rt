@@ -7,7 +7,7 @@ ghost use Rattle.local_search.specs.Level.{shifted};
 use sign_words::words::{copy, flip_in};
 
 // The byte of sign `i`.
-pub fn sign_at_lem(row: &[u8], i: usize) -> u8
+pub fn sign_at(row: &[u8], i: usize) -> u8
     requires { i < length row.now }
     ensures { result ≡ get_or row.now i 0 }
 {

@@ -11,7 +11,7 @@ use borrow.Author.Tests.{lt-ltb, le-ltb}
 use mir.Syntax.{w64}
 use mir.Val.{SFits, to_z, of_z}
 use mir.Facts.{to_z-of_z}
-use lib.ListN.{length, set, take, drop, replicate, length-replicate, length-map, length_set}
+use lib.ListN.{length, set, take, drop, replicate, length-replicate, length-map, length-set}
 use lib.Seq.{sets, sets-eq, take_at, get_or-set_same, get_or-set_other}
 use lib.Dec.{eqb}
 use lib.IntN.{ℤ, pos, nat_abs, ◌+ℤ◌, ◌*ℤ◌, *ℤ-zero, +ℤ_idr}
@@ -126,7 +126,7 @@ module _ (h : Table) (b : List ℕ) where
         size = rw is (length_tabulate (λ i. sum l (beside_term h (choice_at b) i)) m)
 
         long : length (set sums (h.row l) (elem_z sums (h.row l) +ℤ term l)) ≡ m
-        long = length_set sums (h.row l) (elem_z sums (h.row l) +ℤ term l) ∙ size
+        long = length-set sums (h.row l) (elem_z sums (h.row l) +ℤ term l) ∙ size
 
         go : (j : ℕ) → j < m → Dec (j ≡ h.row l) → elem_z (set sums (h.row l) (elem_z sums (h.row l) +ℤ term l)) j ≡ sum (l + 1) (beside_term h (choice_at b) j)
         go j k (yes e) = rw e (get_or-set_same sums (h.row l) (elem_z sums (h.row l) +ℤ term l) (pos 0) (omega (arith, size)) ∙ row_more)

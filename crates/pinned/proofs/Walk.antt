@@ -160,7 +160,7 @@ module _ (places : List ℕ) (h : Table) where
     walk_room b room =
         record {
           rows_room = omega (arith, walk_few, room.rows_room, w.rows_same);
-          cols_room = omega (arith, walk_few, room.cols_room, w.cols-same);
+          cols_room = omega (arith, walk_few, room.cols_room, w.cols_same);
           values_room = omega (arith, walk_few, room.values_room, w.values_same);
         }
 
@@ -173,21 +173,21 @@ module _ (places : List ℕ) (h : Table) where
         (record {
           many = kept_count keep h.value l at w.many;
           rows_so =
-              walked_next keep (λ k. elem places (h.row k)) 0 (w.many ∙ kept_lengths keep h.value (λ k. elem places (h.row k)) l) (omega (arith, walk_few, room.rows_room)) w.rows-so p;
+              walked_next keep (λ k. elem places (h.row k)) 0 (w.many ∙ kept_lengths keep h.value (λ k. elem places (h.row k)) l) (omega (arith, walk_few, room.rows_room)) w.rows_so p;
           cols_so =
-              walked_next keep (λ k. elem places (h.column k)) 0 (w.many ∙ kept_lengths keep h.value (λ k. elem places (h.column k)) l) (omega (arith, walk_few, room.cols_room)) w.cols-so q;
-          values_so = walked_next keep h.value (pos 0) w.many (omega (arith, walk_few, room.values_room)) w.values-so s;
+              walked_next keep (λ k. elem places (h.column k)) 0 (w.many ∙ kept_lengths keep h.value (λ k. elem places (h.column k)) l) (omega (arith, walk_few, room.cols_room)) w.cols_so q;
+          values_so = walked_next keep h.value (pos 0) w.many (omega (arith, walk_few, room.values_room)) w.values_so s;
           rows_same = x ∙ w.rows_same;
-          cols_same = y ∙ w.cols-same;
+          cols_same = y ∙ w.cols_same;
           values_same = z ∙ w.values_same;
         })
 
     pub walk_done : LastFree keep h.count l → Renumbered places h rows cols values rows' cols' values' at
     walk_done end =
         record {
-          rows_are = w.rows-so.whole end.last ∙ ap (λ (zs : List ℕ). over zs rows) (sym (kept_stop keep (λ k. elem places (h.row k)) h.count l end.inside end.beyond));
-          cols_are = w.cols-so.whole end.last ∙ ap (λ (zs : List ℕ). over zs cols) (sym (kept_stop keep (λ k. elem places (h.column k)) h.count l end.inside end.beyond));
-          values_are = w.values-so.whole end.last ∙ ap (λ (zs : List ℤ). over zs values) (sym (kept_stop keep h.value h.count l end.inside end.beyond));
+          rows_are = w.rows_so.whole end.last ∙ ap (λ (zs : List ℕ). over zs rows) (sym (kept_stop keep (λ k. elem places (h.row k)) h.count l end.inside end.beyond));
+          cols_are = w.cols_so.whole end.last ∙ ap (λ (zs : List ℕ). over zs cols) (sym (kept_stop keep (λ k. elem places (h.column k)) h.count l end.inside end.beyond));
+          values_are = w.values_so.whole end.last ∙ ap (λ (zs : List ℤ). over zs values) (sym (kept_stop keep h.value h.count l end.inside end.beyond));
           many = w.many ∙ ap length (sym (kept_stop keep h.value h.count l end.inside end.beyond));
         }
 

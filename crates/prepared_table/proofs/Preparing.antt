@@ -8,7 +8,7 @@ use mathlib.Core.List.{List}
 use Prim.Native.Nat.{ℕ, ◌+◌, ◌*◌, ◌≤◌, ◌<◌}
 use native.Mathlib.Omega.{arith}
 use lib.Ieee.{Float}
-use lib.ListN.{length, get_or, take, replicate, length_set, length-replicate}
+use lib.ListN.{length, get_or, take, replicate, length-set, length-replicate}
 use lib.Seq.{take_at}
 use Rattle.laws.specs.Lists.{over, put_if}
 use Rattle.laws.proofs.UpTo.{up_to_keeps}
@@ -82,7 +82,7 @@ module _ (t : Table) where
         (λ e d h. put (on_diagonal t e) (t.row e) (eighth_of (t.value e)) d ∙ h) (length-replicate m zero64)
       where
         put : (b : Bool) (n : ℕ) (a : Float) (xs : List Float) → length (put_if b n a xs) ≡ length xs
-        put true n a xs = simp length_set
+        put true n a xs = simp length-set
         put false n a xs = refl
 
 -- a list written over the front of a slice, cut from it

@@ -52,20 +52,20 @@ module _ (t : RangedTable) (ok : ranged_number t ≡ 0) where
         record {
           from_low = λ i j h k. from i j h k (stored_at (quadratic (low_of t)) i j) refl;
           to_high = λ i j h k. to i j h k (stored_at (quadratic (low_of t)) i j) refl;
-          from_low_c = w.cost-from;
-          to_high_c = w.cost-to;
+          from_low_c = w.cost_from;
+          to_high_c = w.cost_to;
         }
       where
         from : (i j : ℕ) → i < t.n → j < t.n → (s : Bool) → stored_at (quadratic (low_of t)) i j ≡ s → value_at (quadratic (low_of t)) i j ≤ℤ H i j
         from i j h k true e =
             let (l, m, p, q) = stored_true (quadratic (low_of t)) i j e in
-            subst₂ (λ (x y : ℕ). value_at (quadratic (low_of t)) x y ≤ℤ H x y) p q (rw (low_here l m) (w.entry-from l m))
+            subst₂ (λ (x y : ℕ). value_at (quadratic (low_of t)) x y ≤ℤ H x y) p q (rw (low_here l m) (w.entry_from l m))
         from i j h k false e = rw (value_none (quadratic (low_of t)) i j (stored_false (quadratic (low_of t)) i j e), w.elsewhere i j h k e) (le_same (pos 0))
 
         to : (i j : ℕ) → i < t.n → j < t.n → (s : Bool) → stored_at (quadratic (low_of t)) i j ≡ s → H i j ≤ℤ value_at (quadratic (high_of t)) i j
         to i j h k true e =
             let (l, m, p, q) = stored_true (quadratic (low_of t)) i j e in
-            subst₂ (λ (x y : ℕ). H x y ≤ℤ value_at (quadratic (high_of t)) x y) p q (rw (high_here l m) (w.entry-to l m))
+            subst₂ (λ (x y : ℕ). H x y ≤ℤ value_at (quadratic (high_of t)) x y) p q (rw (high_here l m) (w.entry_to l m))
         to i j h k false e = rw (value_none (quadratic (high_of t)) i j (stored_false (quadratic (low_of t)) i j e), w.elsewhere i j h k e) (le_same (pos 0))
 
     pub within_each : Within t H c → WithinEach t H c
@@ -75,8 +75,8 @@ module _ (t : RangedTable) (ok : ranged_number t ≡ 0) where
           entry_to = λ k h. subst (λ (z : ℤ). H (elem t.rows k) (elem t.cols k) ≤ℤ z) (high_here k h) (w.to_high _ _ (rows_in k h) (cols_in k h));
           elsewhere = λ i j h k e. between_zeros i j (value_none (quadratic (low_of t)) i j (stored_false (quadratic (low_of t)) i j e))
               (value_none (quadratic (high_of t)) i j (stored_false (quadratic (low_of t)) i j e)) (w.from_low i j h k) (w.to_high i j h k);
-          cost_from = w.from-low-c;
-          cost_to = w.to-high-c;
+          cost_from = w.from_low_c;
+          cost_to = w.to_high_c;
         }
       where
         rows_in : (k : ℕ) → k < t.count → elem t.rows k < t.n

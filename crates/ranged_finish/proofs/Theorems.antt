@@ -39,10 +39,10 @@ use Rattle.ranged_finish.proofs.Deciding.{ranged_ok}
 module _ (t : RangedTable) where
   -- the low table is the cheapest within the ranges, the high one the dearest
   low_least : (H : ℕ → ℕ → ℤ) (c : ℕ → ℤ) → Within t H c → (b : List ℕ) → cost_eighths t.n (value_at (quadratic (low_of t))) (linear (low_of t)) (choice_at b) ≤ℤ cost_eighths t.n H c (choice_at b)
-  low_least H c w b = cost_mono t.n (value_at (quadratic (low_of t))) H (linear (low_of t)) c b w.from_low w.from-low-c
+  low_least H c w b = cost_mono t.n (value_at (quadratic (low_of t))) H (linear (low_of t)) c b w.from_low w.from_low_c
 
   high_most : (H : ℕ → ℕ → ℤ) (c : ℕ → ℤ) → Within t H c → (b : List ℕ) → cost_eighths t.n H c (choice_at b) ≤ℤ cost_eighths t.n (value_at (quadratic (high_of t))) (linear (high_of t)) (choice_at b)
-  high_most H c w b = cost_mono t.n H (value_at (quadratic (high_of t))) c (linear (high_of t)) b w.to_high w.to-high-c
+  high_most H c w b = cost_mono t.n H (value_at (quadratic (high_of t))) c (linear (high_of t)) b w.to_high w.to_high_c
 
   through : {a b c : ℤ} → a ≤ℤ b → b ≤ℤ c → a ≤ℤ c
   through {a} {b} {c} h k = omega (integers, h, k)

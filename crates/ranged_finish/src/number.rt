@@ -10,7 +10,7 @@ use limits::{MOST_ENTRIES, MOST_WAGONS};
 use run_record::Run;
 use run_record::lengths::FinishSlices;
 use run_record::numbers::finish_number;
-use tables::check::{short_table, too_short_lem};
+use tables::check::{short_table, too_short};
 
 // 31 of the slices of a ranged table.
 fn ranged_short(
@@ -28,13 +28,13 @@ fn ranged_short(
     if short_table(MOST_ENTRIES, count, rows, cols, low) {
         return true;
     }
-    if too_short_lem(MOST_ENTRIES < count, count, high.len()) {
+    if too_short(MOST_ENTRIES < count, count, high.len()) {
         return true;
     }
-    if too_short_lem(MOST_WAGONS < n, n, low_c.len()) {
+    if too_short(MOST_WAGONS < n, n, low_c.len()) {
         return true;
     }
-    too_short_lem(MOST_WAGONS < n, n, high_c.len())
+    too_short(MOST_WAGONS < n, n, high_c.len())
 }
 
 // The number that a ranged finish answers, or 0.

@@ -40,21 +40,21 @@ module _ {most size : ℕ} {map fixed : List ℕ} {values solution lifted : ℕ}
   pub lent_lift : size ≤ most → LiftLent most size map fixed values solution lifted → lift_short most size map fixed values solution lifted ≡ false
   unfolding lift_short short
   lent_lift h l =
-      any_not _ _ (le-ltb _ _ l.values-there)
-      (any_not _ _ (le-ltb _ _ l.solution-there) (any_not _ _ (rw (le-ltb most size h) (le-ltb _ _ (l.lifted-there h))) any_none))
+      any_not _ _ (le-ltb _ _ l.values_there)
+      (any_not _ _ (le-ltb _ _ l.solution_there) (any_not _ _ (rw (le-ltb most size h) (le-ltb _ _ (l.lifted_there h))) any_none))
 
 -- ---- the writing
 
 module _ {most size : ℕ} {map fixed : List ℕ} {values solution lifted : ℕ} (l : LiftLent most size map fixed values solution lifted) (m : Mapped most size map fixed) where
   pub lift_size : size ≤ lifted
-  lift_size = l.lifted-there m.small
+  lift_size = l.lifted_there m.small
 
   -- what is asked of a slice as long as the one lent
   pub lift_fixed : (xs : List Float) → length xs ≡ lifted → Within (length xs) fixed × (length fixed ≤ values)
-  lift_fixed xs same = (record { below = λ k h. omega (arith, m.fixed_within.below k h, lift_size) }, l.values-there)
+  lift_fixed xs same = (record { below = λ k h. omega (arith, m.fixed_within.below k h, lift_size) }, l.values_there)
 
   pub lift_map : (xs : List Float) → length xs ≡ lifted → Within (length xs) map × (length map ≤ solution)
-  lift_map xs same = (record { below = λ k h. omega (arith, m.map_within.below k h, lift_size) }, l.solution-there)
+  lift_map xs same = (record { below = λ k h. omega (arith, m.map_within.below k h, lift_size) }, l.solution_there)
 
 pub lifted_is : (size : ℕ) (map fixed : List ℕ) (values solution lifted : List Float) {cleared fixed' lifted' : List Float} → cleared ≡ fill (λ _. zero64) size lifted
     → fixed' ≡ put_each (elem fixed) (at values) (length fixed) cleared → lifted' ≡ put_each (elem map) (at solution) (length map) fixed'

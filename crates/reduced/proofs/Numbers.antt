@@ -128,7 +128,7 @@ module _ {most_size most_sign_entries size count : ℕ} {from : Slices} {map fix
 -- what the input's check asks of the slices, and the writing of them, the table and the map
 pub count_lent : {most_sign_entries count : ℕ} (s : Slices) {b : Bool} → b ≡ slices_short most_sign_entries count s → b ≡ false
     → count ≤ most_sign_entries → (count ≤ length s.rows) × (count ≤ length s.cols)
-count_lent s e f h = let l = slices_lent {s = s} (sym e ∙ f) h in (l.rows-there, l.cols-there)
+count_lent s e f h = let l = slices_lent {s = s} (sym e ∙ f) h in (l.rows_there, l.cols_there)
 
 pub judged_asks : {size count : ℕ} {from : Slices} {map fixed : List ℕ} {to : Slices} {r : ℕ} → Judged size count from map fixed to r → r ≡ 0
     → Lent count from.rows from.cols from.values × Reducible most_size most_sign_entries (table_in count from) map × Room 0 count to.rows to.cols to.values
@@ -137,7 +137,7 @@ judged_asks {from = from} {to = to} j z =
     let l = slices_lent {s = to} j.to_long i.few in (
       slices_lent {s = from} j.from_long i.few,
       input_reducible i,
-      record { rows_room = omega (arith, l.rows-there); cols_room = omega (arith, l.cols-there); values_room = omega (arith, l.values-there) },
+      record { rows_room = omega (arith, l.rows_there); cols_room = omega (arith, l.cols_there); values_room = omega (arith, l.values_there) },
     )
 
 -- ---- the theorem: nothing is refused exactly where the slices are long enough and the input is as it should be

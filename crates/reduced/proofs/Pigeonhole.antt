@@ -5,7 +5,7 @@ use mathlib.Core.List.{List, [], ◌∷◌}
 use Prim.Native.Nat.{ℕ, zero, suc, ◌<◌, ◌≤◌}
 use native.Mathlib.Omega.{arith}
 use native.Mathlib.Decide.{ℕ_discrete}
-use lib.ListN.{length, set, replicate, length_set, length-replicate}
+use lib.ListN.{length, set, replicate, length-set, length-replicate}
 use lib.Seq.{get_or-set_other}
 use Rattle.laws.specs.Lists.{elem}
 
@@ -62,7 +62,7 @@ module _ (At : ℕ → ℕ → Type 0) (m n : ℕ) (place : (i : ℕ) → i < m 
           let free : elem l y ≡ 0 = go (ℕ_discrete (elem l y) 0) in (
             set l y 1,
             record {
-              sized = length_set l y 1 ∙ w.sized;
+              sized = length-set l y 1 ∙ w.sized;
               many = marks_set l y (rw w.sized b) free ∙ ap suc w.many;
               by = λ x other. pick x other (ℕ_discrete x y);
             },

@@ -6,7 +6,7 @@ use Prim.Native.Nat.{ℕ, zero, suc, ◌+◌, ◌<◌, ◌≤◌}
 use native.Mathlib.Omega.{arith}
 use native.Mathlib.Numerals.{add-one}
 use native.Mathlib.Decide.{ℕ_discrete}
-use lib.ListN.{length, get_or, set, take, drop, length_set}
+use lib.ListN.{length, get_or, set, take, drop, length-set}
 use lib.Seq.{get_or-set_same, get_or-set_other, set-append_left}
 use Rattle.laws.specs.Turns.{up_to}
 use Rattle.laws.specs.Rows.{map_first}
@@ -21,7 +21,7 @@ module _ {A : Type 0} (index : ℕ → ℕ) (value : ℕ → A) where
   pub length_put : (n : ℕ) (l : List A) → length (put_each index value n l) ≡ length l
   unfolding up_to
   length_put zero l = refl
-  length_put (suc n) l = length_set (put_each index value n l) (index n) (value n) ∙ length_put n l
+  length_put (suc n) l = length-set (put_each index value n l) (index n) (value n) ∙ length_put n l
 
   later : (n k : ℕ) (d x : A) → (index n ≡ k → ⊥) → Last index value n k d x → Last index value (suc n) k d x
   later n k d x other (found j h e rest) = found j (omega arith) e (λ i a b s. go i a b s (ℕ_discrete i n))

@@ -5,7 +5,7 @@ use mathlib.Core.Path.{◌≡◌, refl, sym, ap, ◌∙◌, subst}
 use mathlib.Core.Bool.{Bool, true, false}
 use mathlib.Core.List.{List}
 use Prim.Native.Nat.{ℕ, zero, suc, zero-le, ◌+◌, ◌-◌, ◌*◌, ◌/◌, ◌^◌, ◌≤◌, ◌<◌}
-use native.Mathlib.Nat.{add_assoc, le_refl, le_trans, le_of_eq, add_mul, mul_assoc, mul-le-mul_right, mul-le-mul_left, le_of_mul-le-mul_right, le_of_mul-le-mul_left, add-zero, add-suc, add-le-add}
+use native.Mathlib.Nat.{add_assoc, le_refl, le_trans, le_of_eq, add-mul, mul_assoc, mul-le-mul_right, mul-le-mul_left, le_of_mul-le-mul_right, le_of_mul-le-mul_left, add-zero, add-suc, add-le-add}
 use native.Mathlib.Omega.{arith}
 use lib.Dec.{lit≤, lit<}
 use lib.Pow.{pow_pos}
@@ -63,7 +63,7 @@ module _ (Q : ℕ) (fine : Q ≤ 2 ^ 1200 * 2 ^ 1074) where
           let e = 2 * (c + d) + 1 in
           weaker (2 * (c + d + 1) + 1) (3 * (c + d + 1) * T) (omega arith) (omega arith)
           (rounded_sum {e = e} T (omega (arith, h)) (omega (arith, mul-le-mul_right T h))
-          (subst (λ (x : ℕ). Under 1 T (r * U) x) (add_mul p q U) (times U w))
+          (subst (λ (x : ℕ). Under 1 T (r * U) x) (add-mul p q U) (times U w))
           (weaker e (3 * c * T) (omega arith) (le_refl (3 * c * T)) u) (weaker e (3 * d * T) (omega arith) (le_refl (3 * d * T)) v))
 
       downs : (U r p q S P c d : ℕ) → c + d ≤ 2 ^ 10 → Under 1 (2 ^ 50) (p + q) r → Under (2 * c + 1) (3 * c * (2 ^ 50 * U)) S (p * U) → Under (2 * d + 1) (3 * d * (2 ^ 50 * U)) P (q * U)
@@ -73,7 +73,7 @@ module _ (Q : ℕ) (fine : Q ≤ 2 ^ 1200 * 2 ^ 1074) where
           let e = 2 * (c + d) + 1 in
           weaker (2 * (c + d + 1) + 1) (3 * (c + d + 1) * T) (omega arith) (omega arith)
           (sum_rounded {e = e} T (omega (arith, h))
-          (subst (λ (x : ℕ). Under 1 T x (r * U)) (add_mul p q U) (times U w))
+          (subst (λ (x : ℕ). Under 1 T x (r * U)) (add-mul p q U) (times U w))
           (weaker e (3 * c * T) (omega arith) (le_refl (3 * c * T)) u) (weaker e (3 * d * T) (omega arith) (le_refl (3 * d * T)) v))
 
   like : (s : Bool) → unlike s s ≡ false

@@ -5,7 +5,7 @@ use mathlib.Core.Path.{◌≡◌, refl, sym, ap, ◌∙◌, subst}
 use mathlib.Core.Bool.{Bool, true, false}
 use mathlib.Core.List.{List}
 use Prim.Native.Nat.{ℕ, ◌+◌, ◌*◌, ◌^◌, ◌≤◌, ◌<◌}
-use native.Mathlib.Nat.{le_refl, le_trans, le_of_eq, mul_add, le_of_mul-le-mul_left}
+use native.Mathlib.Nat.{le_refl, le_trans, le_of_eq, mul-add, le_of_mul-le-mul_left}
 use native.Mathlib.Omega.{arith}
 use lib.Dec.{T, lit≤, lit<}
 use lib.Ieee.{Float, nan, binary64, fits}
@@ -40,7 +40,7 @@ most_of : (z : ℕ) → Unit (2 ^ 1074) z → z ≤ one + allowed
 most_of z u = le_of_mul-le-mul_left {k = 2 ^ 40} (le_trans u.most (lit≤ tt)) (lit< tt)
 
 least_of : (z : ℕ) → Unit (2 ^ 1074) z → one ≤ z + allowed
-least_of z u = le_of_mul-le-mul_left {k = 2 ^ 40} (le_trans u.least (le_of_eq (sym (mul_add (2 ^ 40) z allowed)))) (lit< tt)
+least_of z u = le_of_mul-le-mul_left {k = 2 ^ 40} (le_trans u.least (le_of_eq (sym (mul-add (2 ^ 40) z allowed)))) (lit< tt)
 
 done_length : (row : List Float) → Done row → UnitLength row
 done_length row d = record {

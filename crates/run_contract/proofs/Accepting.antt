@@ -4,7 +4,7 @@ use mathlib.Core.Path.{◌≡◌, sym, ap}
 use mathlib.Core.Bool.{false, not, ◌&&◌, ◌||◌}
 use native.Mathlib.Numerals.{add-one}
 use native.Mathlib.Omega.{arith}
-use borrow.Author.Tests.{ltb-false, le-ltb, eqb-true, eqb-false, not_false}
+use borrow.Author.Tests.{ltb-false, le-ltb, eqb-true, eqb-false, not-false}
 use lib.Dec.{ltb, eqb}
 use lib.Ieee.{Float}
 use lib.ListN.{length}
@@ -70,7 +70,7 @@ agrees run n e =
     }
 
 size_of : {run : Run} {n : ℕ} → Agrees run n → run.size ≡ n + 1
-size_of a = eqb-true _ _ (not_false _ a.size_test)
+size_of a = eqb-true _ _ (not-false _ a.size_test)
 
 factor_long : (run : Run) (t : CostTable) (lent : ℕ) → HallOf t → Agrees run t.n → factor_short t.n run.size run.rank lent ≡ false → used run ≤ lent
 unfolding factor_short factor_refused

@@ -7,7 +7,7 @@ use native.Mathlib.Omega.{arith}
 use lib.Ieee
 use lib.Ieee.{Float}
 use lib.IntN.{ℤ}
-use lib.ListN.{length, take, drop, set, length-append, length-drop, length_set, length-replicate, take-append-drop}
+use lib.ListN.{length, take, drop, set, length-append, length-drop, length-set, length-replicate, take-append-drop}
 use lib.Seq.{length-take-le}
 use Rattle.laws.specs.Rows.{row_of, set_row}
 use Rattle.laws.proofs.UpTo.{up_to_keeps}
@@ -105,7 +105,7 @@ length_stepped (CoordMomentum beta) rows cols values starts m rank factor = leng
 length_with_signs : (rank m : ℕ) (signs factor : List Float) → length (with_signs rank m signs factor) ≡ length factor
 unfolding with_signs
 length_with_signs rank m signs factor =
-    up_to_keeps (λ (f : List Float). length f ≡ length factor) (λ i f. set f (i * rank) (sign_by (Ieee.le zero64 (at signs i)))) m factor (λ i f h. length_set f _ _ ∙ h) refl
+    up_to_keeps (λ (f : List Float). length f ≡ length factor) (λ i f. set f (i * rank) (sign_by (Ieee.le zero64 (at signs i)))) m factor (λ i f h. length-set f _ _ ∙ h) refl
 
 length_multiplied : (by : Float) (xs : List Float) → length (multiplied by xs) ≡ length xs
 unfolding multiplied

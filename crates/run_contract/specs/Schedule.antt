@@ -56,7 +56,7 @@ pub record Look : Type 0 where
 -- its three tests, in its order:
 -- `iterations >= options.min_stationarity_iterations && residual <= stationarity_threshold`
 abbrev pub is_stationary : Look → Bool
-is_stationary l = leb l.min-iterations l.iterations && le l.residual l.threshold
+is_stationary l = leb l.min_iterations l.iterations && le l.residual l.threshold
 
 -- `coordinate_momentum.is_none() && (new_obj_val - previous_obj_val).abs() < options.objective_tolerance`
 abbrev pub is_steady : Look → Bool

@@ -7,7 +7,7 @@ ghost use Rattle.run_record.specs.Numbers.{table_short, factor_short, sweep_shor
 use super::Run;
 use limits::{MOST_DRAWS, MOST_RANK, SEARCH_WORKSPACE};
 use run_limits::{rank_meant, start_length};
-use tables::check::{short_table, too_short_lem};
+use tables::check::{short_table, too_short};
 
 // 31 of the slices of (H, c).
 fn table_short(
@@ -23,7 +23,7 @@ fn table_short(
     if short_table(limits::MOST_ENTRIES, count, rows, cols, values) {
         return true;
     }
-    too_short_lem(limits::MOST_WAGONS < n, n, c.len())
+    too_short(limits::MOST_WAGONS < n, n, c.len())
 }
 
 // 31 of the factor.

@@ -6,7 +6,7 @@ use mathlib.Core.List.{List}
 use mathlib.Core.Path.{◌≡◌, sym, ap, ◌∙◌}
 use lib.IntN.{ℤ, pos, ◌+ℤ◌}
 use lib.Signed.{◌≤ℤ◌}
-use lib.ListN.{length, get_or, take, drop, length_set}
+use lib.ListN.{length, get_or, take, drop, length-set}
 use lib.Seq.{take_at, get_or-set_same, get_or-set_other}
 use Rattle.laws.specs.Lists.{elem}
 use Rattle.laws.proofs.Made.{length_tabulate, get_d_tabulate}
@@ -41,7 +41,7 @@ flipped_bits x i h b = record { bit = λ j l. go j l (ℕ_discrete j i) }
   where
     go : (j : ℕ) → j < length (flip_sign i x) → Dec (j ≡ i) → get_or (flip_sign i x) j 0 < 2
     go j l (yes e) = rw (e, get_or-set_same x i (flip_byte (get_or x i 0)) 0 h) (flip_bit (get_or x i 0))
-    go j l (no d) = rw (get_or-set_other x i j (flip_byte (get_or x i 0)) 0 d) (b.bit j (rw (length_set x i (flip_byte (get_or x i 0))) at l))
+    go j l (no d) = rw (get_or-set_other x i j (flip_byte (get_or x i 0)) 0 d) (b.bit j (rw (length-set x i (flip_byte (get_or x i 0))) at l))
 
 start_bits : (m : ℕ) (start : List ℕ) → Bits (sign_bytes m start)
 unfolding sign_bytes

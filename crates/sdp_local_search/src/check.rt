@@ -4,7 +4,7 @@ ghost use Rattle.tables.specs.Table.{table_of};
 ghost use Rattle.sdp_local_search.specs.BeamSearch.{base_limits, search_short, search_refusal};
 
 use limits::{MOST_SIGN_ENTRIES, MOST_SIGN_MAGNITUDE, MOST_SIGNS, MOST_WIDTH, SEARCH_WORKSPACE};
-use tables::check::{short_table, table_number, too_short_lem};
+use tables::check::{short_table, table_number, too_short};
 
 // 31: a slice is too short; the lengths are those of the slices behind the table's.
 fn search_short(
@@ -22,13 +22,13 @@ fn search_short(
     if short_table(MOST_SIGN_ENTRIES, count, rows, cols, values) {
         return true;
     }
-    if too_short_lem(MOST_SIGNS < m, m, start) {
+    if too_short(MOST_SIGNS < m, m, start) {
         return true;
     }
-    if too_short_lem(MOST_SIGNS < m, m, out) {
+    if too_short(MOST_SIGNS < m, m, out) {
         return true;
     }
-    too_short_lem(false, SEARCH_WORKSPACE, workspace)
+    too_short(false, SEARCH_WORKSPACE, workspace)
 }
 
 // The first number that applies; the lengths are those of the other slices.

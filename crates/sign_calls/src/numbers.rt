@@ -3,7 +3,7 @@ ghost use Rattle.std.specs.Prelude.{◌≡◌};
 ghost use Rattle.sign_calls.specs.Numbers.{distance_short, distance_number, pack_short, pack_number};
 
 use sign_words::size::sign_words;
-use tables::check::{bad_signs, too_short_lem};
+use tables::check::{bad_signs, too_short};
 
 // 31 of `distance`.
 fn distance_short(m: usize, x: &[u64], y: &[u64]) -> bool
@@ -11,10 +11,10 @@ fn distance_short(m: usize, x: &[u64], y: &[u64]) -> bool
 {
     let bad = bad_signs(m);
     let needed = sign_words(m);
-    if too_short_lem(bad, needed, x.len()) {
+    if too_short(bad, needed, x.len()) {
         return true;
     }
-    too_short_lem(bad, needed, y.len())
+    too_short(bad, needed, y.len())
 }
 
 // The number of `distance`.
@@ -35,10 +35,10 @@ fn pack_short(m: usize, signs: &[u8], words: &[u64]) -> bool
     ensures { result ≡ pack_short m signs.now words.now }
 {
     let bad = bad_signs(m);
-    if too_short_lem(bad, m, signs.len()) {
+    if too_short(bad, m, signs.len()) {
         return true;
     }
-    too_short_lem(bad, sign_words(m), words.len())
+    too_short(bad, sign_words(m), words.len())
 }
 
 // The number of `pack_signs`.

@@ -10,7 +10,7 @@ use mathlib.Core.Bool.{Bool, true, false, cond}
 use mathlib.Core.List.{List, [], ◌∷◌}
 use mathlib.Core.Path.{◌≡◌, refl, sym, ap, ap₂, ◌∙◌}
 use lib.IntN.{ℤ, pos, negsuc, neg_ℤ, nat_abs, ◌+ℤ◌, ◌*ℤ◌, +ℤ_idr, +ℤ_assoc}
-use lib.ListN.{length, get_or, set, drop, length_set}
+use lib.ListN.{length, get_or, set, drop, length-set}
 use lib.Seq.{get_or-set_same, get_or-set_other, drop-set-lt}
 use mir.Syntax.{w64}
 use mir.Val.{SFits}
@@ -162,7 +162,7 @@ module _ (t : Table) (x : List ℕ) where
         go (no d) n a =
             rw (n, a, ne_eqb i row d)
             (record {
-              many = simp length_set p.many;
+              many = simp length-set p.many;
               row_in = h;
               small = omega arith;
               sums = λ j l. ap₂ ◌+ℤ◌ (laid_sums j l) (only_zero i j) ∙ +ℤ_idr _;
@@ -197,7 +197,7 @@ module _ (t : Table) (x : List ℕ) where
     pub summed_all : k ≡ t.count → (z : ℤ) → z ≡ get_or changes row (pos 0) +ℤ held → Changes t x (set changes row z)
     unfolding change_in
     summed_all e z q = record {
-      many = simp length_set p.many;
+      many = simp length-set p.many;
       are = λ i l. rw q (laid_sums i l ∙ ap (λ (n : ℕ). sum n (term i)) e ∙ flip_entries ok.in_range (sign_at x) i l (sign_vector x));
     }
 

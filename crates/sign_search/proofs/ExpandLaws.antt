@@ -5,7 +5,7 @@ use native.Mathlib.Nat.{suc-mul, le_trans, mul-le-mul_right}
 use native.Mathlib.Omega.{arith}
 use borrow.Author.Tests.{eq-eqb, ne_eqb}
 use mathlib.Core.Bool.{Bool, true, false, cond}
-use mathlib.Core.List.{List, [], ◌∷◌, ◌++◌, map, map_append}
+use mathlib.Core.List.{List, [], ◌∷◌, ◌++◌, map, map-append}
 use mathlib.Core.Path.{◌≡◌, refl, sym, ap, ap₂, ◌∙◌, subst}
 use lib.Dec.{eqb}
 use lib.IntN.{ℤ, pos, ◌+ℤ◌}
@@ -41,7 +41,7 @@ map_improving : {X Y : Type 0} (f : X → Y) (exists : X → ℕ → Bool) (flip
 unfolding improving
 map_improving f exists flip exists' flip' x y zero h = refl
 map_improving {X} {Y} f exists flip exists' flip' x y (suc n) h =
-    map_append f (improving exists flip n x) (cond (exists x n) (flip n x ∷ []) [])
+    map-append f (improving exists flip n x) (cond (exists x n) (flip n x ∷ []) [])
     ∙ ap₂ ◌++◌ (map_improving f exists flip exists' flip' x y n (λ i q. h i (omega arith)))
     (cond_map f (exists x n) (flip n x) ∙ ap₂ (λ (b : Bool) (z : Y). cond b (z ∷ []) []) (h n (omega arith)).0 (h n (omega arith)).1)
 

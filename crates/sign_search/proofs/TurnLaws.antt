@@ -10,7 +10,7 @@ use mathlib.Core.Bool.{Bool, true, false, cond, not}
 use mathlib.Core.List.{List}
 use mathlib.Core.Path.{◌≡◌, refl, sym, ap, ap₂, ◌∙◌}
 use lib.IntN.{ℤ, pos, negsuc, neg_ℤ, nat_abs, ◌+ℤ◌, ◌-ℤ◌, ◌*ℤ◌, *ℤ-zero, +ℤ_idr, +ℤ_assoc}
-use lib.ListN.{length, get_or, set, length_set}
+use lib.ListN.{length, get_or, set, length-set}
 use lib.Seq.{get_or-set_same, get_or-set_other}
 use mir.Syntax.{w64}
 use mir.Val.{SFits}
@@ -168,7 +168,7 @@ module _ (t : Table) (x : List ℕ) (i : ℕ) where
         ap₂ ◌+ℤ◌ (u.sums column within) (sym (term_column k e)) ∙ +ℤ_assoc (get_or before column (pos 0)) (sum k (turn_term t x i column)) (turn_term t x i column k)
 
     pub turned_more : (z : ℤ) → column < length after → z ≡ get_or after column (pos 0) +ℤ turn_weight x i column *ℤ t.value k → Turned t x i (k + 1) before (set after column z)
-    turned_more z room is = record { many = simp length_set u.many; sums = λ j h. go j h (ℕ_discrete j column) }
+    turned_more z room is = record { many = simp length-set u.many; sums = λ j h. go j h (ℕ_discrete j column) }
       where
         go : (j : ℕ) → j < length x → Dec (j ≡ column) → get_or (set after column z) j (pos 0) ≡ get_or before j (pos 0) +ℤ sum (k + 1) (turn_term t x i j)
         go j h (yes d) = rw (d, add-one k) (get_or-set_same after column z (pos 0) room ∙ is ∙ more)
@@ -204,7 +204,7 @@ weighed_all t x i j = sum_scale t.count (turn_weight x i j) (λ k. only (t.row k
 pub changes_flipped : (t : Table) (x : List ℕ) (i : ℕ) (before after : List ℤ) (z : ℤ) → Mirrors (length x) t → i < length x → Changes t x before → Turned t x i t.count before after
     → z ≡ neg_ℤ (get_or before i (pos 0)) → Changes t (flip_sign i x) (set after i z)
 changes_flipped t x i before after z ok h p u is = record {
-  many = rw (length_set after i z, flipped_length i x, u.many) p.many;
+  many = rw (length-set after i z, flipped_length i x, u.many) p.many;
   are = λ j l. go j (rw (flipped_length i x) at l) (ℕ_discrete j i);
 }
   where

@@ -8,7 +8,7 @@ ghost use Rattle.tables.specs.Table.{table_of, Lent, sign, sign_at};
 ghost use Rattle.tables.specs.Flip.{flip_share, flip_term};
 ghost use Rattle.sign_search.specs.Clauses.{SumsFit, Cleared, RowTurned, changes_over};
 
-use local_search::rows::sign_at_lem;
+use local_search::rows::sign_at;
 use tables::check::wide;
 
 // Sets the first m changes to 0; those behind them stay.
@@ -60,8 +60,8 @@ fn change_term(
         i,
         j,
         values[k],
-        sign_at_lem(signs, wide(i)),
-        sign_at_lem(signs, wide(j)),
+        sign_at(signs, wide(i)),
+        sign_at(signs, wide(j)),
     )
 }
 

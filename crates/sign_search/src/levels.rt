@@ -118,7 +118,7 @@ pub fn expand_level(
         × (length current_row.old ≡ words) × AtHand (table_of entries rows.now cols.now values.now) current.old current_row.old changes.old
         × Lent entries rows.now cols.now values.now × BoundsFit flips origin.now words (length current.old)
         × TidyLevel words (length current.old) from_count from_objectives.now from_signs.now }
-    ensures next_level_lem { NextLevel (table_of entries rows.now cols.now values.now) (bounds flips most (unpacked (length current.old) origin.now)) (length current.old) width
+    ensures next_level { NextLevel (table_of entries rows.now cols.now values.now) (bounds flips most (unpacked (length current.old) origin.now)) (length current.old) width
         (sign_level words (length current.old) from_count from_objectives.now from_signs.now)
         (sign_level words (length current.old) result objectives.new signs.new) result }
     ensures at_hand { AtHand (table_of entries rows.now cols.now values.now) current.new current_row.new changes.new }
@@ -179,7 +179,7 @@ pub fn advance(
         × (length current_row.old ≡ words) × AtHand (table_of entries rows.now cols.now values.now) current.old current_row.old changes.old
         × Lent entries rows.now cols.now values.now × BoundsFit flips origin.now words (length current.old)
         × TidyLevel words (length current.old) count objectives.old signs.old }
-    ensures next_level_lem { NextLevel (table_of entries rows.now cols.now values.now) (bounds flips most (unpacked (length current.old) origin.now)) (length current.old) width
+    ensures next_level { NextLevel (table_of entries rows.now cols.now values.now) (bounds flips most (unpacked (length current.old) origin.now)) (length current.old) width
         (sign_level words (length current.old) count objectives.old signs.old)
         (sign_level words (length current.old) result objectives.new signs.new) result }
     ensures at_hand { AtHand (table_of entries rows.now cols.now values.now) current.new current_row.new changes.new }

@@ -8,7 +8,7 @@ ghost use Rattle.sign_words.specs.Packed.{unpacked, flip_in};
 ghost use Rattle.sign_search.specs.Clauses.{Sound, Changes, AtHand, MoveFits, Climbs, RowStart, Turned, Turns};
 
 use crate::changes::signed;
-use local_search::rows::{flip_sign, sign_at_lem};
+use local_search::rows::{flip_sign, sign_at};
 use sign_words::distance::sign_apart;
 use sign_words::words::flip_in;
 use tables::check::wide;
@@ -57,7 +57,7 @@ fn turn_entries(
     let mut k = from;
     while k < to {
         let j = wide(cols[k]);
-        changes[j] += turned_value(values[k], sign_at_lem(current, i), sign_at_lem(current, j));
+        changes[j] += turned_value(values[k], sign_at(current, i), sign_at(current, j));
         k += 1;
     }
 }

@@ -120,7 +120,7 @@ fn search_packed(
     let mut changes: [i64; MOST_SIGNS] = [0; MOST_SIGNS];
     let mut objectives: [i64; MOST_SIGNS] = [0; MOST_SIGNS];
     let mut next_objectives: [i64; MOST_SIGNS] = [0; MOST_SIGNS];
-    let mut next_level_lem: [u64; SEARCH_WORKSPACE] = [0; SEARCH_WORKSPACE];
+    let mut next_level: [u64; SEARCH_WORKSPACE] = [0; SEARCH_WORKSPACE];
     let mut origin: [u64; MOST_WORDS] = [0; MOST_WORDS];
     let words = kept.len();
     copy(&mut origin[0..words], kept);
@@ -138,7 +138,7 @@ fn search_packed(
         &mut objectives,
         level,
         &mut next_objectives,
-        &mut next_level_lem,
+        &mut next_level,
         &origin[0..words],
         flips,
         most,

@@ -9,7 +9,7 @@ use native.Mathlib.Omega.{arith}
 use lib.ListN.{length}
 use lib.Dec.{eqb, ltb}
 use lib.IntN.{ℤ, pos, negsuc, neg_ℤ, ◌+ℤ◌, ◌*ℤ◌, +ℤ_idl, +ℤ_idr, +ℤ_assoc, zero-*ℤ}
-use borrow.Author.Tests.{eqb-true, eq-eqb, ne_eqb, not_false}
+use borrow.Author.Tests.{eqb-true, eq-eqb, ne_eqb, not-false}
 use Rattle.laws.specs.Sum.{sum, sum₂}
 use Rattle.tables.specs.Table.{Table, value_at, stored_at, share, objective_term, objective_of, objective_at, sign_at, Symmetric}
 use Rattle.tables.specs.Cost.{cost_eighths, decoded}
@@ -99,7 +99,7 @@ module _ (n : ℕ) (kept : ℕ → ℕ → Bool) (H : ℕ → ℕ → ℤ) (c : 
     where
       go : (s t : Bool) → (s ≡ false → H i j ≡ pos 0) → cond s true (cond t (not (is_zero (c i))) false) ≡ false → H i j +ℤ cond t (pos 2 *ℤ c i) (pos 0) ≡ pos 0
       go true t z e = cc
-      go false true z e = rw (z refl, zero_of (c i) (not_false (is_zero (c i)) e))
+      go false true z e = rw (z refl, zero_of (c i) (not-false (is_zero (c i)) e))
       go false false z e = rw (z refl)
 
   pub sign_zero : (i j : ℕ) → i < suc n → j < suc n → sign_kept n kept H c i j ≡ false → sign_value n (absorbed H c) i j ≡ pos 0
@@ -107,7 +107,7 @@ module _ (n : ℕ) (kept : ℕ → ℕ → Bool) (H : ℕ → ℕ → ℤ) (c : 
   sign_zero i j h k = go (ℕ_discrete i n) (ℕ_discrete j n)
     where
       sums : (l : ℕ) → not (is_zero (sum n (absorbed H c l))) ≡ false → neg_ℤ (sum n (absorbed H c l)) ≡ pos 0
-      sums l e = rw (zero_of (sum n (absorbed H c l)) (not_false _ e))
+      sums l e = rw (zero_of (sum n (absorbed H c l)) (not-false _ e))
 
       go : Dec (i ≡ n) → Dec (j ≡ n) → sign_kept n kept H c i j ≡ false → sign_value n (absorbed H c) i j ≡ pos 0
       go (yes e) (yes d) = rw (e, d, eq-eqb n n refl) (λ t. cc)

@@ -1,12 +1,11 @@
 -- Binary digits of numbers. Assumes nothing.
 use Prim.Native.Nat.{ℕ, zero, suc, ◌+◌, ◌*◌, ◌-◌, ◌/◌, ◌%◌, ◌^◌, ◌≤◌, ◌<◌}
-use native.Mathlib.Nat.{mod-lt, zero-lt-suc, mod-eq_of_lt, pow-suc, mul_comm, add_comm, mul-one, div-add-mod', div-lt_iff_lt-mul, div-eq_of_lt, div-one, one-mul, mul-mod_left, add-zero}
+use native.Mathlib.Nat.{mod-lt, zero-lt-suc, pow-suc, mul_comm, add_comm, div-add-mod', div-lt_iff_lt-mul, div-eq_of_lt, div-one, one-mul, mul-mod_left, add-zero}
 use native.Mathlib.Omega.{arith}
 use mathlib.Core.Path.{◌≡◌, refl, sym, ap, ap₂, ◌∙◌, subst}
 use lib.Arith.{digits_div, digits_mod, lt-one}
-use lib.Bits.{bit_xor, differ, xor_shr, xor_mod, xor_step}
-use lib.Count.{ones, ones_step}
-use lib.Pow.{pow_pos, pow_mono, pow-add, pow-lt, shr-shr, shl-shr, shl_exact}
+use lib.Bits.{bit_xor, differ, xor_shr, xor_mod}
+use lib.Pow.{pow_mono, pow-lt, shr-shr, shl-shr}
 use Rattle.sign_words.specs.Packed.{digit, word}
 
 -- ---- one digit more at the low end
@@ -38,6 +37,7 @@ word_lt f (suc n) h = omega (arith, h 0, word_lt (λ i. f (suc i)) n (λ i. h (s
 
 pub digit_word : (f : ℕ → ℕ) (n i : ℕ) → ((j : ℕ) → f j < 2) → i < n → digit (word f n) i ≡ f i
 unfolding word
+digit_word f zero i h q = elim q [ ]
 digit_word f (suc n) zero h q = low_digit (f 0) (word (λ i. f (suc i)) n) (h 0)
 digit_word f (suc n) (suc i) h q =
     next_digit (word f (suc n)) i

@@ -1,10 +1,10 @@
 -- The number of ones in the exclusive or of two packed choices is the number of places where they differ. Assumes nothing.
-use Prim.Native.Nat.{ℕ, zero, suc, ◌+◌, ◌*◌, ◌-◌, ◌/◌, ◌%◌, ◌^◌, ◌≤◌, ◌<◌}
-use native.Mathlib.Nat.{zero-lt-suc, pow-suc, div-lt_iff_lt-mul, div-one, mul-zero, mul-suc, add_assoc, add_comm, add-zero, add-suc}
+use Prim.Native.Nat.{ℕ, zero, suc, ◌+◌, ◌*◌, ◌/◌, ◌%◌, ◌^◌, ◌≤◌, ◌<◌}
+use native.Mathlib.Nat.{zero-lt-suc, pow-suc, div-lt_iff_lt-mul, div-one, mul-zero, mul-suc, add_assoc, add-zero, add-suc}
 use native.Mathlib.Omega.{arith}
 use mathlib.Core.Bool.{cond}
 use mathlib.Core.List.{List}
-use mathlib.Core.Logic.{◌⊎◌, inl, inr, ⊎_elim}
+use mathlib.Core.Logic.{⊎_elim}
 use mathlib.Core.Path.{◌≡◌, refl, sym, ap, ap₂, ◌∙◌, subst}
 use lib.Arith.{lt-one}
 use lib.Bits.{bit_xor, differ, xor_lt}
@@ -19,7 +19,7 @@ use Rattle.sign_words.specs.Signs.{sign_digit}
 use Rattle.sign_words.specs.Packed.{digit, sign_in, packed}
 use Rattle.sign_words.specs.Distance.{ones_apart, places_apart}
 use Rattle.sign_words.proofs.Digits.{next_digit, digit_xor}
-use Rattle.sign_words.proofs.PackedLaws.{sign_digit_lt, sign_lt, sign_packed, sign_at_lem, packed_words}
+use Rattle.sign_words.proofs.PackedLaws.{sign_lt, sign_packed, sign_at_lem, packed_words}
 
 -- ---- sums from the front, and by blocks
 

@@ -1,20 +1,20 @@
 -- Signs in words and out again, and the flip of one. Assumes nothing.
-use Prim.Native.Nat.{ℕ, zero, suc, ◌+◌, ◌*◌, ◌-◌, ◌/◌, ◌%◌, ◌^◌, ◌≤◌, ◌<◌}
+use Prim.Native.Nat.{ℕ, zero, suc, ◌+◌, ◌*◌, ◌/◌, ◌%◌, ◌^◌, ◌≤◌, ◌<◌}
 use native.Mathlib.Nat.{zero-lt-suc}
 use native.Mathlib.Omega.{arith}
-use mathlib.Core.List.{List, [], ◌∷◌}
+use mathlib.Core.List.{List}
 use mathlib.Core.Logic.{◌⊎◌, inl, inr, ⊎_elim}
 use mathlib.Core.Path.{◌≡◌, refl, sym, ap, ap₂, ◌∙◌, subst}
 use lib.Bits.{bit_xor, differ, xor_lt}
 use lib.Pow.{pow-lt, pow_pos}
 use native.Mathlib.Decide.{dec_le}
-use lib.ListN.{length, get_or, set, length_set, get_or-eq_default}
+use lib.ListN.{length, set, length-set, get_or-eq_default}
 use lib.Seq.{ext_get_or, get_or-set_same, get_or-set_other}
 use Rattle.laws.specs.Lists.{elem, tabulate}
 use Rattle.laws.proofs.Made.{length_tabulate, get_d_tabulate, below_or_not}
 use Rattle.sign_words.specs.Signs.{flip_byte, flip_sign, sign_digit, Binary}
 use Rattle.sign_words.specs.Packed.{digit, sign_in, unpacked, word, digit_at, packed, flip_in, Tidy, Flipped, Packs}
-use Rattle.sign_words.proofs.Digits.{digit_lt, word_lt, digit_word, word_ext, same_digits, digit_one, digit_none, digit_xor, digit_zero}
+use Rattle.sign_words.proofs.Digits.{digit_lt, word_lt, digit_word, same_digits, digit_one, digit_none, digit_xor, digit_zero}
 
 pub sign_digit_lt : (s : ℕ) → sign_digit s < 2
 sign_digit_lt zero = zero-lt-suc 1
@@ -103,7 +103,7 @@ flip_sign_there i x j d = get_or-set_other x i j (flip_byte (elem x i)) 0 d
 
 length_flip_sign : (i : ℕ) (x : List ℕ) → length (flip_sign i x) ≡ length x
 unfolding flip_sign
-length_flip_sign i x = length_set x i (flip_byte (elem x i))
+length_flip_sign i x = length-set x i (flip_byte (elem x i))
 
 digit_flip : (s : ℕ) → sign_digit (flip_byte s) ≡ flip_byte (sign_digit s)
 unfolding flip_byte
@@ -160,7 +160,7 @@ module _ (i : ℕ) (words : List ℕ) (inside : i < 64 * length words) where
 
   pub length_flip_in : length (flip_in i words) ≡ length words
   unfolding flip_in
-  length_flip_in = length_set words (i / 64) (bit_xor (elem words (i / 64)) (2 ^ (i % 64)))
+  length_flip_in = length-set words (i / 64) (bit_xor (elem words (i / 64)) (2 ^ (i % 64)))
 
   -- sign i of any m signs that the words hold is flipped
   pub unpacked_flip : (m : ℕ) → i < m → unpacked m (flip_in i words) ≡ flip_sign i (unpacked m words)
@@ -169,7 +169,7 @@ module _ (i : ℕ) (words : List ℕ) (inside : i < 64 * length words) where
       let x : List ℕ = unpacked m words in
       let y : ℕ = flip_byte (elem x i) in
       ext_get_or 0 (unpacked m (flip_in i words)) (set x i y)
-      (length_unpacked m (flip_in i words) ∙ sym (length_set x i y ∙ length_unpacked m words))
+      (length_unpacked m (flip_in i words) ∙ sym (length-set x i y ∙ length_unpacked m words))
       (λ j q.
       let j-in : j < m = omega (arith, length_unpacked m (flip_in i words)) in
       elem_unpacked m (flip_in i words) j j-in

@@ -189,8 +189,8 @@ module _ {value : ℕ → ℕ → ℤ} {ps : List (ℕ × ℕ)} {rows cols : Lis
       record {
         answers = ap T.Count many ∙ accepted_is number T.Refused (T.Count (length ps)) is z;
         rows_are = w.rows_are ∙ over_sets (rows_of ps) rows (omega (arith, length-map ps (λ p. p.0), room.rows_room)) ∙ accepted_is number (λ _. rows) (over (rows_of ps) rows) is z;
-        cols_are = w.cols-are ∙ over_sets (cols_of ps) cols (omega (arith, length-map ps (λ p. p.1), room.cols_room)) ∙ accepted_is number (λ _. cols) (over (cols_of ps) cols) is z;
-        values_are = w.values-are ∙ over_sets (values_of value ps) values (omega (arith, length-map ps (λ p. value p.0 p.1), room.values_room)) ∙ accepted_is number (λ _. values) (over (values_of value ps) values) is z;
+        cols_are = w.cols_are ∙ over_sets (cols_of ps) cols (omega (arith, length-map ps (λ p. p.1), room.cols_room)) ∙ accepted_is number (λ _. cols) (over (cols_of ps) cols) is z;
+        values_are = w.values_are ∙ over_sets (values_of value ps) values (omega (arith, length-map ps (λ p. value p.0 p.1), room.values_room)) ∙ accepted_is number (λ _. values) (over (values_of value ps) values) is z;
       }
 
 -- what `sign_matrix` asks, and that its entries have room

@@ -42,8 +42,8 @@ module _ (n count : ℕ) (rows cols : List ℕ) (values c : List ℤ) (toRows to
       let ps = sign_places n (table_of count rows cols values) (elem_z c) in
       over_holds n (table_of count rows cols values) (elem_z c) toRows toCols toValues
       (w.rows_are ∙ sym (accepted_is _ (λ _. toRows) (over (rows_of ps) toRows) number_is ok))
-      (w.cols-are ∙ sym (accepted_is _ (λ _. toCols) (over (cols_of ps) toCols) number_is ok))
-      (w.values-are ∙ sym (accepted_is _ (λ _. toValues) (over (values_of (sign_of n (table_of count rows cols values) (elem_z c)) ps) toValues) number_is ok))
+      (w.cols_are ∙ sym (accepted_is _ (λ _. toCols) (over (cols_of ps) toCols) number_is ok))
+      (w.values_are ∙ sym (accepted_is _ (λ _. toValues) (over (values_of (sign_of n (table_of count rows cols values) (elem_z c)) ps) toValues) number_is ok))
 
   -- it answers how many entries there are
   pub counted : answer ≡ T.Count (length (sign_places n (table_of count rows cols values) (elem_z c)))

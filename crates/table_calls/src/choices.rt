@@ -5,7 +5,7 @@ ghost use Rattle.tables.specs.Cost.{decoded_byte};
 ghost use Rattle.table_calls.specs.Answer.{kept_if_refused};
 ghost use Rattle.table_calls.specs.Numbers.{decode_short, decode_number};
 
-use tables::check::{bad_signs, too_short_lem};
+use tables::check::{bad_signs, too_short};
 use tables::objective;
 
 // 31 of `qubo_binary_from_sign_solution`, for m signs and a choice of so many bytes.
@@ -16,10 +16,10 @@ fn decode_short(m: usize, signs: &[u8], b: &[u8]) -> bool
     if bad {
         return false;
     }
-    if too_short_lem(bad, m, signs.len()) {
+    if too_short(bad, m, signs.len()) {
         return true;
     }
-    too_short_lem(bad, m - 1, b.len())
+    too_short(bad, m - 1, b.len())
 }
 
 // The number of `qubo_binary_from_sign_solution`.

@@ -12,7 +12,7 @@ use crate::checked::checked_hall;
 use crate::{Eighths, Entries};
 use limits::{MOST_ENTRIES, MOST_WAGONS};
 use sign_table::sign_matrix::sign_matrix;
-use tables::check::{bad_size, short_table, too_short_lem};
+use tables::check::{bad_size, short_table, too_short};
 use tables::objective;
 
 // 31 of `eval_qubo_objective`.
@@ -30,10 +30,10 @@ fn cost_short(
     if short_table(MOST_ENTRIES, count, rows, cols, values) {
         return true;
     }
-    if too_short_lem(MOST_WAGONS < n, n, c.len()) {
+    if too_short(MOST_WAGONS < n, n, c.len()) {
         return true;
     }
-    too_short_lem(MOST_WAGONS < n, n, b.len())
+    too_short(MOST_WAGONS < n, n, b.len())
 }
 
 // The cost of a choice as bytes, 0 for 0 and any other for 1, in eighths.
@@ -92,7 +92,7 @@ fn sign_short(
     if short_table(MOST_ENTRIES, count, rows, cols, values) {
         return true;
     }
-    if too_short_lem(MOST_WAGONS < n, n, c.len()) {
+    if too_short(MOST_WAGONS < n, n, c.len()) {
         return true;
     }
     room_short(n, count, to_rows.len(), to_cols.len(), to_values.len())

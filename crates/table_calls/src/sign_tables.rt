@@ -8,7 +8,7 @@ ghost use Rattle.table_calls.specs.Numbers.{floor_number, objective_short, objec
 use crate::checked::checked_table;
 use crate::{Bound, Eighths};
 use limits::MOST_SIGN_ENTRIES;
-use tables::check::{bad_signs, short_table, too_short_lem};
+use tables::check::{bad_signs, short_table, too_short};
 use tables::{bound, objective};
 
 // 31 of `obj_rounded`.
@@ -25,7 +25,7 @@ fn objective_short(
     if short_table(MOST_SIGN_ENTRIES, count, rows, cols, values) {
         return true;
     }
-    too_short_lem(bad_signs(m), m, signs.len())
+    too_short(bad_signs(m), m, signs.len())
 }
 
 // The objective of signs as bytes, 0 for + and any other for −, in eighths.

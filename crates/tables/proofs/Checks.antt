@@ -8,7 +8,7 @@ use native.Mathlib.Omega.{arith}
 use native.Mathlib.Numerals.{add-one}
 use native.Mathlib.Nat.{eq-or-lt_of_le}
 use native.Mathlib.Decide.{ℕ_discrete, dec_lt}
-use borrow.Author.Tests.{eq-eqb, ne_eqb, eqb-true, eqb-false, ltb-false, leb-false, lt-ltb, le-ltb, lt-leb, not_false}
+use borrow.Author.Tests.{eq-eqb, ne_eqb, eqb-true, eqb-false, ltb-false, leb-false, lt-ltb, le-ltb, lt-leb, not-false}
 use lib.ListN.{length}
 use lib.Dec.{eqb, ltb}
 use lib.IntN.{ℤ, pos, negsuc}
@@ -169,7 +169,7 @@ module _ (m : ℕ) (t : Table) where
     where
       rest : (k : ℕ) → (ltb 0 (suc k) && not (before (t.row (suc k - 1)) (t.column (suc k - 1)) (t.row (suc k)) (t.column (suc k)))) ≡ false
           → before (t.row k) (t.column k) (t.row (suc k)) (t.column (suc k)) ≡ true
-      rest k e = let back : suc k - 1 ≡ k = omega arith in not_false _ (rw (lt-ltb 0 (suc k) (omega arith), back) at e)
+      rest k e = let back : suc k - 1 ≡ k = omega arith in not-false _ (rw (lt-ltb 0 (suc k) (omega arith), back) at e)
 
   pub order_passes : InRange m t → Rising t → bad_order m t.row t.column t.count ≡ false
   unfolding bad_order bad_entry
@@ -199,7 +199,7 @@ pub mirror_mirrored : (t : Table) → unmirrored t ≡ false → Mirrored t
 unfolding unmirrored
 mirror_mirrored t ok = record {
   image = λ k h.
-      let (l, below, is) = below_true (is_mirror t k) t.count (not_false _ (below_false _ t.count ok k h)) in
+      let (l, below, is) = below_true (is_mirror t k) t.count (not-false _ (below_false _ t.count ok k h)) in
       let (place, value) = and_true _ _ is in
       let (row, column) = and_true _ _ place in
       (l, below, eqb-true _ _ row, eqb-true _ _ column, eq_z_true _ _ value);
@@ -310,4 +310,4 @@ pub lent_table : {most_entries count : ℕ} {rows cols : List ℕ} {values : Lis
 unfolding short_table
 lent_table {most_entries} {count} h l =
     let few : ltb most_entries count ≡ false = le-ltb most_entries count h in
-    any_not _ _ (long_passes few l.rows-there) (any_not _ _ (long_passes few l.cols-there) (any_not _ _ (long_passes few l.values-there) any_none))
+    any_not _ _ (long_passes few l.rows_there) (any_not _ _ (long_passes few l.cols_there) (any_not _ _ (long_passes few l.values_there) any_none))

@@ -197,7 +197,7 @@ pub fn table_number(
 }
 
 // 31: a lent slice is shorter than needed, where what is needed rests on no refused number.
-pub fn too_short_lem(refused: bool, needed: usize, lent: usize) -> bool
+pub fn too_short(refused: bool, needed: usize, lent: usize) -> bool
     ensures { result ≡ short refused needed lent }
 {
     if refused {
@@ -216,11 +216,11 @@ pub fn short_table(
 ) -> bool
     ensures { result ≡ short_table capacity count (length rows.now) (length cols.now) (length values.now) }
 {
-    if too_short_lem(capacity < count, count, rows.len()) {
+    if too_short(capacity < count, count, rows.len()) {
         return true;
     }
-    if too_short_lem(capacity < count, count, cols.len()) {
+    if too_short(capacity < count, count, cols.len()) {
         return true;
     }
-    too_short_lem(capacity < count, count, values.len())
+    too_short(capacity < count, count, values.len())
 }

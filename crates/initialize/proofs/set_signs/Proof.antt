@@ -3,7 +3,7 @@ use mathlib.Core.Path.{◌≡◌}
 use Prim.Native.Nat.{◌≤◌, ◌<◌, ◌-◌, ◌*◌}
 use native.Mathlib.Omega.{arith}
 use borrow.Author.Rules.{rules}
-use lib.ListN.{length, set, length_set}
+use lib.ListN.{length, set, length-set}
 use Rattle.ieee.specs.Floats.{at, zero64}
 use Rattle.laws.proofs.Parts.{row_within}
 use Rattle.laws.proofs.UpTo.{up_to_next}
@@ -33,7 +33,7 @@ slice-write-factor : tie.Need-slice-write-factor invariant-loop decreases-loop
 slice-write-factor c = omega (arith, row_within _ _ c.before.before.before.before.before.before.args.rank c.before.before.loop-test.true)
 
 loop-again : tie.Need-loop-preserved invariant-loop decreases-loop
-loop-again c = (omega arith, simp length_set (omega arith), rw c.sign.ensures (up_to_next _ _ _ _ c.before.before.before.loop.invariant.2))
+loop-again c = (omega arith, simp length-set (omega arith), rw c.sign.ensures (up_to_next _ _ _ _ c.before.before.before.loop.invariant.2))
 
 returns : tie.Need-returns invariant-loop decreases-loop
 unfolding with_signs

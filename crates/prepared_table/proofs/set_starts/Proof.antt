@@ -3,7 +3,7 @@ use mathlib.Core.Path.{◌≡◌}
 use Prim.Native.Nat.{◌≤◌, ◌-◌, ◌+◌}
 use native.Mathlib.Omega.{arith}
 use borrow.Author.Rules.{rules}
-use lib.ListN.{length, length_set}
+use lib.ListN.{length, length-set}
 use Rattle.ieee.specs.Floats.{at}
 use Rattle.laws.proofs.Made.{tabulate_next}
 use Rattle.laws.specs.Lists.{over, tabulate}
@@ -26,7 +26,7 @@ next-start-requires : tie.Need-next-start-requires invariant-loop decreases-loop
 next-start-requires c κs = c.before.loop.invariant.2
 
 loop-again : tie.Need-loop-preserved invariant-loop decreases-loop
-loop-again c = (omega arith, simp length_set (omega arith), omega (arith, start_rise c.before.before.before.before.before.args.rows.now c.before.before.loop.i), rw c.next_start.ensures (tabulate_next _ _ _ _ 0 (omega arith) c.before.before.loop.invariant.3))
+loop-again c = (omega arith, simp length-set (omega arith), omega (arith, start_rise c.before.before.before.before.before.args.rows.now c.before.before.loop.i), rw c.next_start.ensures (tabulate_next _ _ _ _ 0 (omega arith) c.before.before.loop.invariant.3))
 
 returns : tie.Need-returns invariant-loop decreases-loop
 returns c = let e : c.before.loop.i ≡ c.before.before.before.before.args.m + 1 = omega arith in rw e at c.before.loop.invariant.3

@@ -4,7 +4,7 @@ use Rattle.answer_record.proofs.put.put_number.Tie as tie
 use Prim.Native.Nat.{◌≤◌}
 use mathlib.Core.Path.{◌≡◌, refl, ◌∙◌}
 use native.Mathlib.Omega.{arith}
-use lib.ListN.{length, length_set}
+use lib.ListN.{length, length-set}
 use Rattle.answer_record.proofs.Written.{stored, stored_turn, put_written}
 
 abbrev invariant-loop : tie.invariant-loop
@@ -19,7 +19,7 @@ loop-holds c = (omega arith, refl, refl)
 loop-again : tie.Need-loop-preserved invariant-loop decreases-loop
 loop-again c = let l = c.before.loop in (
   omega arith,
-  simp length_set (omega arith),
+  simp length-set (omega arith),
   stored_turn l.out c.before.before.args.at l.left l.i (omega arith) ∙ l.invariant.2,
 )
 

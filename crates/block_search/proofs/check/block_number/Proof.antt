@@ -17,14 +17,14 @@ unfolding block_number
 returns c = sym (first_here 30 _ _ (sym c.before.call-short.ensures ∙ c.if1.true))
 
 hall-number-requires : tie.Need-hall-number-requires
-hall-number-requires c κs = let l = slices_long c.before.before.before.before.before.before.before.before.before.args.n c.before.before.before.before.before.before.before.before.before.args.count c.before.before.before.before.before.before.before.before.before.args.rows.now c.before.before.before.before.before.before.before.before.before.args.cols.now c.before.before.before.before.before.before.before.before.before.args.values.now c.before.before.before.before.before.before.before.before.before.args.c.now c.before.before.before.before.before.before.before.before.before.args.pinned.now c.before.before.before.before.before.before.before.before.before.args.stores.now c.before.before.before.before.before.before.before.before.before.args.present.now c.before.before.before.before.before.before.before.before.before.args.sizes.now c.before.before.before.before.before.before.before.before.before.args.wagons.now c.before.before.before.before.before.before.before.before.before.args.choice c.before.before.before.before.before.before.before.before.before.args.falls c.before.before.before.before.before.before.before.before.before.args.workspace (sym c.before.call-short.ensures ∙ c.if1.false) in (λ h. l.table-long h, λ h. l.costs-long h, lit≤ tt, lit< tt)
+hall-number-requires c κs = let l = slices_long c.before.before.before.before.before.before.before.before.before.args.n c.before.before.before.before.before.before.before.before.before.args.count c.before.before.before.before.before.before.before.before.before.args.rows.now c.before.before.before.before.before.before.before.before.before.args.cols.now c.before.before.before.before.before.before.before.before.before.args.values.now c.before.before.before.before.before.before.before.before.before.args.c.now c.before.before.before.before.before.before.before.before.before.args.pinned.now c.before.before.before.before.before.before.before.before.before.args.stores.now c.before.before.before.before.before.before.before.before.before.args.present.now c.before.before.before.before.before.before.before.before.before.args.sizes.now c.before.before.before.before.before.before.before.before.before.args.wagons.now c.before.before.before.before.before.before.before.before.before.args.choice c.before.before.before.before.before.before.before.before.before.args.falls c.before.before.before.before.before.before.before.before.before.args.workspace (sym c.before.call-short.ensures ∙ c.if1.false) in (λ h. l.table_long h, λ h. l.costs_long h, lit≤ tt, lit< tt)
 
 returns-2 : tie.Need-returns-2
 unfolding block_number
 returns-2 c = c.before.hall-number.ensures ∙ sym (first_skip 31 _ _ (sym c.before.before.before.call-short.ensures ∙ c.before.before.if1.false) ∙ first_found _ _ (λ e. c.if2.true (c.before.hall-number.ensures ∙ e)))
 
 list-number-requires : tie.Need-list-number-requires
-list-number-requires c κs = let l = slices_long c.before.before.before.before.before.before.before.before.before.before.before.args.n c.before.before.before.before.before.before.before.before.before.before.before.args.count c.before.before.before.before.before.before.before.before.before.before.before.args.rows.now c.before.before.before.before.before.before.before.before.before.before.before.args.cols.now c.before.before.before.before.before.before.before.before.before.before.before.args.values.now c.before.before.before.before.before.before.before.before.before.before.before.args.c.now c.before.before.before.before.before.before.before.before.before.before.before.args.pinned.now c.before.before.before.before.before.before.before.before.before.before.before.args.stores.now c.before.before.before.before.before.before.before.before.before.before.before.args.present.now c.before.before.before.before.before.before.before.before.before.before.before.args.sizes.now c.before.before.before.before.before.before.before.before.before.before.before.args.wagons.now c.before.before.before.before.before.before.before.before.before.before.before.args.choice c.before.before.before.before.before.before.before.before.before.before.before.args.falls c.before.before.before.before.before.before.before.before.before.before.before.args.workspace (sym c.before.before.before.call-short.ensures ∙ c.before.before.if1.false) in let ok = hall_accepted (sym c.before.hall-number.ensures ∙ c.if2.false) in (ok.wagons, l.stores-long, l.present-long ok.wagons, λ h. l.wagons-long h)
+list-number-requires c κs = let l = slices_long c.before.before.before.before.before.before.before.before.before.before.before.args.n c.before.before.before.before.before.before.before.before.before.before.before.args.count c.before.before.before.before.before.before.before.before.before.before.before.args.rows.now c.before.before.before.before.before.before.before.before.before.before.before.args.cols.now c.before.before.before.before.before.before.before.before.before.before.before.args.values.now c.before.before.before.before.before.before.before.before.before.before.before.args.c.now c.before.before.before.before.before.before.before.before.before.before.before.args.pinned.now c.before.before.before.before.before.before.before.before.before.before.before.args.stores.now c.before.before.before.before.before.before.before.before.before.before.before.args.present.now c.before.before.before.before.before.before.before.before.before.before.before.args.sizes.now c.before.before.before.before.before.before.before.before.before.before.before.args.wagons.now c.before.before.before.before.before.before.before.before.before.before.before.args.choice c.before.before.before.before.before.before.before.before.before.before.before.args.falls c.before.before.before.before.before.before.before.before.before.before.before.args.workspace (sym c.before.before.before.call-short.ensures ∙ c.before.before.if1.false) in let ok = hall_accepted (sym c.before.hall-number.ensures ∙ c.if2.false) in (ok.wagons, l.stores_long, l.present_long ok.wagons, λ h. l.wagons_long h)
 
 returns-3 : tie.Need-returns-3
 unfolding block_number

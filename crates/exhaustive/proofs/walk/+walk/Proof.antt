@@ -80,7 +80,7 @@ unfolding low_stands high_stands
 returns-3 t c =
     let z = c.before.before.before.before.before.before.before.if1.false in
     λ s. let w = c.before.before.before.before.before.walk.ensures (low_stands z s (to_z-of_z c.before.before.before.before.before.before.before.before.ranges.cost)) in
-    both_stand z s w.visited-on (c.walk2.ensures (high_stands z s w c.before.before.before.raise.ensures (more_is z s)))
+    both_stand z s w.visited_on (c.walk2.ensures (high_stands z s w c.before.before.before.raise.ensures (more_is z s)))
 
 pub +walk-spec : {M : Type 1} → statement M
 +walk-spec = close μ-walk (λ t. walk-lts.spec (visit.Asked, visit.Learnt, visit-two.Asked, visit-two.Learnt, walk-below t, walk.Post, raise.Asked, raise.Learnt) (walk_at t) walk.Post (visit-requires t) (returns t) (visit-two-requires t) (returns-2 t) (sub-top t) (walk-requires t) (raise-requires t) (mul-more t) (element-copy-out-more t) (add-more t) (walk-requires-2 t) (returns-3 t))

@@ -5,7 +5,7 @@ use Rattle.exhaustive.proofs.walk.put_digits.Tie as tie
 use Prim.Native.Nat.{◌≤◌, ◌-◌, ◌/◌, ◌^◌, ℕ, ◌+◌, ◌%◌}
 use mathlib.Core.Path.{◌≡◌, refl, ap, sym, ◌∙◌}
 use native.Mathlib.Omega.{arith}
-use lib.ListN.{length, set, length_set}
+use lib.ListN.{length, set, length-set}
 use Rattle.laws.specs.Lists.{over, tabulate}
 use Rattle.exhaustive.specs.Choices.{digit}
 use native.Mathlib.Numerals.{add-one}
@@ -35,7 +35,7 @@ loop-less : tie.Need-loop-smaller invariant-loop decreases-loop
 loop-less c = omega arith
 
 loop-again : tie.Need-loop-preserved invariant-loop decreases-loop
-loop-again c = (omega arith, ap (λ (y : ℕ). y / 2) c.before.loop.invariant.1 ∙ next_half c.before.before.args.k c.before.loop.i, ap (λ (v : ℕ). set c.before.loop.b c.before.loop.i v) (digit_at_lem c.before.before.args.k c.before.loop.i c.before.loop.x c.before.loop.invariant.1) ∙ tabulate_next (digit c.before.before.args.k) c.before.loop.i c.before.before.args.b.now c.before.loop.b 0 (omega arith) c.before.loop.invariant.2, length_set c.before.loop.b c.before.loop.i (c.before.loop.x % 2) ∙ c.before.loop.invariant.3)
+loop-again c = (omega arith, ap (λ (y : ℕ). y / 2) c.before.loop.invariant.1 ∙ next_half c.before.before.args.k c.before.loop.i, ap (λ (v : ℕ). set c.before.loop.b c.before.loop.i v) (digit_at_lem c.before.before.args.k c.before.loop.i c.before.loop.x c.before.loop.invariant.1) ∙ tabulate_next (digit c.before.before.args.k) c.before.loop.i c.before.before.args.b.now c.before.loop.b 0 (omega arith) c.before.loop.invariant.2, length-set c.before.loop.b c.before.loop.i (c.before.loop.x % 2) ∙ c.before.loop.invariant.3)
 
 same_length : tie.Need-same-length invariant-loop decreases-loop
 same_length c = c.before.loop.invariant.3

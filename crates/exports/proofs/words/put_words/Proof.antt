@@ -4,7 +4,7 @@ use Prim.Native.Nat.{ℕ, ◌≤◌, ◌-◌}
 use mathlib.Core.Path.{◌≡◌, refl, ap, ◌∙◌}
 use mathlib.Core.List.{List}
 use native.Mathlib.Omega.{arith}
-use lib.ListN.{length_set, length, take}
+use lib.ListN.{length-set, length, take}
 use lib.Seq.{take_all}
 use Rattle.laws.specs.Lists.{over}
 use Rattle.local_search.proofs.Shift.{copied_turn}
@@ -24,7 +24,7 @@ loop-again : tie.Need-loop-preserved invariant-loop decreases-loop
 loop-again c =
     let a = c.before.before.before.args in
     let l = c.before.before.loop in
-    (omega arith, simp length_set l.invariant.1, copied_turn a.from.now a.to.now l.to l.k 0 (omega arith) (omega arith) l.invariant.2)
+    (omega arith, simp length-set l.invariant.1, copied_turn a.from.now a.to.now l.to l.k 0 (omega arith) (omega arith) l.invariant.2)
 
 same_length : tie.Need-same-length invariant-loop decreases-loop
 same_length c = c.before.loop.invariant.1

@@ -4,7 +4,7 @@ use Prim.Native.Nat.{◌≤◌, ◌-◌}
 use native.Mathlib.Omega.{arith}
 use borrow.Author.Rules.{rules}
 use lib.Ieee.{nan}
-use lib.ListN.{length, length_set}
+use lib.ListN.{length, length-set}
 use Rattle.ieee.specs.Floats.{◌+ᶠ◌, ◌*ᶠ◌, at}
 use Rattle.laws.proofs.MapFirst.{map_first_next}
 use Rattle.laws.specs.Rows.{map_first}
@@ -23,7 +23,7 @@ unfolding map_first
 loop-holds c = search rules
 
 loop-again : tie.Need-loop-preserved invariant-loop decreases-loop
-loop-again c = (omega arith, omega arith, simp length_set (omega arith), map_first_next _ _ _ _ nan c.before.before.before.loop.invariant.3)
+loop-again c = (omega arith, omega arith, simp length-set (omega arith), map_first_next _ _ _ _ nan c.before.before.before.loop.invariant.3)
 
 returns : tie.Need-returns invariant-loop decreases-loop
 unfolding add_scaled

@@ -3,7 +3,7 @@ use borrow.Author.Rules.{rules}
 use mathlib.Core.Path.{◌≡◌, refl}
 use Prim.Native.Nat.{◌≤◌, ◌-◌}
 use native.Mathlib.Omega.{arith}
-use lib.ListN.{length, length_set}
+use lib.ListN.{length, length-set}
 use lib.Ieee.{nan}
 use Rattle.tables.specs.Table.{table_of}
 use Rattle.laws.specs.Lists.{over, tabulate}
@@ -37,7 +37,7 @@ value-of-requires : tie.Need-value-of-requires invariant-loop decreases-loop
 value-of-requires c κs = omega (arith, c.row.ensures.1)
 
 loop-again : tie.Need-loop-preserved invariant-loop decreases-loop
-loop-again c = (omega arith, omega arith, simp length_set (omega arith), rw (c.value_of_lem.ensures, c.before.before.before.before.before.whole_row.ensures.0, c.before.row.ensures.0) (tabulate_next _ _ _ _ nan (omega arith) c.before.before.before.before.before.before.before.before.loop.invariant.3), c.before.before.before.before.before.whole_row.ensures.1)
+loop-again c = (omega arith, omega arith, simp length-set (omega arith), rw (c.value_of_lem.ensures, c.before.before.before.before.before.whole_row.ensures.0, c.before.row.ensures.0) (tabulate_next _ _ _ _ nan (omega arith) c.before.before.before.before.before.before.before.before.loop.invariant.3), c.before.before.before.before.before.whole_row.ensures.1)
 
 returns : tie.Need-returns invariant-loop decreases-loop
 unfolding multipliers_by

@@ -4,7 +4,7 @@ use Rattle.job_record.proofs.arrays.read_entries.Tie as tie
 use Prim.Native.Nat.{ℕ, ◌+◌, ◌≤◌, ◌-◌}
 use mathlib.Core.Path.{◌≡◌, refl, ap, ◌∙◌}
 use native.Mathlib.Omega.{arith}
-use lib.ListN.{length, length_set}
+use lib.ListN.{length, length-set}
 use mir.Syntax.{w64}
 use mir.ValLaws.{to_z-of_z}
 use Rattle.laws.specs.Lists.{fill}
@@ -27,9 +27,9 @@ loop-again c = let inv = c.before.before.before.before.before.loop.invariant in 
   fill_more _ _ _ inv.1 (c.before.before.u8-at.ensures ∙ ap (λ (p : ℕ). big_endian job p 1) at),
   fill_more _ _ _ inv.2 (c.before.u8-at2.ensures ∙ ap (λ (p : ℕ). big_endian job (p + 1) 1) at),
   fill_more _ _ _ inv.3 (to_z-of_z w64 _ (record { sfits = c.i64-at.type-inv }) ∙ c.i64-at.ensures ∙ ap (λ (p : ℕ). signed_at job (p + 2)) at),
-  simp length_set inv.4,
-  simp length_set inv.5,
-  simp length_set inv.6,
+  simp length-set inv.4,
+  simp length-set inv.5,
+  simp length-set inv.6,
 )
 
 returns : tie.Need-returns invariant-loop decreases-loop

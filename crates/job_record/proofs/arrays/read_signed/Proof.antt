@@ -4,7 +4,7 @@ use Rattle.job_record.proofs.arrays.read_signed.Tie as tie
 use Prim.Native.Nat.{◌≤◌, ◌-◌}
 use mathlib.Core.Path.{◌≡◌, refl, ◌∙◌}
 use native.Mathlib.Omega.{arith}
-use lib.ListN.{length, length_set}
+use lib.ListN.{length, length-set}
 use mir.Syntax.{w64}
 use mir.ValLaws.{to_z-of_z}
 use Rattle.laws.specs.Lists.{fill}
@@ -21,7 +21,7 @@ loop-holds : tie.Need-loop-init invariant-loop decreases-loop
 loop-holds c = (omega arith, fill_none _ _, refl)
 
 loop-again : tie.Need-loop-preserved invariant-loop decreases-loop
-loop-again c = (omega arith, fill_more _ _ _ c.before.before.loop.invariant.1 (to_z-of_z w64 _ (record { sfits = c.i64-at.type-inv }) ∙ c.i64-at.ensures), simp length_set c.before.before.loop.invariant.2)
+loop-again c = (omega arith, fill_more _ _ _ c.before.before.loop.invariant.1 (to_z-of_z w64 _ (record { sfits = c.i64-at.type-inv }) ∙ c.i64-at.ensures), simp length-set c.before.before.loop.invariant.2)
 
 returns : tie.Need-returns invariant-loop decreases-loop
 returns c = fill_all _ _ _ _ c.before.loop.invariant.1 c.before.loop.invariant.0 c.loop-test.false

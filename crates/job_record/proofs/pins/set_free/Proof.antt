@@ -4,7 +4,7 @@ use Rattle.job_record.proofs.pins.set_free.Tie as tie
 use Prim.Native.Nat.{◌≤◌, ◌-◌}
 use mathlib.Core.Path.{◌≡◌, refl}
 use native.Mathlib.Omega.{arith}
-use lib.ListN.{length, length_set}
+use lib.ListN.{length, length-set}
 use Rattle.laws.specs.Lists.{fill}
 use Rattle.laws.proofs.MapFirst.{fill_none, fill_more, fill_all}
 use Rattle.job_record.specs.Fields.{free_state}
@@ -19,7 +19,7 @@ loop-holds : tie.Need-loop-init invariant-loop decreases-loop
 loop-holds c = (omega arith, fill_none _ _, refl)
 
 loop-again : tie.Need-loop-preserved invariant-loop decreases-loop
-loop-again c = (omega arith, fill_more _ _ _ c.before.loop.invariant.1 refl, simp length_set c.before.loop.invariant.2)
+loop-again c = (omega arith, fill_more _ _ _ c.before.loop.invariant.1 refl, simp length-set c.before.loop.invariant.2)
 
 returns : tie.Need-returns invariant-loop decreases-loop
 returns c = fill_all _ _ _ _ c.before.loop.invariant.1 c.before.loop.invariant.0 c.loop-test.false

@@ -17,7 +17,7 @@ hall-number-requires : tie.Need-hall-number-requires
 hall-number-requires c κs =
     let a = c.before.before.before.before.before.args in
     let l = slices_long a.n a.count a.rows.now a.cols.now a.values.now (length a.c.now) (length a.present.now) a.choice a.workspace (sym c.before.call-short.ensures ∙ c.if1.false) in
-    (λ h. l.table-long h, λ h. l.costs-long h, lit≤ tt, lit< tt)
+    (λ h. l.table_long h, λ h. l.costs_long h, lit≤ tt, lit< tt)
 
 returns-2 : tie.Need-returns-2
 unfolding limited_number
@@ -28,7 +28,7 @@ move-number-requires c κs =
     let a = c.before.before.before.before.before.before.before.args in
     let l = slices_long a.n a.count a.rows.now a.cols.now a.values.now (length a.c.now) (length a.present.now) a.choice a.workspace (sym c.before.before.before.call-short.ensures ∙ c.before.before.if1.false) in
     let ok = hall_accepted (sym c.before.hall-number.ensures ∙ c.if2.false) in
-    l.present-long ok.wagons
+    l.present_long ok.wagons
 
 returns-3 : tie.Need-returns-3
 unfolding limited_number

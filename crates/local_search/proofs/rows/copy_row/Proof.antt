@@ -1,4 +1,4 @@
-use lib.ListN.{length_set}
+use lib.ListN.{length-set}
 use lib.Seq.{take_all}
 use Rattle.laws.specs.Lists.{over}
 use Rattle.laws.proofs.Made.{over_all}
@@ -26,7 +26,7 @@ loop-again : tie.Need-loop-preserved invariant-loop decreases-loop
 loop-again c =
     let a = c.before.before.before.args in
     let l = c.before.before.loop in
-    (omega arith, simp length_set l.invariant.1, copied_turn a.parent.now a.row.now l.row l.k 0 (omega arith) (omega arith) l.invariant.2)
+    (omega arith, simp length-set l.invariant.1, copied_turn a.parent.now a.row.now l.row l.k 0 (omega arith) (omega arith) l.invariant.2)
 
 same_length : tie.Need-same-length invariant-loop decreases-loop
 same_length c = c.before.loop.invariant.1

@@ -4,7 +4,7 @@ use Prim.Native.Nat.{◌≤◌, ◌-◌}
 use native.Mathlib.Omega.{arith}
 use borrow.Author.Rules.{rules}
 use lib.Ieee.{nan}
-use lib.ListN.{length, length_set}
+use lib.ListN.{length, length-set}
 use Rattle.laws.specs.Lists.{over, tabulate}
 use Rattle.laws.proofs.Made.{tabulate_next, tabulate_all}
 use Rattle.factor.proofs.Shaping.{shaped_row}
@@ -38,7 +38,7 @@ loop-less : tie.Need-loop-smaller invariant-loop decreases-loop
 loop-less c = search rules
 
 loop-again : tie.Need-loop-preserved invariant-loop decreases-loop
-loop-again c = (omega arith, omega (arith, c.before.before.multiplier-at.auto.1.1.1.1.1.1.0, c.before.before.before.before.before.loop.invariant.1), simp length_set (omega (arith, c.before.before.before.before.before.loop.invariant.2)), rw c.before.before.multiplier-at.ensures (tabulate_next _ _ _ _ nan (omega (arith, c.before.before.before.before.before.loop.invariant.2)) c.before.before.before.before.before.loop.invariant.3))
+loop-again c = (omega arith, omega (arith, c.before.before.multiplier-at.auto.1.1.1.1.1.1.0, c.before.before.before.before.before.loop.invariant.1), simp length-set (omega (arith, c.before.before.before.before.before.loop.invariant.2)), rw c.before.before.multiplier-at.ensures (tabulate_next _ _ _ _ nan (omega (arith, c.before.before.before.before.before.loop.invariant.2)) c.before.before.before.before.before.loop.invariant.3))
 
 same_length : tie.Need-same-length invariant-loop decreases-loop
 same_length c = search rules

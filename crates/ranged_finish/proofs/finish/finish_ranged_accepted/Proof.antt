@@ -39,13 +39,13 @@ eval-low-requires : tie.Need-eval-qubo-objective-requires
 eval-low-requires c κs =
     let s = c.before.before.before.before.before.before.before.before.before.before.before.before.before.before.before.before.before.before in
     let kept = c.before.before.before.before.before.before.before.finish-accepted.auto.1.1.1.1.1.1.1.1.1.1.1.0 in
-    ((low s).slices, (low s).costs, omega (arith, (high s).ranges.b-room, kept), (low s).hall.in_range, omega (arith, (low s).hall.magnitude))
+    ((low s).slices, (low s).costs, omega (arith, (high s).ranges.b_room, kept), (low s).hall.in_range, omega (arith, (low s).hall.magnitude))
 
 eval-high-requires : tie.Need-eval-qubo-objective-requires-2
 eval-high-requires c κs =
     let s = c.before.before.before.before.before.before.before.before.before.before.before.before.before.before.before.before.before.before.before.before in
     let kept = c.before.before.before.before.before.before.before.before.before.finish-accepted.auto.1.1.1.1.1.1.1.1.1.1.1.0 in
-    ((high s).slices, (high s).costs, omega (arith, (high s).ranges.b-room, kept), (high s).hall.in_range, omega (arith, (high s).hall.magnitude))
+    ((high s).slices, (high s).costs, omega (arith, (high s).ranges.b_room, kept), (high s).hall.in_range, omega (arith, (high s).hall.magnitude))
 
 floor-of-requires : tie.Need-floor-of-requires
 floor-of-requires c κs =

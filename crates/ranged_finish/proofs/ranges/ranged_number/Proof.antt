@@ -14,7 +14,7 @@ unfolding ranged_number
 returns c = sym (first_here 12 _ _ (sym c.before.bad-size.ensures ∙ c.if1.taken))
 
 bad-order-requires : tie.Need-bad-order-requires
-bad-order-requires c κs = let l = (c.before.before.before.before.pre.0 (size_parts _ _ _ _ _ (sym c.before.bad-size.ensures ∙ c.if1.left)).2).0 in (l.rows-there, l.cols-there)
+bad-order-requires c κs = let l = (c.before.before.before.before.pre.0 (size_parts _ _ _ _ _ (sym c.before.bad-size.ensures ∙ c.if1.left)).2).0 in (l.rows_there, l.cols_there)
 
 returns-2 : tie.Need-returns-2
 unfolding ranged_number

@@ -4,7 +4,7 @@ use mathlib.Core.Path.{◌≡◌, refl, sym, ◌∙◌}
 use Prim.Native.Nat.{◌≤◌, ◌-◌}
 use native.Mathlib.Omega.{arith}
 use lib.Ieee.{nan}
-use lib.ListN.{length, length_set}
+use lib.ListN.{length, length-set}
 use Rattle.laws.specs.Lists.{over, tabulate}
 use Rattle.laws.proofs.Made.{tabulate_next, tabulate_all}
 use Rattle.row_gradient.specs.Columns.{column_of}
@@ -26,7 +26,7 @@ column-requires : tie.Need-column-requires invariant-loop decreases-loop
 column-requires c κs = ((omega arith, c.before.before.before.before.before.before.requires.0), c.before.before.before.before.before.before.requires.1)
 
 loop-again : tie.Need-loop-preserved invariant-loop decreases-loop
-loop-again c = (omega arith, simp length_set (omega arith), rw c.column.ensures (tabulate_next _ _ _ _ nan (omega arith) c.before.before.loop.invariant.2))
+loop-again c = (omega arith, simp length-set (omega arith), rw c.column.ensures (tabulate_next _ _ _ _ nan (omega arith) c.before.before.loop.invariant.2))
 
 returns : tie.Need-returns invariant-loop decreases-loop
 returns c = let e : c.before.loop.j ≡ length c.before.before.before.before.before.before.args.g.now = omega arith in (rw e at c.before.loop.invariant.2) ∙ (tabulate_all _ _ c.before.before.before.before.before.before.args.g.now refl ∙ sym (gradient_columns _ _ _ _ _))

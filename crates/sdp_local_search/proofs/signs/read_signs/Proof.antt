@@ -4,7 +4,7 @@ use Rattle.sdp_local_search.proofs.signs.read_signs.Tie as tie
 use Prim.Native.Nat.{◌≤◌, ◌-◌}
 use mathlib.Core.Path.{◌≡◌, refl, ◌∙◌}
 use native.Mathlib.Omega.{arith}
-use lib.ListN.{length, length_set}
+use lib.ListN.{length, length-set}
 use Rattle.laws.specs.Lists.{elem, over, tabulate}
 use Rattle.laws.proofs.Made.{tabulate_next, tabulate_all}
 use Rattle.sdp_local_search.specs.BeamSearch.{sign_byte, sign_bytes}
@@ -29,7 +29,7 @@ loop-again c =
     let h : l.i ≤ length l.auto = omega arith in (
       omega arith,
       ap (λ (v : ℕ). set l.auto l.i v) c.sign-byte.ensures ∙ tabulate_next (λ j. sign_byte (elem a.start.now j)) l.i a.kept.now l.auto 0 (omega arith) l.invariant.1,
-      simp length_set l.invariant.2,
+      simp length-set l.invariant.2,
     )
 
 same_length : tie.Need-same-length invariant-loop decreases-loop

@@ -3,7 +3,7 @@
 use Prim.Native.Nat.{◌≤◌, ◌-◌}
 use native.Mathlib.Omega.{arith}
 use mathlib.Core.Path.{◌≡◌, refl}
-use lib.ListN.{length, length_set}
+use lib.ListN.{length, length-set}
 use lib.IntN.{pos}
 use Rattle.laws.specs.Lists.{fill}
 use Rattle.laws.proofs.MapFirst.{fill_none, fill_more}
@@ -22,7 +22,7 @@ loop-holds c = (omega arith, refl, fill_none (λ j. pos 0) c.args.changes.now)
 loop-again : tie.Need-loop-preserved invariant-loop decreases-loop
 loop-again c =
     let l = c.before.loop in
-    (omega arith, simp length_set l.invariant.1, fill_more (λ j. pos 0) c.before.before.args.changes.now l.i l.invariant.2 refl)
+    (omega arith, simp length-set l.invariant.1, fill_more (λ j. pos 0) c.before.before.args.changes.now l.i l.invariant.2 refl)
 
 same_length : tie.Need-same-length invariant-loop decreases-loop
 same_length c = c.before.loop.invariant.1

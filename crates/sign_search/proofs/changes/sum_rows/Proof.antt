@@ -5,7 +5,7 @@ use native.Mathlib.Omega.{arith}
 use Rattle.tables.specs.Table.{table_of}
 use mathlib.Core.Path.{◌≡◌, refl, sym, ◌∙◌, subst}
 use lib.IntN.{pos, ◌+ℤ◌}
-use lib.ListN.{length, get_or, drop, length_set}
+use lib.ListN.{length, get_or, drop, length-set}
 use lib.Seq.{drop-set-lt}
 use mir.Syntax.{w64}
 use mir.Val.{SFits, to_z, of_z}
@@ -125,7 +125,7 @@ slice-set-from-changes : tie.Need-slice-set-from-changes invariant-loop decrease
 slice-set-from-changes c = room c.before
 
 same_length : tie.Need-same-length invariant-loop decreases-loop
-same_length c = simp length_set c.before.before.loop.invariant.1
+same_length c = simp length-set c.before.before.loop.invariant.1
 
 returns : tie.Need-returns invariant-loop decreases-loop
 returns c =
@@ -134,7 +134,7 @@ returns c =
     let a = s.args in
     L.changes_laid (table_of a.entries a.rows.now a.cols.now a.values.now) a.signs.now a.changes.now _
     (L.summed_all (table_of a.entries a.rows.now a.cols.now a.values.now) a.signs.now l.k l.row (to_z w64 l.held) l.changes s.requires.0 l.invariant.2 (omega arith) _ (to_z-of_z (add-changes c) ∙ last c))
-    (simp length_set l.invariant.1) (drop-set-lt (length a.signs.now) l.changes l.row _ l.invariant.2.row_in ∙ l.invariant.3)
+    (simp length-set l.invariant.1) (drop-set-lt (length a.signs.now) l.changes l.row _ l.invariant.2.row_in ∙ l.invariant.3)
 
 pub sum-rows-spec : {M : Type 1} → statement M
 sum-rows-spec =

@@ -8,7 +8,7 @@ use native.Mathlib.Omega.{arith}
 use native.Mathlib.Numerals.{add-one}
 use mathlib.Core.Path.{ap, ◌∙◌}
 use lib.IntN.{ℤ, pos, neg_ℤ, nat_abs, ◌-ℤ◌, +ℤ_idl}
-use lib.ListN.{get_or, length_set}
+use lib.ListN.{get_or, length-set}
 use mir.Facts.{to_z-of_z}
 use Rattle.laws.proofs.Integer.{negation_fits, held}
 use Rattle.tables.specs.Table.{table_of}
@@ -48,7 +48,7 @@ same_length : tie.Need-same-length
 same_length c = c.before.before.flip-sign.auto.0
 
 same-length-2 : tie.Need-same-length-2
-same-length-2 c = simp length_set c.before.before.before.before.before.turn-entries.auto.1.1.1.1.1.1.1.1.0
+same-length-2 c = simp length-set c.before.before.before.before.before.turn-entries.auto.1.1.1.1.1.1.1.1.0
 
 returns : tie.Need-returns
 returns c =

@@ -5,7 +5,7 @@ use Prim.Native.Nat.{ℕ, ◌+◌, ◌-◌, ◌≤◌, ◌<◌}
 use mathlib.Core.Path.{◌≡◌, refl, sym, ap, ap₂, ◌∙◌, subst}
 use native.Mathlib.Omega.{arith}
 use lib.IntN.{pos, ◌+ℤ◌, ◌*ℤ◌}
-use lib.ListN.{length, get_or, length_set}
+use lib.ListN.{length, get_or, length-set}
 use mir.Syntax.{w64}
 use mir.Val.{SFits, to_z, of_z}
 use mir.Facts.{to_z-of_z}
@@ -107,7 +107,7 @@ loop-again c =
     let h : l.k < a.entries = omega (arith, c.before.before.before.before.before.before.before.before.before.before.before.before.requires.0.ends.inside) in (
       omega arith,
       omega arith,
-      simp length_set l.invariant.2,
+      simp length-set l.invariant.2,
       subst (λ (j : ℕ). Turned t a.current.now a.i (l.k + 1) a.changes.now (set l.changes j z)) (sym c.before.before.before.before.before.wide.ensures)
           (turned_more t a.current.now a.i l.k a.changes.now l.changes l.invariant.3 (row_is c) (c.before.before.before.before.before.before.before.before.before.before.before.before.requires.0.usable.in_range.cols_in l.k h) z
           (omega (arith, c.before.before.before.before.before.before.before.before.before.before.before.before.requires.0.usable.in_range.cols_in l.k h, l.invariant.2, c.before.before.before.before.before.before.before.before.before.before.before.before.requires.0.changes_are.many)) (to_z-of_z (add-changes c) ∙ added c)),

@@ -1,0 +1,32 @@
+-- `ieee::root::is_root` meets its contract. Assumes nothing.
+use Rattle.std.proofs.Common.{◌≡◌, ℕ, ◌+◌, ◌-◌, ◌*◌, ◌%◌, ◌^◌, T, sym, ap, ◌∙◌, subst, arith}
+use lib.Ieee.{binary64, of_bits, to_bits}
+use lib.Ieee.Bits.{of_bits-to_bits}
+use Rattle.laws.proofs.Any.{never}
+use Rattle.ieee.proofs.Nans.{equal_itself}
+use Rattle.ieee.proofs.Patterns.{root_pattern}
+use Rattle.ieee.proofs.Halves.{Halved, halved}
+use Rattle.ieee.proofs.root.is_root.Goals as goal
+
+pub returns-then-f : goal.returns-then-f
+returns-then-f c e = never e
+
+pub float_to_bits-bits : goal.float_to_bits-bits
+float_to_bits-bits c = equal_itself _ c.if-f.false
+
+pub returns-then-bits-s : goal.returns-then-bits-s
+returns-then-bits-s c e = never e
+
+pub is_rounded-requires : goal.is_rounded-requires
+is_rounded-requires c = (omega arith, omega arith)
+
+pub returns : goal.returns
+returns c e =
+    let held : of_bits binary64 (to_bits binary64 c.args.f) ≡ c.args.f =
+    of_bits-to_bits binary64 c.args.f (subst T (sym c.well_formed.1.0.1) tt) in
+    let s = c.scaled-s.ensures in
+    let bits = to_bits binary64 c.args.f in
+    let half : Halved _ (bits % 2 ^ 52 + 2 ^ 52) = halved (omega arith) (c.is_rounded.ensures e) in
+    sym (held)
+    ∙ ap (of_bits binary64) (c.if-bits-s.false ∙ ap (λ (y : ℕ). (c.scaled-s.result.h - 26) * 2 ^ 52 + y) (sym half.half))
+    ∙ (root_pattern c.requires.0 c.requires.1 s half.root).1

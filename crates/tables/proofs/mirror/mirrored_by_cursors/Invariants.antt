@@ -1,0 +1,14 @@
+-- `tables::mirror::mirrored_by_cursors` meets its contract.
+use mathlib.Core.Path.{◌≡◌}
+use mathlib.Core.Bool.{false, not}
+use Prim.Native.Nat.{◌≤◌, ◌-◌}
+use Rattle.laws.specs.Lists.{any_below}
+use Rattle.tables.specs.Table.{table_of}
+use Rattle.tables.specs.Check.{is_mirror}
+use Rattle.tables.proofs.mirror.mirrored_by_cursors.Given as goal
+
+abbrev pub invariant-loop-k : goal.invariant-loop-k
+invariant-loop-k l = (l.k ≤ l.count) × (any_below l.k (λ j. not (any_below l.count (is_mirror (table_of l.count l.rows l.cols l.values) j))) ≡ false)
+
+abbrev pub decreases-loop-k : goal.decreases-loop-k
+decreases-loop-k l = l.count - l.k

@@ -1,0 +1,12 @@
+-- `tables::objective::floor_eighths` meets its contract.
+use Rattle.tables.specs.Table.{table_of, floor_term}
+use Rattle.laws.specs.Sum as S
+use Prim.Native.Nat.{◌≤◌, ◌-◌}
+use mathlib.Core.Path.{◌≡◌}
+use Rattle.tables.proofs.objective.floor_eighths.Given as goal
+
+abbrev pub invariant-loop-k : goal.invariant-loop-k
+invariant-loop-k l = (l.k ≤ l.count) × (l.sum ≡ S.sum l.k (floor_term (table_of l.count l.rows l.cols l.values)))
+
+abbrev pub decreases-loop-k : goal.decreases-loop-k
+decreases-loop-k l = l.count - l.k
