@@ -1,4 +1,6 @@
 // Blocks of wagons searched one after the other, then all wagons that aren't pinned (02, Note 6); a pinned wagon never moves (Note 10).
+#![tactic(auto)]
+
 mod blocks; // blocks.rt: the first choice, the blocks in turn, the house
 pub mod check; // check.rt: the numbers
 mod search; // search.rt: one search, all other wagons held

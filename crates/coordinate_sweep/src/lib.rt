@@ -1,4 +1,6 @@
 // Rules 3 and 4: one coordinate sweep, each operation rounded once (001, `coordinate_sweep`), with a count of the rows it leaves.
+#![tactic(auto)]
+
 mod pairs; // pairs.rt: two rows at once
 
 ghost use Rattle.std.specs.Prelude.{◌≡◌, false, cond, ◌+◌, ◌*◌, ◌≤◌, ◌<◌, length, replicate};

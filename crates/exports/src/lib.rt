@@ -1,5 +1,7 @@
 // Every public call as C makes it (include/wagonplan.h): slices as a pointer and a length, the number as the result, values through what is lent for
 // them. None has a `requires`.
+#![tactic(auto)]
+
 pub mod blocks; // blocks.rt: blocks of wagons, then the house
 pub mod choices; // choices.rt: the calls on choices in words
 pub mod exchange; // exchange.rt: another rule for a run that is open

@@ -1,5 +1,7 @@
 // The factor's rows and what is made of them, each operation rounded once. A slice is as long as what it holds: whoever
 // lends a longer one cuts it to length.
+#![tactic(auto)]
+
 pub mod sums; // sums.rt: dot products, sums and squared norms
 pub mod rows; // rows.rt: a row at a time, and the projection
 pub mod block4; // block4.rt: 4 columns of a row of the table times the factor

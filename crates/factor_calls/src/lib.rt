@@ -1,5 +1,7 @@
 // The calls on a sign table given directly that take a factor. None has a `requires`: what can't be used is refused by its number, and a
 // refusal writes nothing.
+#![tactic(auto)]
+
 mod numbers;
 mod whole; // whole.rt: the multipliers over the whole table, divided or not
 

@@ -1,5 +1,7 @@
 // What a run gives at its finish (000: `solve_maxcut_sdp_profiled` and `solve_qubo_sdp_subproblem` after the sweeps), for an accepted (H, c) and
 // accepted settings.
+#![tactic(auto)]
+
 mod choice; // choice.rt: the rounded choice, the search from it, and what its answer decodes to
 pub mod multipliers; // multipliers.rt: the multipliers with the diagonal added, and the diagonal's sum
 pub mod room; // room.rt: local arrays

@@ -1,4 +1,5 @@
 // The factor that a run starts from (000 and 004, `prepare_initial_factor`).
+#![tactic(auto)]
 
 ghost use Rattle.std.specs.Prelude.{◌≡◌, ◌*◌, ◌≤◌, length};
 ghost use Rattle.std.specs.Float.Ieee as Ieee;

@@ -1,1 +1,2 @@
 // A job record written from values, and read back: definitions and proofs only.
+#![tactic(auto)]

@@ -1,6 +1,8 @@
 // A job reader: the record's bytes and how far it has read (01, "Job and answer records"). `take` reads the next field and
 // moves on; it takes the reader apart and leaves the work to `field_at`, on a slice and a number. Whoever reads makes a reader
 // at a place and takes one field after the other (`job_record::reading`).
+#![tactic(auto)]
+
 ghost use Rattle.std.specs.Prelude.{◌≡◌, ◌+◌, ◌≤◌, ◌<◌, ◌^◌, length};
 ghost use Rattle.job_reader.specs.Bytes.{big_endian, field_at, place_after, value_of, moved_on};
 

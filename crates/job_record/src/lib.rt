@@ -1,4 +1,6 @@
 // The job record: its number, its fields, and its tables read into slices.
+#![tactic(auto)]
+
 pub mod arrays;
 pub mod job;
 pub mod number;

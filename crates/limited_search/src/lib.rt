@@ -1,4 +1,6 @@
 // The search from a present choice of which at most k wagons are moved (02, Note 13).
+#![tactic(auto)]
+
 mod check;
 mod search;
 

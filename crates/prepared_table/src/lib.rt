@@ -1,4 +1,5 @@
 // The table of a call, prepared for the float work (000, `separate_diagonal`).
+#![tactic(auto)]
 
 ghost use Rattle.std.specs.Prelude.{◌≡◌, true, cond, ◌+◌, ◌≤◌, ◌<◌, eqb, nat_abs, length};
 ghost use Rattle.laws.specs.Lists.{elem, elem_z, over, put_if, next_if, kept};

@@ -1,4 +1,6 @@
 // A finish over costs known within ranges (02, Note 8): on the high table, with the choice's figures at both ends and the low table's floor.
+#![tactic(auto)]
+
 mod figures; // figures.rt: the floor of (H, c)
 pub mod finish; // finish.rt: the call
 mod number; // number.rt: the call's number

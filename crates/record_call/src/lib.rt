@@ -1,4 +1,6 @@
 // The record call: a job's bytes in, the answer's bytes and a number out (01, "Job and answer records").
+#![tactic(auto)]
+
 mod run; // run.rt: an accepted job's open, sweeps and finish
 
 ghost use Rattle.std.specs.Prelude.{◌≡◌, ◌≤◌, length};

@@ -1,4 +1,5 @@
 // The rounding of draws: each draw's signs, and the first draw of least objective (002, `compute_rounded_sol`).
+#![tactic(auto)]
 
 ghost use Rattle.std.specs.Prelude.{◌≡◌, ◌++◌, ◌+◌, ◌*◌, ◌≤◌, ◌<◌, length, drop};
 ghost use Rattle.std.specs.Float.Ieee as Ieee;

@@ -1,4 +1,6 @@
 // The gradient of a row for rules 3 and 4, each operation rounded once (001, `gradient_block`): by blocks of columns, whose sums stay in registers.
+#![tactic(auto)]
+
 mod block4; // block4.rt: 4 columns of a row's gradient
 mod block8; // block8.rt: 8 columns
 mod block16; // block16.rt: 16 columns

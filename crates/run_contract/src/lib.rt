@@ -1,5 +1,7 @@
 // What the calls of a run answer. What they promise is in specs/Calls.antt; 01's plain run is in specs/PlainRun.antt, and the theorem on whole
 // lists of calls in proofs/OnLists.antt. No code.
+#![tactic(auto)]
+
 use run_record::Run;
 
 #[derive(Drop)]

@@ -1,4 +1,6 @@
 // What jobs, runs and direct calls mean alike: the rank that a given one means, momentum, the numbers that a start takes.
+#![tactic(auto)]
+
 ghost use Rattle.std.specs.Prelude.{◌≡◌, ◌≤◌};
 ghost use Rattle.limits.specs.Limits.{most_signs, most_rank, most_start};
 ghost use Rattle.run_limits.specs.Rank.{rank_meant};

@@ -1,5 +1,7 @@
 // The run record, and the numbers that open, sweep and finish answer, judged before anything is written (01, "Run",
 // "Numbers from the state").
+#![tactic(auto)]
+
 pub mod lengths;
 pub mod numbers;
 

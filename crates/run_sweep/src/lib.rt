@@ -1,5 +1,7 @@
 // Sweeps up to k over the table of a call, with the schedule of checks and the stops (000, the loop of
 // `solve_maxcut_sdp_profiled`).
+#![tactic(auto)]
+
 pub mod check;
 
 ghost use Rattle.std.specs.Prelude.{◌≡◌, ◌*◌, ◌≤◌, ◌<◌, length};

@@ -1,4 +1,6 @@
 // `beam_search` of sdp_local_search.rs as a call on a sign table given directly, in whole eighths.
+#![tactic(auto)]
+
 mod check;
 mod signs;
 

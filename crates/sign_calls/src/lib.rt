@@ -1,4 +1,6 @@
 // The calls on choices in words. Neither has a `requires`: what can't be used is refused by its number, and a refusal writes nothing.
+#![tactic(auto)]
+
 mod numbers;
 
 ghost use Rattle.std.specs.Prelude.{◌≡◌};
