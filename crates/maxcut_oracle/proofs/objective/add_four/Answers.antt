@@ -3,14 +3,12 @@ use Prim.Native.Nat.{ℕ, ◌+◌}
 use mathlib.Core.Path.{◌≡◌}
 use mathlib.Core.List.{List}
 use native.Mathlib.Omega.{arith}
-use borrow.Author.Rules.{rules}
 use borrow.Author.Tests.{ne_eqb, lt-ltb}
 use lib.Ieee.{Float}
 use lib.ListN.{get_or}
 use Rattle.ieee.specs.Floats.{◌+ᶠ◌, ◌*ᶠ◌, at, two64}
 use Rattle.maxcut_oracle.specs.Objective.{Above, FourAbove, obj_turn, obj_four, pair_dot}
-use Rattle.maxcut_oracle.proofs.objective.add_four.Statement.{statement}
-use Rattle.maxcut_oracle.proofs.objective.add_four.Tie as tie
+use Rattle.maxcut_oracle.proofs.objective.add_four.Goals as goal
 
 module _ (rows cols : List ℕ) (values factor : List Float) (rank : ℕ) where
   -- an entry above the diagonal
@@ -29,20 +27,8 @@ module _ (rows cols : List ℕ) (values factor : List Float) (rank : ℕ) where
       let i = get_or rows e 0 in
       rw (turn i e _ p f.first hp, turn i (e + 1) _ q f.second hq, turn i (e + 2) _ r f.third hr, turn i (e + 3) _ s f.fourth hs)
 
-dots-of-four-requires : tie.Need-dots-of-four-requires
-dots-of-four-requires c κs =
-    let pre = c.before.before.before.before.before.requires in
-    ((omega arith, rw c.index_at.ensures (pre.1.0 _ (omega arith))), pre.1.1)
+pub dots_of_four-dots-requires : goal.dots_of_four-dots-requires
+dots_of_four-dots-requires c = record { e_in_bounds = (omega arith, rw c.index_at.ensures (c.requires.columns_within _ (omega arith))); columns_within = c.requires.columns_within_2 }
 
-returns : tie.Need-returns
-returns c =
-    let pre = c.before.before.before.before.before.before.before.before.before.before.before.before.before.before.requires in
-    turns _ _ _ _ _ _ _ _ _ _ _ pre.0.2 (rw c.before.before.before.before.before.before.before.before.before.index_at.ensures at c.before.before.before.before.before.before.before.before.dots-of-four.ensures.0) (rw c.before.before.before.before.before.before.before.before.before.index_at.ensures at c.before.before.before.before.before.before.before.before.dots-of-four.ensures.1) (rw c.before.before.before.before.before.before.before.before.before.index_at.ensures at c.before.before.before.before.before.before.before.before.dots-of-four.ensures.2) (rw c.before.before.before.before.before.before.before.before.before.index_at.ensures at c.before.before.before.before.before.before.before.before.dots-of-four.ensures.3)
-
-pub add-four-spec : {M : Type 1} → statement M
-add-four-spec =
-    tie.close
-    (tie.spec
-    (λ c κs. search rules) dots-of-four-requires (λ c. search rules) (λ c. search rules) (λ c. search rules)
-    (λ c. search rules) (λ c. search rules) (λ c. search rules) (λ c. search rules) (λ c. search rules)
-    (λ c. search rules) (λ c. search rules) (λ c. search rules) returns)
+pub returns : goal.returns
+returns c = turns _ _ _ _ _ _ _ _ _ _ _ c.requires.rows_len.2 (rw c.index_at.ensures at c.dots_of_four-dots.ensures.0) (rw c.index_at.ensures at c.dots_of_four-dots.ensures.1) (rw c.index_at.ensures at c.dots_of_four-dots.ensures.2) (rw c.index_at.ensures at c.dots_of_four-dots.ensures.3)
