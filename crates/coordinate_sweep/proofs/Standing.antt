@@ -1,16 +1,14 @@
 -- Rows left as they were: of a pair, of the rows up to one, and never more than there are. Assumes nothing.
-use mathlib.Core.Path.{◌≡◌, refl, sym, ◌∙◌}
+use mathlib.Core.Path.{◌≡◌, refl, ◌∙◌}
 use mathlib.Core.Bool.{Bool, true, false, cond}
 use mathlib.Core.List.{List}
 use Prim.Native.Nat.{ℕ, zero, suc, ◌+◌, ◌*◌, ◌≤◌}
 use native.Mathlib.Numerals.{add-one}
 use native.Mathlib.Omega.{arith}
-use lib.Ieee
 use lib.Ieee.{Float}
 use lib.ListN.{length}
 use Rattle.laws.specs.Rows.{row_of}
 use Rattle.laws.proofs.Parts.{length_row_of}
-use Rattle.ieee.specs.Floats.{tiny}
 use Rattle.ieee.specs.Sqrt.{sqrt_of}
 use Rattle.factor.specs.Norms.{squared_norm}
 use Rattle.coordinate_sweep.specs.Sweep.{wrote, update_row, gradient_at, row_to, row_by, swept_row, sweep_to, norm_at, stands, standing_to, meets_next}

@@ -22,7 +22,7 @@ use Rattle.laws.proofs.Any.{below_false}
 use Rattle.laws.proofs.MapFirst.{length_map_first}
 use Rattle.laws.proofs.Made.{tabulate_ext, below_or_not}
 use Rattle.laws.proofs.Parts.{row_within, length_row_of}
-use Rattle.ieee.specs.Floats.{◌/ᶠ◌, at, zero64, one64}
+use Rattle.ieee.specs.Floats.{◌/ᶠ◌, zero64, one64}
 use Rattle.ieee.specs.Sqrt.{sqrt_of}
 use Rattle.factor.specs.Shapes.{Shaped}
 use Rattle.factor.specs.Norms.{squared_norm}

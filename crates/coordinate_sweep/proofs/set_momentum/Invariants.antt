@@ -1,0 +1,13 @@
+-- `coordinate_sweep::set_momentum` meets its contract. The first j elements are rewritten. Assumes nothing.
+use mathlib.Core.Path.{◌≡◌}
+use Prim.Native.Nat.{◌≤◌, ◌-◌}
+use lib.ListN.{length}
+use Rattle.ieee.specs.Floats.{◌+ᶠ◌, ◌-ᶠ◌, ◌*ᶠ◌, at, one64}
+use Rattle.laws.specs.Rows.{map_first}
+use Rattle.coordinate_sweep.proofs.set_momentum.Given as goal
+
+abbrev pub invariant-loop-j : goal.invariant-loop-j
+invariant-loop-j l = (l.j ≤ length l.initial.row) × (length l.row ≡ length l.initial.row) × (l.row ≡ map_first (λ k old. (one64 +ᶠ l.beta) *ᶠ (at l.g k *ᶠ l.inv) -ᶠ l.beta *ᶠ old) l.j l.initial.row)
+
+abbrev pub decreases-loop-j : goal.decreases-loop-j
+decreases-loop-j l = length l.initial.row - l.j
