@@ -8,14 +8,14 @@ use mathlib.Core.Bool.{Bool, true, false, cond}
 use mathlib.Core.List.{List, [], ◌∷◌, ◌++◌}
 use Prim.Native.Nat.{ℕ, zero, suc, ◌+◌, ◌*◌, ◌<◌, ◌≤◌}
 use native.Mathlib.Decide.{ℕ_discrete}
-use native.Mathlib.Nat.{le_refl, le_antisymm}
+use native.Mathlib.Nat.{le_antisymm}
 use native.Mathlib.Omega.{arith}
 use borrow.Author.Tests.{lt-ltb, le-ltb}
 use lib.ListN.{length, get_or, length-append, length-map, get_or-append}
 use lib.Seq.{get_or-append_seam}
 use lib.Dec.{ltb}
-use lib.IntN.{ℤ, pos}
-use Rattle.laws.specs.Lists.{elem, tabulate, kept, only_if}
+use lib.IntN.{pos}
+use Rattle.laws.specs.Lists.{elem, kept, only_if}
 use Rattle.laws.proofs.Any.{never}
 use Rattle.laws.proofs.Made.{below_or_not, tabulate_get_d, kept_lengths}
 use Rattle.tables.specs.Table.{Table, Before, InRange, Rising, value_at}

@@ -3,7 +3,7 @@
 use mathlib.Core.Path.{◌≡◌, refl, sym, ◌∙◌, ap, ap₂}
 use mathlib.Core.Logic.{◌⊎◌, inl, inr}
 use mathlib.Core.Bool.{Bool, true, false, cond}
-use mathlib.Core.List.{List, [], ◌++◌, append-nil}
+use mathlib.Core.List.{List, ◌++◌, append-nil}
 use Prim.Native.Nat.{ℕ, zero, suc, ◌+◌, ◌-◌, ◌<◌, ◌≤◌}
 use native.Mathlib.Omega.{arith}
 use native.Mathlib.Nat.{zero-add}
@@ -13,11 +13,11 @@ use lib.ListN.{length, drop, set, replicate, length-replicate}
 use lib.Seq.{sets, sets-eq, set-set}
 use lib.Dec.{ltb}
 use lib.IntN.{ℤ, pos}
-use Rattle.laws.specs.Lists.{elem, elem_z, kept, over, fill, only_if, put_if, next_if}
+use Rattle.laws.specs.Lists.{elem, kept, over, fill, only_if, put_if, next_if}
 use Rattle.laws.proofs.Any.{never}
 use Rattle.laws.proofs.Made.{below_or_not, length_kept, kept_lengths, kept_next, kept_count}
 use Rattle.laws.proofs.MapFirst.{get_d_map_first}
-use Rattle.tables.specs.Table.{Table, InRange}
+use Rattle.tables.specs.Table.{Table}
 use Rattle.tables.specs.Stored.{Wrote, Room}
 use Rattle.tables.specs.Check.{Hall}
 use Rattle.limits.specs.Limits.{most_wagons, most_entries}

@@ -29,6 +29,7 @@ start_le (r ∷ rows) i = omega (arith, past_le (ltb r i) (row_start rows i), st
 
 pub start_most : (rows : List ℕ) (i e : ℕ) → e < length rows → i ≤ get_or rows e 0 → row_start rows i ≤ e
 unfolding row_start
+start_most [] i e h l = elim h [ ]
 start_most (r ∷ rows) i zero h l = rw (le-ltb r i l) zero-le
 start_most (r ∷ rows) i (suc e) h l =
     omega (arith, past_le (ltb r i) (row_start rows i), start_most rows i e (omega arith) l)
@@ -39,6 +40,7 @@ more_past false n e h k = omega arith
 
 pub start_more : (rows : List ℕ) (i e : ℕ) → e < length rows → get_or rows e 0 < i → e ≤ row_start rows i → e + 1 ≤ row_start rows i
 unfolding row_start
+start_more [] i e h l k = elim h [ ]
 start_more (r ∷ rows) i zero h l k = rw (lt-ltb r i l) (omega arith)
 start_more (r ∷ rows) i (suc e) h l k =
     more_past (ltb r i) (row_start rows i) e k (start_more rows i e (omega arith) l)

@@ -1,7 +1,7 @@
 -- What holds where a call is accepted, and how what it leaves is put together.
 -- Assumes nothing.
 use mathlib.Core.Path.{◌≡◌, refl, sym, ap, ◌∙◌}
-use mathlib.Core.Bool.{Bool, false}
+use mathlib.Core.Bool.{false}
 use mathlib.Core.List.{List, ◌++◌}
 use Prim.Native.Nat.{ℕ, ◌*◌, ◌≤◌, ◌<◌}
 use native.Mathlib.Omega.{arith}
@@ -10,8 +10,7 @@ use lib.Bits.{bit_xor}
 use lib.Count.{ones}
 use lib.ListN.{length, take, drop}
 use lib.Seq.{length-take-le, get_or-take}
-use Rattle.laws.specs.Lists.{elem, over}
-use Rattle.laws.specs.Refusal.{short}
+use Rattle.laws.specs.Lists.{elem}
 use Rattle.laws.specs.Sum.{total}
 use Rattle.laws.proofs.Any.{any_head, any_rest, any_not, any_none}
 use Rattle.laws.proofs.Refusal.{clear, first_skip, first_end}

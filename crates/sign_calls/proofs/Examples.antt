@@ -1,7 +1,6 @@
 -- Choices of two words and of four, computed.
-use Prim.Native.Nat.{ℕ}
 use mathlib.Core.Path.{◌≡◌, refl}
-use mathlib.Core.List.{List, [], ◌∷◌, ◌++◌, map}
+use mathlib.Core.List.{[], ◌∷◌, ◌++◌, map}
 use lib.ListN.{replicate}
 use Rattle.laws.specs.Lists.{tabulate}
 use Rattle.laws.specs.Refusal.{or_else, first, any_of, short}

@@ -2,7 +2,7 @@
 -- (`unpacked_back`, `same_back`) and leave unused bits 0 (`unused_zero`); and of two of them `distance` answers the number of signs in which the
 -- choices differ (`packed_distance`). Assumes nothing.
 use mathlib.Core.Path.{◌≡◌, refl, sym, ap, ◌∙◌, subst}
-use mathlib.Core.Bool.{Bool, false}
+use mathlib.Core.Bool.{false}
 use mathlib.Core.List.{List}
 use Prim.Native.Nat.{ℕ, ◌*◌, ◌/◌, ◌≤◌, ◌<◌}
 use native.Mathlib.Omega.{arith}

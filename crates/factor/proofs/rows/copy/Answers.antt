@@ -1,0 +1,19 @@
+-- `factor::rows::copy` meets its contract. The first j elements are copied. Assumes nothing.
+use mathlib.Core.Path.{◌≡◌, ◌∙◌}
+use native.Mathlib.Omega.{arith}
+use borrow.Author.Rules.{rules}
+use lib.Ieee.{nan}
+use lib.ListN.{length, length-set}
+use Rattle.laws.proofs.MapFirst.{map_first_next, map_first_copy}
+use Rattle.laws.specs.Rows.{map_first}
+use Rattle.factor.proofs.rows.copy.Goals as goal
+
+pub loop-j-init : goal.loop-j-init
+unfolding map_first
+loop-j-init c = search rules
+
+pub loop-j-preserved : goal.loop-j-preserved
+loop-j-preserved c = (omega arith, simp length-set (omega arith), map_first_next _ _ _ _ nan c.loop-j.invariant.2)
+
+pub returns : goal.returns
+returns c = let e : c.loop-j.j ≡ length c.args.out.now = omega arith in (rw e at c.loop-j.invariant.2) ∙ map_first_copy nan c.args.out.now c.args.source.now c.requires

@@ -1,0 +1,13 @@
+-- `factor::rows::copy` meets its contract. The first j elements are copied. Assumes nothing.
+use mathlib.Core.Path.{◌≡◌}
+use Prim.Native.Nat.{◌≤◌, ◌-◌}
+use lib.ListN.{length}
+use Rattle.ieee.specs.Floats.{at}
+use Rattle.laws.specs.Rows.{map_first}
+use Rattle.factor.proofs.rows.copy.Given as goal
+
+abbrev pub invariant-loop-j : goal.invariant-loop-j
+invariant-loop-j l = (l.j ≤ length l.initial.out) × (length l.out ≡ length l.initial.out) × (l.out ≡ map_first (λ k x. at l.source k) l.j l.initial.out)
+
+abbrev pub decreases-loop-j : goal.decreases-loop-j
+decreases-loop-j l = length l.initial.out - l.j

@@ -1,0 +1,17 @@
+-- `table_calls::halls::cost_short` meets its contract.
+use mathlib.Core.Path.{sym, ◌∙◌}
+use Rattle.laws.proofs.Any.{any_here, any_skip, any_last}
+use Rattle.table_calls.specs.Numbers.{cost_short}
+use Rattle.table_calls.proofs.halls.cost_short.Goals as goal
+
+pub returns-then-short_table : goal.returns-then-short_table
+unfolding cost_short
+returns-then-short_table c = sym (any_here _ _ (sym c.short_table.ensures ∙ c.if-short_table.true))
+
+pub returns-then-too_short : goal.returns-then-too_short
+unfolding cost_short
+returns-then-too_short c = sym (any_skip _ _ (sym c.short_table.ensures ∙ c.if-short_table.false) ∙ any_here _ _ (sym c.too_short.ensures ∙ c.if-too_short.true))
+
+pub returns : goal.returns
+unfolding cost_short
+returns c = c.too_short-2.ensures ∙ sym (any_skip _ _ (sym c.short_table.ensures ∙ c.if-short_table.false) ∙ any_skip _ _ (sym c.too_short.ensures ∙ c.if-too_short.false) ∙ any_last _)
