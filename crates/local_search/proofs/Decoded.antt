@@ -6,12 +6,11 @@ use mathlib.Core.List.{List, [], ◌∷◌, ◌++◌, map, map-append}
 use mathlib.Core.Path.{◌≡◌, refl, sym, ap, ap₂, ◌∙◌, subst}
 use lib.IntN.{ℤ, pos, ◌+ℤ◌}
 use lib.Signed.{lt_z}
-use lib.ListN.{length, take, drop, get_or, length-map, length-take, length-drop}
-use lib.Seq.{length-take-le}
+use lib.ListN.{length, take, drop, get_or, length-map}
 use Rattle.laws.specs.Lists.{over}
 use Rattle.local_search.specs.LocalSearch.{All, insert, keep_best, best, children_of}
-use Rattle.sign_words.specs.Packed.{unpacked, flip_in, Tidy}
-use Rattle.local_search.specs.Level.{Choice, below, flip_sign, child_of, word_child, rows, choices, level_of, decoded, sign_level, Ascending, TidyChoice, TidyLevel}
+use Rattle.sign_words.specs.Packed.{Tidy}
+use Rattle.local_search.specs.Level.{Choice, below, child_of, word_child, level_of, decoded, sign_level, Ascending, TidyChoice, TidyLevel}
 use Rattle.local_search.specs.SignSearch.{improving, improves_c, flip_c, children_c, child_at}
 use Rattle.local_search.specs.Children.{change_of, flip_w, listed_children, parent_of, better, Kept, Appended}
 use Rattle.local_search.proofs.LevelLaws.{level_empty, length_level_of, objectives_of, objectives_are, level_copied}
@@ -19,7 +18,7 @@ use Rattle.local_search.proofs.All.{all_append, all_take}
 use Rattle.local_search.proofs.SearchLaws.{all_insert}
 use Rattle.local_search.proofs.OrderLaws.{rising_keep}
 use Rattle.local_search.proofs.ExpandLaws.{choice_at, all_choices, parent_is}
-use Rattle.sign_words.proofs.PackedLaws.{unpacked_flip, length_unpacked, tidy_flip}
+use Rattle.sign_words.proofs.PackedLaws.{unpacked_flip, tidy_flip}
 
 module _ (m : ℕ) where
   take_map : (w : ℕ) (l : List Choice) → map (decoded m) (take w l) ≡ take w (map (decoded m) l)

@@ -1,5 +1,5 @@
 -- The parts of the call's contract. Assumes nothing.
-use Prim.Native.Nat.{ℕ, zero, suc, ◌-◌, ◌+◌, ◌<◌}
+use Prim.Native.Nat.{ℕ, zero, suc, ◌-◌, ◌<◌}
 use native.Mathlib.Omega.{arith}
 use mathlib.Core.List.{List, ◌++◌}
 use mathlib.Core.Path.{◌≡◌, ap, ap₂, ◌∙◌}
@@ -10,7 +10,6 @@ use Rattle.laws.specs.Lists.{elem, over}
 use Rattle.tables.specs.Table.{Table}
 use Rattle.sign_words.specs.Signs.{Binary}
 use Rattle.sign_words.proofs.PackedLaws.{tabulate_binary}
-use Rattle.local_search.specs.LocalSearch.{Found}
 use Rattle.sign_search.specs.Search.{objective_in, beam_search}
 use mir.Syntax.{w64}
 use mir.Val.{to_z, of_z}

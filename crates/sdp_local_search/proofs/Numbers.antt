@@ -1,6 +1,5 @@
 -- What holds of the slices where 31 is not answered, and of the table where no number is. Assumes nothing.
 use Prim.Native.Nat.{ℕ, ◌≤◌}
-use native.Mathlib.Omega.{arith}
 use borrow.Author.Tests.{ltb-false, le-ltb}
 use mathlib.Core.Bool.{Bool, false}
 use mathlib.Core.List.{List}

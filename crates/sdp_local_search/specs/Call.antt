@@ -1,7 +1,7 @@
 -- What `beam_search` answers and leaves in the slices lent to it.
 use Rattle.std.specs.Prelude.{ℕ, List, ◌≡◌, ℤ, length, drop}
 use Rattle.laws.specs.Lists.{over}
-use Rattle.tables.specs.Table.{Table, table_of}
+use Rattle.tables.specs.Table.{table_of}
 use Rattle.local_search.specs.LocalSearch.{Found}
 use Rattle.sign_search.specs.Search.{objective_in, beam_search}
 use Rattle.sdp_local_search.specs.BeamSearch.{Limits, search_short, search_refusal, sign_bytes}

@@ -75,6 +75,8 @@ cleared m l l' room e = record { zero_at = λ i h. rw e (get_d_map_first (λ j _
 filled : (f : ℕ → ℤ) (m : ℕ) (l l' : List ℤ) → m ≤ length l' → length l' ≡ length l → ((i : ℕ) → i < m → get_or l' i (pos 0) ≡ f i) → drop m l' ≡ drop m l
     → l' ≡ fill f m l
 unfolding map_first
+filled f (suc m) [] [] room e is tail = elim room [ ]
+filled f (suc m) (x ∷ xs) [] room e is tail = elim room [ ]
 filled f zero l l' room e is tail = tail
 filled f (suc m) [] (y ∷ ys) room e is tail = let o : ◌≡◌ {A = ℕ} (suc (length ys)) 0 = e in absurd (omega arith)
 filled f (suc m) (x ∷ xs) (y ∷ ys) room e is tail =

@@ -7,7 +7,6 @@ use lib.ListN.{length}
 use Rattle.sign_words.specs.Signs.{flip_sign, Binary}
 use Rattle.sign_words.specs.Packed.{unpacked, packed, flip_in}
 use Rattle.sign_words.proofs.PackedLaws.{unpacked_packed, flip_packed, binary_flip}
-use Rattle.local_search.specs.LocalSearch.{searched}
 use Rattle.local_search.specs.SignSearch.{lower, improving, improves, sign_search}
 use Rattle.local_search.proofs.LevelLaws.{flipped_length}
 use Rattle.local_search.proofs.Same.{All2, same_searched}

@@ -6,7 +6,7 @@ use native.Mathlib.Omega.{arith}
 use borrow.Author.Tests.{eq-eqb, ne_eqb}
 use lib.Dec.{eqb}
 use mathlib.Core.Logic.{⊎_elim}
-use mathlib.Core.Bool.{Bool, true, false, cond, not}
+use mathlib.Core.Bool.{Bool, true, false, cond}
 use mathlib.Core.List.{List}
 use mathlib.Core.Path.{◌≡◌, refl, sym, ap, ap₂, ◌∙◌}
 use lib.IntN.{ℤ, pos, negsuc, neg_ℤ, nat_abs, ◌+ℤ◌, ◌-ℤ◌, ◌*ℤ◌, *ℤ-zero, +ℤ_idr, +ℤ_assoc}
@@ -18,11 +18,11 @@ use Rattle.laws.specs.Sum.{sum, only}
 use Rattle.laws.proofs.Integer.{parts, differences, ring, square_one, times_one, abs_add, abs_mul, fits_abs}
 use Rattle.laws.proofs.Sums.{sum_more, sum_ext, sum_zero, sum_add, sum_scale, sum_only, sum_bounded}
 use Rattle.limits.specs.Limits.{most_sign_magnitude}
-use Rattle.tables.specs.Table.{Table, Symmetric, SignVector, Rising, magnitude_of, value_at, sign, sign_at}
+use Rattle.tables.specs.Table.{Table, Symmetric, SignVector, Rising, magnitude_of, value_at, sign_at}
 use Rattle.tables.specs.Flip.{flipped, flip_change, flip_term}
 use Rattle.tables.proofs.Flips.{flip_entries}
 use Rattle.tables.proofs.Shares.{abs_sign, sign_vector}
-use Rattle.local_search.specs.Level.{flip_byte, flip_sign}
+use Rattle.local_search.specs.Level.{flip_sign}
 use Rattle.local_search.proofs.LevelLaws.{flipped_length}
 use Rattle.sign_search.specs.Search.{change_in, Mirrors}
 use Rattle.sign_search.specs.Clauses.{SumsFit, Sound, Changes, RowStart, Turned, turn_weight, turn_term, Climbs}

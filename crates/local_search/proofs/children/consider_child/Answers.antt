@@ -1,0 +1,40 @@
+use borrow.Author.Rules.{sfits_of}
+use native.Mathlib.Omega.{arith}
+use mathlib.Core.Bool.{true}
+use mathlib.Core.Path.{◌≡◌, refl, ap₂, ◌∙◌}
+use lib.IntN.{pos, ◌+ℤ◌}
+use lib.ListN.{take, get_or}
+use mir.Facts.{to_z-of_z}
+use mir.Syntax.{w64}
+use mir.Val.{to_z, of_z}
+use Rattle.local_search.specs.SignSearch.{improves_c}
+use Rattle.local_search.specs.Children.{change_of, parent_of}
+use Rattle.local_search.proofs.ExpandLaws.{child_kept, no_child}
+use Rattle.local_search.proofs.EntersMeans.{room_missed}
+use Rattle.local_search.proofs.children.consider_child.Goals as goal
+
+pub overflow_add-objective : goal.overflow_add-objective
+overflow_add-objective c =
+    let changed : let a = c.args in to_z w64 (of_z w64 (get_or a.changes.now a.i (pos 0))) ≡ get_or a.changes.now a.i (pos 0) =
+    to_z-of_z {w = w64} (sfits_of c.d-1.given) in
+    rw (to_z-of_z c.ranges.objective, changed) (c.requires.0.safe c.args.i (omega arith))
+
+pub returns-then-d-lt0 : goal.returns-then-d-lt0
+returns-then-d-lt0 c =
+    let changed : let a = c.args in to_z w64 (of_z w64 (get_or a.changes.now a.i (pos 0))) ≡ get_or a.changes.now a.i (pos 0) =
+    to_z-of_z {w = w64} (sfits_of c.d-1.given) in
+    let a = c.args in
+    let change = change_of a.changes.now in
+    let parent = parent_of a.objective a.parent.now in
+    let exists : improves_c change parent a.i ≡ true = rw (changed) at c.if-d-lt0.true in
+    let added = to_z-of_z {w = w64} (rw (to_z-of_z c.ranges.objective, changed) (c.requires.0.safe a.i (omega arith))) ∙ ap₂ ◌+ℤ◌ (to_z-of_z c.ranges.objective) (changed) in record { kept = child_kept a.width _ _ c.insert_child.result a.i a.changes.now (improves_c change) parent _ exists added c.insert_child.ensures.inserted; stays_out = λ q. c.insert_child.ensures.stays_out (room_missed a.width (take a.count a.objectives.now) a.changes.now parent a.i _ exists added q) }
+
+pub returns : goal.returns
+returns c =
+    let changed : let a = c.args in to_z w64 (of_z w64 (get_or a.changes.now a.i (pos 0))) ≡ get_or a.changes.now a.i (pos 0) =
+    to_z-of_z {w = w64} (sfits_of c.d-1.given) in
+    let change = change_of c.args.changes.now in record {
+      kept = no_child c.args.width _ _ c.args.count c.args.i c.args.changes.now (improves_c change) (parent_of c.args.objective c.args.parent.now)
+          (rw (changed) at c.if-d-lt0.false) refl c.requires.0.used;
+      stays_out = λ q. record { objectives_stay = refl; signs_stay = refl; count_stays = refl };
+    }

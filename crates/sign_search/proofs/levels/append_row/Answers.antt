@@ -1,0 +1,57 @@
+use Prim.Native.Nat.{ℕ, ◌≤◌}
+use mathlib.Core.Bool.{Bool, true, false, cond}
+use lib.Dec.{eqb}
+use native.Mathlib.Omega.{arith}
+use mathlib.Core.List.{List, []}
+use mathlib.Core.Path.{◌≡◌, sym, subst}
+use lib.ListN.{length}
+use mir.Facts.{to_z-of_z}
+use Rattle.tables.specs.Table.{table_of}
+use Rattle.local_search.specs.Level.{sign_level}
+use Rattle.local_search.specs.Children.{parent_of, Appended}
+use Rattle.sign_search.specs.Within.{bounds}
+use Rattle.sign_search.specs.Clauses.{Changes, RowAppends, table_children}
+use Rattle.sign_search.proofs.ChangeLaws.{changes_are}
+use Rattle.sign_search.proofs.ExpandLaws.{row_appends, row_appended, row_first_tidy}
+use Rattle.sign_search.proofs.levels.append_row.Goals as goal
+
+first-few : (flips most first : ℕ) → first ≡ cond (eqb most 0) 0 flips → first ≤ flips
+first-few flips most first e = go (eqb most 0) e
+  where
+    go : (b : Bool) → first ≡ cond b 0 flips → first ≤ flips
+    go true e = omega arith
+    go false e = omega arith
+
+pub first_level-requires : goal.first_level-requires
+first_level-requires c = let k = c.changes_of in
+    let a = c.args in
+    let t = (table_of a.entries a.rows.now a.cols.now a.values.now) in
+    let changes = k.new.changes in
+    let is = changes_are t a.start.now a.changes.now changes c.requires.0.changes_room k.ensures in
+    rw (to_z-of_z c.ranges.objective)
+    (row_appends t (length a.start.now) a.objective a.start_row.now changes (subst (λ (x : List ℕ). Changes t x changes) (sym c.requires.1) is)
+    (bounds a.flips a.most a.start.now) c.requires.3 c.first_flips-first.result (length a.objectives.now) (length a.signs.now)
+    (first-few a.flips a.most c.first_flips-first.result c.first_flips-first.ensures)
+    (subst (λ (x : List ℕ). RowAppends t (length a.start_row.now) (parent_of a.objective x) (length changes) (length a.objectives.now) (length a.signs.now)) (sym c.requires.1)
+    (rw k.auto.changes c.requires.0)))
+
+pub returns : goal.returns
+returns c = let e = c.first_level in
+    let k = c.changes_of in
+    let a = c.args in
+    let f = c.first_flips-first in
+    let t = (table_of a.entries a.rows.now a.cols.now a.values.now) in
+    let changes = k.new.changes in
+    let m = length a.start.now in
+    let n = length a.start_row.now in
+    let b = bounds a.flips a.most a.start.now in
+    let is = changes_are t a.start.now a.changes.now changes c.requires.0.changes_room k.ensures in
+    let at = subst (λ (x : List ℕ). Changes t x changes) (sym c.requires.1) is in
+    let taken = rw (to_z-of_z c.ranges.objective) at e.ensures in record {
+      appended = subst (λ (x : List ℕ). Appended [] (table_children t b m (parent_of a.objective x)) (sign_level n m e.result e.new.objectives e.new.signs) e.result m) c.requires.1
+          (row_appended t m a.objective a.start_row.now changes at b c.requires.3 f.result
+          e.result e.new.objectives e.new.signs (sym c.requires.1) f.ensures (first-few a.flips a.most f.result f.ensures) (omega (arith, c.requires.0.signs_held)) taken);
+      changes = is;
+      tidy = row_first_tidy t m a.objective a.start_row.now changes at b c.requires.3 f.result
+          e.result e.new.objectives e.new.signs (sym c.requires.1) f.ensures (omega (arith, c.requires.0.signs_held)) taken;
+    }

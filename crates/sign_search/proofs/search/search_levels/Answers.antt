@@ -1,0 +1,195 @@
+use Prim.Native.Nat.{ℕ, ◌*◌, ◌≤◌, ◌<◌}
+use native.Mathlib.Nat.{mul-le-mul_right}
+use native.Mathlib.Omega.{arith}
+use borrow.Author.Rules.{sfits_of}
+use mathlib.Core.List.{List, []}
+use mathlib.Core.Path.{◌≡◌, refl, sym, ap, ◌∙◌, subst}
+use lib.IntN.{ℤ}
+use lib.ListN.{length}
+use mir.Syntax.{w64}
+use mir.Val.{to_z, of_z}
+use mir.Facts.{to_z-of_z}
+use Rattle.tables.specs.Table.{table_of}
+use Rattle.sign_words.specs.Packed.{unpacked}
+use Rattle.local_search.specs.LocalSearch.{best}
+use Rattle.local_search.specs.Level.{below, level_of, sign_level}
+use Rattle.local_search.specs.Children.{parent_of}
+use Rattle.local_search.proofs.Decoded.{length_sign_level, sign_level_empty, least_decoded, tidy_best}
+use Rattle.local_search.proofs.LoopLaws.{Searching, start_safe, searching_first, searching_next, searching_safe, searching_more, searching_end}
+use Rattle.sign_search.specs.Search.{change_in, height_in}
+use Rattle.sign_search.specs.Within.{bounds}
+use Rattle.sign_search.specs.Clauses.{exists_in, searched_in}
+use Rattle.sign_search.proofs.Searches.{table_searches}
+use Rattle.sign_search.proofs.TurnLaws.{usable_of}
+use Rattle.sign_search.proofs.search.search_levels.Goals as goal
+
+pub append_row-count-requires : goal.append_row-count-requires
+append_row-count-requires c = let a = c.args in (
+  rw (to_z-of_z c.ranges.objective)
+      (record {
+        changes_room = c.requires.0.changes_room;
+        objectives_room = c.requires.0.first_objectives;
+        signs_room = c.requires.0.first_signs;
+        signs_held = c.requires.0.signs_held;
+        table = usable_of c.requires.1;
+        safe = start_safe _ _ _ _ (table_searches _ (bounds a.flips a.most a.current.now) (parent_of a.objective a.current.now) c.requires.1 c.requires.2);
+      }),
+  c.requires.3.signs,
+  c.requires.4,
+  c.requires.5,
+)
+
+pub loop-count-init : goal.loop-count-init
+loop-count-init c = let f = c.append_row-count in
+    let a = c.args in
+    let t = (table_of a.entries a.rows.now a.cols.now a.values.now) in
+    let start = parent_of (to_z w64 (of_z w64 a.objective)) a.current.now in
+    let n = length a.kept.now in (
+      refl,
+      refl,
+      refl,
+      refl,
+      refl,
+      refl,
+      omega (arith, f.ensures.appended.room, c.requires.0.first_objectives, f.auto.objectives),
+      omega (arith, mul-le-mul_right n f.ensures.appended.room, c.requires.0.first_signs, f.auto.signs),
+      subst (λ (x : List ℕ). Searching (change_in t) (exists_in t (bounds a.flips a.most a.current.now)) a.width (height_in t a.current.now) start (sign_level n (length a.current.now) f.result f.new.objectives f.new.signs) (parent_of (to_z w64 (of_z w64 a.objective)) x) 0) (sym c.requires.3.signs)
+          (searching_first (change_in t) (exists_in t (bounds a.flips a.most a.current.now)) a.width (height_in t a.current.now) start _ f.ensures.appended.level c.requires.0.some
+          (table_searches t (bounds a.flips a.most a.current.now) start c.requires.1 (to_z-of_z c.ranges.objective ∙ c.requires.2))),
+      refl,
+      record { changes_are = f.ensures.changes; row_is = ap (unpacked (length a.current.now)) c.requires.3.same ∙ c.requires.3.signs },
+      f.ensures.tidy c.requires.3.tidy,
+      c.requires.3.tidy,
+      ap length c.requires.3.same,
+    )
+
+pub keep_least-least-requires : goal.keep_least-least-requires
+keep_least-least-requires c = let l = c.loop-count in
+    (l.invariant.6, subst (λ (n : ℕ). l.count * n ≤ length l.signs) (sym l.invariant.0) l.invariant.7)
+
+pub advance-count-requires : goal.advance-count-requires
+advance-count-requires c = let l = c.loop-count in
+    let a = c.args in
+    let f = c.append_row-count in
+    let t = (table_of a.entries a.rows.now a.cols.now a.values.now) in (
+      rw l.invariant.9
+          (record {
+            expands = record {
+              some = c.requires.0.some;
+              from_objectives_room = l.invariant.6;
+              from_signs_room = l.invariant.7;
+              changes_room = omega (arith, l.invariant.1, f.auto.changes, c.requires.0.changes_room);
+              objectives_room = omega (arith, l.invariant.4, c.requires.0.next_objectives_room);
+              signs_room = omega (arith, l.invariant.5, c.requires.0.next_signs_room);
+              signs_held = c.requires.0.signs_held;
+              words_few = c.requires.0.words_few;
+              table = c.requires.1;
+              safe = searching_safe (change_in t) (exists_in t (bounds a.flips a.most a.current.now)) a.width (height_in t a.current.now) (parent_of (to_z w64 (of_z w64 a.objective)) a.current.now) _ _ l.rounds l.invariant.8;
+            };
+            objectives_room = omega (arith, l.invariant.2, f.auto.objectives, c.requires.0.objectives_room);
+            signs_room = omega (arith, l.invariant.3, f.auto.signs, c.requires.0.signs_room);
+          }),
+      l.invariant.13,
+      l.invariant.10,
+      c.requires.4,
+      record { flips_few = omega (arith, l.invariant.9, c.requires.5); as_long = ap length c.requires.6; start_tidy = rw (l.invariant.9, c.requires.6) c.requires.3.tidy },
+      rw l.invariant.9 l.invariant.11,
+    )
+
+pub overflow_add-rounds : goal.overflow_add-rounds
+overflow_add-rounds c =
+    let filled : let a = c.args in 0 < length (sign_level (length a.kept.now) (length a.current.now) c.loop-count.count c.loop-count.objectives c.loop-count.signs) =
+    let l = c.loop-count in
+    let a = c.args in
+    omega (arith, length_sign_level (length a.kept.now) (length a.current.now) l.count l.objectives l.signs l.invariant.6) in
+    let more-rounds : let a = c.args in c.loop-count.rounds < (searched_in (table_of a.entries a.rows.now a.cols.now a.values.now) (bounds a.flips a.most a.current.now) a.width (parent_of (to_z w64 (of_z w64 a.objective)) a.current.now)).rounds =
+    let l = c.loop-count in
+    let a = c.args in
+    let t = (table_of a.entries a.rows.now a.cols.now a.values.now) in
+    searching_more (change_in t) (exists_in t (bounds a.flips a.most a.current.now)) a.width (height_in t a.current.now) (parent_of (to_z w64 (of_z w64 a.objective)) a.current.now) _ _ l.rounds (filled) l.invariant.8 in
+    omega (arith, more-rounds, c.loop-count.invariant.8.few)
+
+pub loop-count-smaller : goal.loop-count-smaller
+loop-count-smaller c =
+    let filled : let a = c.args in 0 < length (sign_level (length a.kept.now) (length a.current.now) c.loop-count.count c.loop-count.objectives c.loop-count.signs) =
+    let l = c.loop-count in
+    let a = c.args in
+    omega (arith, length_sign_level (length a.kept.now) (length a.current.now) l.count l.objectives l.signs l.invariant.6) in
+    let more-rounds : let a = c.args in c.loop-count.rounds < (searched_in (table_of a.entries a.rows.now a.cols.now a.values.now) (bounds a.flips a.most a.current.now) a.width (parent_of (to_z w64 (of_z w64 a.objective)) a.current.now)).rounds =
+    let l = c.loop-count in
+    let a = c.args in
+    let t = (table_of a.entries a.rows.now a.cols.now a.values.now) in
+    searching_more (change_in t) (exists_in t (bounds a.flips a.most a.current.now)) a.width (height_in t a.current.now) (parent_of (to_z w64 (of_z w64 a.objective)) a.current.now) _ _ l.rounds (filled) l.invariant.8 in
+    omega (arith, more-rounds)
+
+pub loop-count-preserved : goal.loop-count-preserved
+loop-count-preserved c =
+    let filled : let a = c.args in 0 < length (sign_level (length a.kept.now) (length a.current.now) c.loop-count.count c.loop-count.objectives c.loop-count.signs) =
+    let l = c.loop-count in
+    let a = c.args in
+    omega (arith, length_sign_level (length a.kept.now) (length a.current.now) l.count l.objectives l.signs l.invariant.6) in
+    let v = c.advance-count in
+    let k = c.keep_least-least in
+    let l = c.loop-count in
+    let a = c.args in
+    let f = c.append_row-count in
+    let t = (table_of a.entries a.rows.now a.cols.now a.values.now) in
+    let m = length a.current.now in
+    let n = length a.kept.now in
+    let next = rw (l.invariant.9, c.requires.6, c.requires.3.signs) at v.ensures.next_level in
+    let among = ap (λ (i : ℕ). best below (parent_of (to_z w64 l.least-bits) l.kept) (level_of i l.count l.objectives l.signs)) l.invariant.0 in (
+      k.auto.kept ∙ l.invariant.0,
+      v.auto.changes ∙ l.invariant.1,
+      v.auto.objectives ∙ l.invariant.2,
+      v.auto.signs ∙ l.invariant.3,
+      v.auto.next_objectives ∙ l.invariant.4,
+      v.auto.next_signs ∙ l.invariant.5,
+      omega (arith, next.room, v.auto.objectives, l.invariant.2, f.auto.objectives, c.requires.0.objectives_room),
+      omega (arith, mul-le-mul_right n next.room, v.auto.signs, l.invariant.3, f.auto.signs, c.requires.0.signs_room),
+      searching_next (change_in t) (exists_in t (bounds a.flips a.most a.current.now)) a.width (height_in t a.current.now) (parent_of (to_z w64 (of_z w64 a.objective)) a.current.now)
+          (sign_level n m l.count l.objectives l.signs) _ (parent_of (to_z w64 l.least-bits) (unpacked m l.kept)) _ l.rounds (filled) next.level
+          (least_decoded n m l.count l.objectives l.signs (parent_of (to_z w64 l.least-bits) l.kept) (parent_of (to_z w64 (of_z w64 k.result)) k.new.kept)
+          (ap (λ (z : ℤ). parent_of z k.new.kept) (to_z-of_z {w = w64} (sfits_of k.type_inv)) ∙ k.ensures ∙ among))
+          l.invariant.8,
+      v.auto.current ∙ l.invariant.9,
+      v.ensures.at_hand,
+      (rw l.invariant.9 at v.ensures.tidy) l.invariant.11,
+      tidy_best n m l.count l.objectives l.signs (parent_of (to_z w64 l.least-bits) l.kept) (parent_of k.result k.new.kept) (k.ensures ∙ among) l.invariant.12 l.invariant.11,
+      v.auto.current_row ∙ l.invariant.13,
+    )
+
+pub shape_of-kept : goal.shape_of-kept
+shape_of-kept c = c.loop-count.invariant.0
+
+pub shape_of-current : goal.shape_of-current
+shape_of-current c = c.loop-count.invariant.9
+
+pub shape_of-current_row : goal.shape_of-current_row
+shape_of-current_row c = c.loop-count.invariant.13 ∙ sym (ap length c.requires.3.same)
+
+pub shape_of-changes : goal.shape_of-changes
+shape_of-changes c = c.loop-count.invariant.1 ∙ c.append_row-count.auto.changes
+
+pub shape_of-objectives : goal.shape_of-objectives
+shape_of-objectives c = c.loop-count.invariant.2 ∙ c.append_row-count.auto.objectives
+
+pub shape_of-signs : goal.shape_of-signs
+shape_of-signs c = c.loop-count.invariant.3 ∙ c.append_row-count.auto.signs
+
+pub shape_of-next_objectives : goal.shape_of-next_objectives
+shape_of-next_objectives c = c.loop-count.invariant.4
+
+pub shape_of-next_signs : goal.shape_of-next_signs
+shape_of-next_signs c = c.loop-count.invariant.5
+
+pub returns : goal.returns
+returns c = let l = c.loop-count in
+    let a = c.args in
+    let t = (table_of a.entries a.rows.now a.cols.now a.values.now) in
+    let m = length a.current.now in
+    let n = length a.kept.now in
+    let none : l.count ≡ 0 = omega arith in
+    let empty : sign_level n m l.count l.objectives l.signs ≡ [] = ap (λ (i : ℕ). sign_level n m i l.objectives l.signs) none ∙ sign_level_empty n m l.objectives l.signs in
+    let done = rw (to_z-of_z c.ranges.objective) at
+    (searching_end (change_in t) (exists_in t (bounds a.flips a.most a.current.now)) a.width (height_in t a.current.now) (parent_of (to_z w64 (of_z w64 a.objective)) a.current.now) _ (parent_of (to_z w64 l.least-bits) (unpacked m l.kept)) l.rounds empty l.invariant.8) in
+    record { kept_after = done; tidy = l.invariant.12 }

@@ -1,0 +1,56 @@
+use Prim.Native.Nat.{ℕ, ◌*◌, ◌-◌, ◌≤◌}
+use native.Mathlib.Nat.{le_trans, mul-le-mul}
+use native.Mathlib.Omega.{arith}
+use lib.ListN.{length}
+use mir.Facts.{to_z-of_z}
+use Rattle.limits.specs.Limits.{most_signs, most_words}
+use mathlib.Core.List.{List, ◌++◌}
+use mathlib.Core.Path.{◌≡◌, refl, ap, ◌∙◌}
+use lib.ListN.{take, drop, length-take, length-append}
+use lib.Seq.{take_at}
+use Rattle.sign_search.proofs.search.search_packed.Goals as goal
+
+-- the part of the array that the start was copied to
+part-again : (m : ℕ) (start row rest : List ℕ) → length start ≡ m → row ≡ start → take (m - 0) (drop 0 (row ++ rest)) ≡ start
+part-again m start row rest long e = let z : m - 0 ≡ m = omega arith in rw z (take_at row rest m (ap length e ∙ long) ∙ e)
+
+part-fits : (m : ℕ) (start row rest : List ℕ) → length start ≡ m → row ≡ start → m ≤ length (row ++ rest)
+part-fits m start row rest long e = omega (arith, length-append row rest, ap length e, long)
+
+pub slice_bounds-origin-end : goal.slice_bounds-origin-end
+slice_bounds-origin-end c = omega (arith, c.requires.2)
+
+pub copy-requires : goal.copy-requires
+copy-requires c = simp length-take (omega (arith, c.requires.2))
+
+pub slice_bounds-search_levels-end-5 : goal.slice_bounds-search_levels-end-5
+slice_bounds-search_levels-end-5 c = part-fits (length c.args.kept.now) c.args.kept.now c.copy.new.words _ refl c.copy.ensures
+
+pub search_levels-requires : goal.search_levels-requires
+search_levels-requires c = let r = c.requires.0 in
+    let a = c.args in
+    let n : ℕ = length a.kept.now in
+    let first : length a.current.now * n ≤ most_signs * most_words = mul-le-mul r.signs_few c.requires.2 in
+    let wide : a.width * n ≤ most_signs * most_words = mul-le-mul r.width_few c.requires.2 in (
+      record {
+        some = c.requires.1;
+        changes_room = omega (arith, r.signs_few);
+        first_objectives = omega (arith, r.signs_few);
+        first_signs = le_trans first r.level_room;
+        signs_held = c.requires.3;
+        words_few = omega (arith, c.requires.2);
+        objectives_room = omega (arith, r.width_few);
+        signs_room = le_trans wide r.level_room;
+        next_objectives_room = omega (arith, r.width_few);
+        next_signs_room = omega (arith, wide);
+      },
+      c.requires.4,
+      rw (to_z-of_z c.ranges.objective) c.requires.5,
+      c.requires.6,
+      c.requires.7,
+      c.requires.8,
+      part-again (length a.kept.now) a.kept.now _ _ refl c.copy.ensures,
+    )
+
+pub returns : goal.returns
+returns c = record { kept_after = rw (to_z-of_z c.ranges.objective) at c.search_levels.ensures.kept_after; tidy = c.search_levels.ensures.tidy }
