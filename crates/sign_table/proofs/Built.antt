@@ -14,7 +14,7 @@ use mir.Syntax.{w64}
 use mir.Val.{SFits, to_z, of_z}
 use lib.Signed.{mag}
 use mir.Facts.{to_z-of_z}
-use Rattle.laws.specs.Sum.{sum, sum₂, total, only}
+use Rattle.laws.specs.Sum.{sum, sum₂, only}
 use Rattle.laws.proofs.Integer.{abs_add, abs_mul, fits_abs}
 use Rattle.laws.proofs.Sums.{sum_ext, sum_abs, total_at, turn_fits, turn_is}
 use Rattle.tables.specs.Table.{Table, InRange, magnitude_of, value_at}

@@ -1,0 +1,39 @@
+-- `sign_table::sign_matrix::put_row` meets its contract.
+use Rattle.sign_table.proofs.Built.{row_begin, row_turn, row_room, row_done}
+use Rattle.sign_table.proofs.Bounds.{linear_small}
+use Rattle.laws.proofs.Integer.{held}
+use native.Mathlib.Omega.{arith}
+use mathlib.Core.Path.{refl, ◌∙◌}
+use Rattle.sign_table.proofs.sign_matrix.put_row.Goals as goal
+
+pub loop-j-init : goal.loop-j-init
+loop-j-init c = let p = c.requires in
+    (row_begin p.2 p.3 p.4 c.next_column-j.ensures, refl, refl, refl)
+
+pub here_value-value-requires : goal.here_value-value-requires
+here_value-value-requires c = let p = c.requires in
+    (p.0, omega arith, linear_small p.2 c.args.i p.3, omega (arith, p.2.small))
+
+pub put-requires : goal.put-requires
+put-requires c = let p = c.requires in
+    (record { rows_room = omega (arith, row_room p.2 p.3 c.loop-j.invariant.0 c.loop-j-test.true, p.5.rows_room, c.loop-j.invariant.1); cols_room = omega (arith, row_room p.2 p.3 c.loop-j.invariant.0 c.loop-j-test.true, p.5.cols_room, c.loop-j.invariant.2); values_room = omega (arith, row_room p.2 p.3 c.loop-j.invariant.0 c.loop-j-test.true, p.5.values_room, c.loop-j.invariant.3) }, omega (arith, p.2.low), omega (arith, p.2.low))
+
+pub overflow_add-at : goal.overflow_add-at
+overflow_add-at c = let p = c.requires in
+    omega (arith, row_room p.2 p.3 c.loop-j.invariant.0 c.loop-j-test.true, p.5.rows_room, c.well_formed.1.1.1.1.1.1.1.1.0.0)
+
+pub next_column-j-requires-in-loop-j : goal.next_column-j-requires-in-loop-j
+next_column-j-requires-in-loop-j c = let p = c.requires in
+    (p.0.rows_there, p.0.cols_there, omega (arith, p.1, p.3))
+
+pub loop-j-smaller : goal.loop-j-smaller
+loop-j-smaller c = let p = c.requires in
+    let t = row_turn p.2 p.3 c.loop-j.invariant.0 c.loop-j-test.true (held c.here_value-value.result c.here_value-value.type_inv ∙ c.here_value-value.ensures) c.after_here-k.ensures c.next_column-j-in-loop-j.ensures c.put.ensures in omega (arith, c.loop-j-test.true, t.1)
+
+pub loop-j-preserved : goal.loop-j-preserved
+loop-j-preserved c = let p = c.requires in
+    let t = row_turn p.2 p.3 c.loop-j.invariant.0 c.loop-j-test.true (held c.here_value-value.result c.here_value-value.type_inv ∙ c.here_value-value.ensures) c.after_here-k.ensures c.next_column-j-in-loop-j.ensures c.put.ensures in (t.0, omega (arith, c.loop-j.invariant.1), omega (arith, c.loop-j.invariant.2), omega (arith, c.loop-j.invariant.3))
+
+pub returns : goal.returns
+returns c = let p = c.requires in
+    row_done p.2 p.3 c.loop-j.invariant.0 c.loop-j-test.false
