@@ -8,7 +8,7 @@ use Rattle.laws.specs.Sum.{sum}
 use Rattle.laws.specs.Lists.{any_below}
 use Rattle.laws.specs.Rows.{map_first}
 use Rattle.laws.specs.Turns.{up_to}
-use Rattle.laws.specs.Refusal.{or_else, first, first_of, any_of, short}
+use Rattle.laws.specs.Refusal.{or_else, first, any_of, short}
 use Rattle.tables.specs.Table.{value_at, stored_at}
 use Rattle.tables.specs.Stored.{row_places, places, values_of}
 use Rattle.tables.specs.Check.{before, bad_entry, bad_order, short_table}

@@ -23,6 +23,7 @@ marks_le (suc a ∷ l) = omega (arith, marks_le l)
 
 marks_set : (l : List ℕ) (y : ℕ) → y < length l → elem l y ≡ 0 → marks (set l y 1) ≡ suc (marks l)
 unfolding marks
+marks_set [] y h e = elim h [ ]
 marks_set (zero ∷ l) zero h e = refl
 marks_set (suc a ∷ l) zero h e = absurd (omega arith)
 marks_set (zero ∷ l) (suc y) h e = marks_set l y (omega arith) e
