@@ -1,3 +1,4 @@
+use borrow.Author.Rules.{rules}
 use mathlib.Core.List.{◌++◌}
 use native.Mathlib.Omega.{arith}
 use lib.ListN.{length-append, take}
@@ -32,7 +33,6 @@ unfolding answer_bytes
 returns c = let o = c.args.out.now in
     let a = c.args.a in
     let b = c.args.b.now in
-    let told = c.struct_told-1.given in
     let frame = frame_bytes a.n in
     let counts = count_bytes a.status a.rank a.n a.sweeps in
     let floats = float_bytes a.relaxed_objective a.float_bound in
@@ -44,8 +44,8 @@ returns c = let o = c.args.out.now in
     (put_next o 0 5 frame counts c.put_frame.ensures c.put_counts.ensures (omega arith) (simp length_frame))
     c.put_floats.ensures (omega arith) (simp (length-append, length_frame, length_count)))
     (c.put_eighths.ensures ∙ rw (
-      to_z-of_z w64 a.floor (record { sfits = told.1.1.1.1.1.1.0.1 }),
-      to_z-of_z w64 a.rounded_cost (record { sfits = told.1.1.1.1.1.1.1.0.1 }),
-      to_z-of_z w64 a.cost (record { sfits = told.1.1.1.1.1.1.1.1.0.1 }),
+      to_z-of_z w64 a.floor (search rules),
+      to_z-of_z w64 a.rounded_cost (search rules),
+      to_z-of_z w64 a.cost (search rules),
     )) (omega arith) (simp (length-append, length_frame, length_count, length_float)))
     c.put_bytes.ensures (omega arith) (simp (length-append, length_frame, length_count, length_float, length_eighth)))
