@@ -15,7 +15,7 @@ pub struct JobReader<'a> {
 }
 
 // What reading a field finds: its value and the next place, or that it runs past the end.
-#[derive(Drop)]
+#[derive(Clone, Copy, Drop)]
 pub enum Field {
     Value(u64, usize),
     Short,

@@ -15,7 +15,7 @@ use Rattle.laws.proofs.Refusal.{clear, each, first_head, first_rest}
 use Rattle.limits.specs.Limits.{most_wagons, most_entries, most_start, most_bytes, most_drawn}
 use Rattle.job_record.specs.Versions.{versions}
 use Rattle.job_record.specs.Fields.{version, wagons, entry_count, entry_at, costs_end, pins_place, pin_at, free_state, pin_count_by, free_by, settings_by, rank_at, most_at, start_at}
-use Rattle.job_record.specs.Number.{pin_number, pins_numbers, pins_numbers_by, costs_numbers, job_number}
+use Rattle.job_record.specs.Number.{pin_number, pins_numbers, pins_numbers_by, job_number}
 use Rattle.job_reader.specs.Bytes.{big_endian, field_at, value_of, place_after}
 use Rattle.job_reader.specs.declared.Field.{Field}
 use Rattle.job_reader.specs.declared.Field.TheVariants.{Value}

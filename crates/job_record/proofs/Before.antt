@@ -6,26 +6,23 @@
 --     not-two        of any version but 2: the number by that table is the one by the table with version 1 alone
 --     one-version    the table with version 1 alone gives the number of before
 -- Assumes nothing.
-use Prim.Native.Nat.{ℕ, zero, suc, ◌+◌, ◌-◌, ◌*◌, ◌≤◌, ◌<◌}
+use Prim.Native.Nat.{ℕ, zero, suc, ◌+◌, ◌-◌, ◌*◌, ◌≤◌}
 use mathlib.Core.Path.{◌≡◌, refl, sym, ap, ap₂, ◌∙◌}
-use mathlib.Core.Bool.{Bool, true, false, cond, ◌&&◌, not}
-use mathlib.Core.List.{List, [], ◌∷◌, ◌++◌}
+use mathlib.Core.Bool.{Bool, true, false, ◌&&◌}
+use mathlib.Core.List.{List}
 use native.Mathlib.Omega.{arith}
 use native.Mathlib.Decide.{dec_le}
 use borrow.Author.Tests.{le-leb, lt-leb, le-ltb, leb-true, ne_eqb, eqb-true, not-false}
 use lib.Dec.{eqb, leb, ltb}
-use lib.ListN.{replicate}
-use lib.Ieee.{Float}
-use Rattle.laws.specs.Refusal.{◌if◌, or_else, first}
+use Rattle.laws.specs.Refusal.{or_else, first}
 use Rattle.laws.proofs.Any.{and_true}
 use Rattle.laws.proofs.Refusal.{clear, both, first_head, first_rest}
 use Rattle.limits.specs.Limits.{most_entries}
 use Rattle.job_reader.specs.Bytes.{big_endian}
-use Rattle.job_record.specs.declared.job.Job.{Job}
 use Rattle.job_record.specs.Versions.{Format, known, one_version, two_versions, three_versions, versions}
-use Rattle.job_record.specs.Fields.{version, wagons, entry_count, costs_end, pins_place, double_from, free_state, pin_count_by, free_by, settings_by, rank_of, start_count_of, draws_after}
-use Rattle.job_record.specs.Number.{ends_before, bounded_number, frame_number, version_number, head_numbers, entries_numbers, costs_numbers, pins_numbers_by, run_numbers, number_by, job_number}
-use Rattle.job_record.specs.Values.{pin_count, free_wagons, settings_place, draws_by, draws_place, states_of, job_states, job_by, job_of}
+use Rattle.job_record.specs.Fields.{version, wagons, entry_count, pins_place, double_from, pin_count_by, free_by, settings_by, rank_of, start_count_of, draws_after}
+use Rattle.job_record.specs.Number.{bounded_number, frame_number, version_number, head_numbers, entries_numbers, costs_numbers, pins_numbers_by, run_numbers, number_by}
+use Rattle.job_record.specs.Values.{free_wagons, settings_place, draws_by, draws_place, states_of, job_states, job_by}
 use Rattle.job_record.specs.Base.{base_number, base_settings, base_draws, AsBefore, AsTwo}
 use Rattle.job_record.proofs.Whole.{parts}
 use Rattle.job_record.proofs.Accepted.{unpinned, states_none}

@@ -26,7 +26,7 @@ use Rattle.job_record.specs.declared.reading.HeadValues.{HeadValues}
 use Rattle.job_record.specs.declared.reading.SettingsFields.{SettingsFields}
 use Rattle.job_record.specs.declared.reading.SettingsValues.{SettingsValues}
 use Rattle.job_record.specs.Versions.{known, versions}
-use Rattle.job_record.specs.Fields.{version, wagons, entry_count, rank_at, rule_at, rule_number_at, most_at, minimum_at, objective_tolerance_at, stationarity_tolerance_at, width_at, start_at}
+use Rattle.job_record.specs.Fields.{version, rank_at, rule_at, rule_number_at, most_at, minimum_at, objective_tolerance_at, stationarity_tolerance_at, width_at, start_at}
 use Rattle.job_record.specs.Number.{ends_before, bounded_number, frame_number, version_number, momentum_number, head_numbers, settings_numbers}
 use Rattle.job_record.specs.Reading.{HeadThere, head_of, settings_from, head_values, settings_values, is_short, field_number, frame_judged, head_judged, rule_judged, start_judged, settings_judged}
 use Rattle.job_record.proofs.Bounded.{bounded_passed}

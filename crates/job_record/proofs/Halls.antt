@@ -9,7 +9,7 @@ use native.Mathlib.Omega.{arith}
 use lib.ListN.{length}
 use lib.Dec.{ltb}
 use lib.IntN.{ℤ, pos, nat_abs}
-use Rattle.laws.specs.Refusal.{◌if◌, first}
+use Rattle.laws.specs.Refusal.{first}
 use Rattle.laws.specs.Sum.{total}
 use Rattle.laws.specs.Lists.{elem, elem_z}
 use Rattle.laws.proofs.Refusal.{clear, each, first_head, first_rest}

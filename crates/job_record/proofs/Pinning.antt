@@ -3,7 +3,7 @@
 --     pin-held, other-free    accepted pins: a pinned wagon is held in its pin's store, every other is free
 --     free-left, free-kept    and so many wagons are free as no pin holds
 -- Assumes nothing.
-use Prim.Native.Nat.{ℕ, zero, suc, ◌+◌, ◌-◌, ◌*◌, ◌≤◌, ◌<◌}
+use Prim.Native.Nat.{ℕ, zero, suc, ◌+◌, ◌*◌, ◌≤◌, ◌<◌}
 use mathlib.Core.Path.{◌≡◌, refl, sym, ap, ◌∙◌}
 use mathlib.Core.Bool.{Bool, true, false, cond, not, ◌||◌}
 use mathlib.Core.List.{List, [], ◌∷◌}
@@ -12,7 +12,7 @@ use native.Mathlib.Omega.{arith}
 use native.Mathlib.Numerals.{add-one}
 use native.Mathlib.Decide.{ℕ_discrete}
 use borrow.Author.Tests.{le-ltb, le-leb, lt-leb, eq-eqb, ne_eqb, eqb-true, ltb-false, leb-false, not-false}
-use lib.ListN.{length, set, get_or, replicate, length-replicate, get_or-replicate, length-append}
+use lib.ListN.{length, set, replicate, length-replicate, get_or-replicate, length-append}
 use lib.Seq.{get_or-set_same, get_or-set_other}
 use lib.Dec.{leb, ltb, eqb}
 use Rattle.laws.specs.Turns.{up_to}

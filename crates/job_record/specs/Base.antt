@@ -1,5 +1,5 @@
 -- A job record before there were pins (01 alone), kept to say what a job of version 1 still is; and one before there were larger houses.
-use Rattle.std.specs.Prelude.{ℕ, ◌+◌, ◌*◌, not, List, [], ◌∷◌, ◌++◌, ◌≡◌, eqb, replicate, Float}
+use Rattle.std.specs.Prelude.{ℕ, ◌+◌, ◌*◌, not, List, [], ◌∷◌, ◌++◌, ◌≡◌, eqb, replicate}
 use Rattle.laws.specs.Refusal.{◌if◌, first}
 use Rattle.limits.specs.Limits.{small_wagons, most_entries}
 use Rattle.job_reader.specs.Bytes.{big_endian}

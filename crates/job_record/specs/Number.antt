@@ -8,7 +8,7 @@ use Rattle.tables.specs.Check.{bad_entry, unmirrored, hall_magnitude}
 use Rattle.job_reader.specs.Bytes.{big_endian}
 use Rattle.run_limits.specs.Momentum.{is_momentum}
 use Rattle.job_record.specs.Versions.{Format, known, versions}
-use Rattle.job_record.specs.Fields.{rest_length, version, wagons, entry_count, entry_at, row, column, entries, signed_from, costs_end, pins_place, pin_at, pin_wagon, pin_store, last_store, free_by, settings_by, rank_at, rule_at, rule_number_at, start_at, rank_of, draws_after}
+use Rattle.job_record.specs.Fields.{rest_length, version, wagons, entry_count, entry_at, row, column, entries, signed_from, costs_end, pins_place, pin_at, pin_wagon, last_store, free_by, settings_by, rank_at, rule_at, rule_number_at, start_at, rank_of, draws_after}
 
 -- the record ends before `end`
 abbrev pub ends_before : List ℕ → ℕ → Bool

@@ -7,7 +7,7 @@ ghost use Rattle.job_record.specs.Reading.{head_of, pin_from, settings_from, hea
 use job_reader::{Field, JobReader, field_at, take, value_of};
 
 // Length of the rest, version, n, entry count.
-#[derive(Drop)]
+#[derive(Clone, Copy, Drop)]
 pub struct HeadFields {
     pub rest: Field,
     pub version: Field,
@@ -16,7 +16,7 @@ pub struct HeadFields {
 }
 
 // Wagon and store of a pin, and how far the reader has read.
-#[derive(Drop)]
+#[derive(Clone, Copy, Drop)]
 pub struct PinFields {
     pub wagon: Field,
     pub store: Field,
@@ -24,7 +24,7 @@ pub struct PinFields {
 }
 
 // The settings, and how far the reader has read.
-#[derive(Drop)]
+#[derive(Clone, Copy, Drop)]
 pub struct SettingsFields {
     pub rank: Field,
     pub rule: Field,
@@ -39,7 +39,7 @@ pub struct SettingsFields {
 }
 
 // Version, n and the entry count as numbers.
-#[derive(Drop)]
+#[derive(Clone, Copy, Drop)]
 pub struct HeadValues {
     pub version: u64,
     pub n: u64,

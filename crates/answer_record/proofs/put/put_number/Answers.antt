@@ -1,0 +1,22 @@
+use mathlib.Core.Path.{◌≡◌, refl, ◌∙◌}
+use native.Mathlib.Omega.{arith}
+use lib.ListN.{length-set}
+use Rattle.answer_record.proofs.Written.{stored, stored_turn, put_written}
+use Rattle.answer_record.proofs.put.put_number.Goals as goal
+
+pub loop-i-init : goal.loop-i-init
+loop-i-init c = (omega arith, refl, refl)
+
+pub loop-i-preserved : goal.loop-i-preserved
+loop-i-preserved c = let l = c.loop-i in (
+  omega arith,
+  simp length-set (omega arith),
+  stored_turn l.out c.args.at l.left l.i (omega arith) ∙ l.invariant.2,
+)
+
+pub returns : goal.returns
+unfolding stored
+returns c = let l = c.loop-i in
+    let a = c.args in
+    let e : l.i ≡ 0 = omega arith in
+    (rw e at l.invariant.2) ∙ put_written a.width a.out.now a.at a.value (omega arith)

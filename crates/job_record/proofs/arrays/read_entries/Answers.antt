@@ -1,0 +1,26 @@
+use Prim.Native.Nat.{ℕ, ◌+◌}
+use mathlib.Core.Path.{refl, ap, ◌∙◌}
+use native.Mathlib.Omega.{arith}
+use lib.ListN.{length-set}
+use mir.Syntax.{w64}
+use mir.ValLaws.{to_z-of_z}
+use Rattle.job_reader.specs.Bytes.{big_endian, signed_at}
+use Rattle.laws.proofs.MapFirst.{fill_none, fill_more, fill_all}
+use Rattle.job_record.proofs.arrays.read_entries.Goals as goal
+
+pub loop-i-init : goal.loop-i-init
+loop-i-init c = (omega arith, fill_none _ _, fill_none _ _, fill_none _ _, refl, refl, refl)
+
+pub loop-i-preserved : goal.loop-i-preserved
+loop-i-preserved c = let inv = c.loop-i.invariant in let job = c.args.job.now in (
+  omega arith,
+  fill_more _ _ _ inv.1 (c.u8_at.ensures ∙ ap (λ (p : ℕ). big_endian job p 1) c.entry_at-at.ensures),
+  fill_more _ _ _ inv.2 (c.u8_at-in-loop-i.ensures ∙ ap (λ (p : ℕ). big_endian job (p + 1) 1) c.entry_at-at.ensures),
+  fill_more _ _ _ inv.3 (to_z-of_z w64 _ (record { sfits = c.i64_at.type_inv }) ∙ c.i64_at.ensures ∙ ap (λ (p : ℕ). signed_at job (p + 2)) c.entry_at-at.ensures),
+  simp length-set inv.4,
+  simp length-set inv.5,
+  simp length-set inv.6,
+)
+
+pub returns : goal.returns
+returns c = let inv = c.loop-i.invariant in record { rows_after = fill_all _ _ _ _ inv.1 inv.0 c.loop-i-test.false; cols_after = fill_all _ _ _ _ inv.2 inv.0 c.loop-i-test.false; values_after = fill_all _ _ _ _ inv.3 inv.0 c.loop-i-test.false }

@@ -1,0 +1,25 @@
+use mathlib.Core.Path.{◌∙◌}
+use native.Mathlib.Omega.{arith}
+use Rattle.job_record.specs.Values.{job_by}
+use Rattle.job_record.proofs.Accepted.{fields, settings_held, drawn_held}
+use Rattle.job_record.proofs.job.job_of.Goals as goal
+
+pub accepted_settings-f-requires : goal.accepted_settings-f-requires
+accepted_settings-f-requires c = (c.requires, c.accepted_pins-b.ensures.2)
+
+pub overflow_cast-result : goal.overflow_cast-result
+overflow_cast-result c = let s = c.args.job.now in let t = settings_held s c.requires _ c.accepted_settings-f.ensures.0 in omega (arith, t.rule, (fields s c.requires).settings.rule)
+
+pub overflow_cast-result-2 : goal.overflow_cast-result-2
+overflow_cast-result-2 c = omega (arith, c.accepted_settings-f.ensures.1)
+
+pub overflow_cast-result-3 : goal.overflow_cast-result-3
+overflow_cast-result-3 c = omega (arith, c.accepted_settings-f.ensures.2)
+
+pub overflow_cast-result-4 : goal.overflow_cast-result-4
+overflow_cast-result-4 c = let s = c.args.job.now in let t = settings_held s c.requires _ c.accepted_settings-f.ensures.0 in omega (arith, t.start, (fields s c.requires).settings.start)
+
+pub returns : goal.returns
+unfolding job_by
+returns c = let s = c.args.job.now in let t = settings_held s c.requires _ c.accepted_settings-f.ensures.0 in let d = drawn_held s c.requires c.parts_of-p.ensures.3 c.read_draw_count-drawn.ensures in
+    simp (c.accepted_head-head.ensures.n, c.accepted_head-head.ensures.count, c.accepted_pins-b.ensures.0, c.accepted_pins-b.ensures.1, t.rank, t.rule, c.double_of.ensures ∙ t.number, t.most, t.minimum, c.double_of-2.ensures ∙ t.objective, c.double_of-3.ensures ∙ t.stationarity, t.width, t.start, c.value_of.ensures ∙ d.0)

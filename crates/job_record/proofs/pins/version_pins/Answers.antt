@@ -1,0 +1,27 @@
+use native.Mathlib.Omega.{arith}
+use mathlib.Core.Path.{◌≡◌, ap, ◌∙◌}
+use mathlib.Core.Bool.{not}
+use Prim.Native.Nat.{ℕ, ◌-◌}
+use lib.ListN.{replicate}
+use Rattle.limits.specs.Limits.{most_wagons}
+use Rattle.job_record.specs.Fields.{wagons, free_state}
+use Rattle.job_record.proofs.Fronts.{front_replicate}
+use Rattle.laws.specs.Refusal.{first}
+use Rattle.job_record.specs.Number.{pins_numbers}
+use Rattle.job_record.proofs.Accepted.{costs_place, version_pinned, version_none, version_some}
+use Rattle.job_record.proofs.pins.version_pins.Goals as goal
+
+pub returns-then-not-carries_pins : goal.returns-then-not-carries_pins
+returns-then-not-carries_pins c = version_none c.args.job.now (version_pinned c.args.job.now c.requires.0 c.carries_pins.ensures (ap not c.if-not-carries_pins.true))
+
+pub costs_end-requires : goal.costs_end-requires
+costs_end-requires c = omega (arith, c.requires.0.n, c.requires.0.count, c.requires.1, c.requires.2)
+
+pub pins_number-requires : goal.pins_number-requires
+pins_number-requires c = let n = c.args.head.n in let e : n - 0 ≡ n = omega arith in
+    front_replicate free_state (n - 0) most_wagons (omega (arith, c.requires.0.n, c.requires.1)) ∙ ap (λ (k : ℕ). replicate k free_state) e
+
+pub returns : goal.returns
+returns c = let s = c.args.job.now in let h = c.requires.0 in
+    c.pins_number.ensures.0 ∙ ap (λ (n : ℕ). first (pins_numbers s n c.costs_end.result)) h.n ∙ ap (λ (at : ℕ). first (pins_numbers s (wagons s) at)) (costs_place s h c.costs_end.ensures)
+    ∙ version_some s (version_pinned s h c.carries_pins.ensures (ap not c.if-not-carries_pins.false))
