@@ -1,0 +1,11 @@
+-- `step_rules::gradient_steps::step_against` meets its contract. By what its callees ensure. Assumes nothing.
+use native.Mathlib.Omega.{arith}
+use Rattle.step_rules.specs.Steps.{adv_by}
+use Rattle.step_rules.proofs.gradient_steps.step_against.Goals as goal
+
+pub step_size-size-requires : goal.step_size-size-requires
+step_size-size-requires c = record { obj_fits = rw c.requires.factor_len.0 c.requires.obj_fits; moved_len = (omega arith, omega arith) }
+
+pub returns : goal.returns
+unfolding adv_by
+returns c = rw (c.subtract_scaled.ensures, c.step_size-size.ensures) at c.project.ensures
