@@ -1,6 +1,6 @@
 -- What is written of an answer is read back.
 --     answer_back    the fields
---     choice-back    and the choice
+--     choice_back    and the choice
 -- Assumes nothing.
 use Prim.Native.Nat.{ℕ, ◌≤◌}
 use mathlib.Core.Path.{◌≡◌, ap}

@@ -1,6 +1,6 @@
 -- A record written from values that 01's limits allow is accepted.
---     accepted-back              its number is 0
---     state-back, state-left     a pinned wagon's state is its store, every other wagon is free
+--     accepted_back              its number is 0
+--     state_back, state_left     a pinned wagon's state is its store, every other wagon is free
 -- Assumes nothing.
 use Prim.Native.Nat.{ℕ, ◌+◌, ◌*◌, ◌^◌, ◌<◌, ◌≤◌}
 use mathlib.Core.Path.{◌≡◌, refl, sym, ap, ◌∙◌}
@@ -13,7 +13,7 @@ use lib.ListN.{length, length-append}
 use lib.IntN.{nat_abs}
 use Rattle.ieee.specs.Floats.{double_of}
 use Rattle.laws.specs.Lists.{elem}
-use Rattle.laws.specs.Refusal.{◌if◌, first, first_of}
+use Rattle.laws.specs.Refusal.{◌if◌, first}
 use Rattle.laws.proofs.Refusal.{neither, none_of}
 use Rattle.laws.proofs.Any.{below_false, below_none, or_none}
 use Rattle.laws.proofs.Following.{moves_on, moves_on_if, answers_last, passes_last, first_append}
@@ -25,16 +25,16 @@ use Rattle.job_reader.specs.Encode.{bytes_of}
 use Rattle.job_reader.proofs.Encode.{length_bytes_of, read_bytes}
 use Rattle.run_limits.specs.Momentum.{is_momentum}
 use Rattle.job_record.specs.Versions.{versions}
-use Rattle.job_record.specs.Fields.{rest_length, version, wagons, entry_count, entry_at, row, column, value, entries, signed_from, pins_place, pin_at, last_store, free_state, pin_count_by, rule_number_at, rank_of}
+use Rattle.job_record.specs.Fields.{rest_length, version, wagons, entry_at, row, column, value, entries, signed_from, pins_place, pin_at, last_store, free_state, pin_count_by, rule_number_at, rank_of}
 use Rattle.job_record.specs.Number.{ends_before, bounded_number, frame_number, version_number, entry_number, pinned_before, pin_number, momentum_number, head_numbers, entries_numbers, costs_numbers, pins_numbers, pins_numbers_by, settings_numbers, draws_numbers, run_numbers, job_number}
-use Rattle.job_record.specs.Values.{pin_count, free_wagons, settings_place, draws_by, draws_place, job_pin_wagon, job_pin_store, job_states}
+use Rattle.job_record.specs.Values.{pin_count, free_wagons, settings_place, draws_by, draws_place, job_pin_wagon, job_states}
 use Rattle.job_record.proofs.Same.{order_same, mirror_same, total_same}
 use Rattle.job_record.proofs.Whole.{parts}
 use Rattle.job_record.proofs.Accepted.{state_pinned, state_free}
-use Rattle.job_encoding.specs.Encode.{Values, entry_bytes, signed_bytes, double_bytes, pins_bytes, body_bytes, head_bytes, job_bytes}
+use Rattle.job_encoding.specs.Encode.{Values, entry_bytes, signed_bytes, double_bytes, body_bytes, head_bytes, job_bytes}
 use Rattle.job_encoding.specs.Allowed.{entry_of, cost_in, table_in, pin_of, Typed, Allowed}
 use Rattle.job_encoding.proofs.Each.{length_each}
-use Rattle.job_encoding.proofs.Back.{entry_size, signed_size, double_size, settings_size, head_size, pins_from, settings_from, some_size, version_back, wagons_back, count_back, row_back, column_back, value_back, cost_back, pins_at, pin_back, pin_count_back, free_back, settings_at, setting_at, rank_is, start_is, draws_at, drawn_is, set_rule, set_number, set_width}
+use Rattle.job_encoding.proofs.Back.{entry_size, signed_size, double_size, settings_size, head_size, settings_from, some_size, version_back, wagons_back, count_back, row_back, column_back, value_back, cost_back, pins_at, pin_back, pin_count_back, free_back, settings_at, setting_at, rank_is, start_is, draws_at, drawn_is, set_rule, set_number, set_width}
 
 -- a field that is there and within its limit
 within : (s : List ℕ) (at width most k : ℕ) → at + width ≤ length s → big_endian s at width ≤ most → 0 ≡ bounded_number s at width most k

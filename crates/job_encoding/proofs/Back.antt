@@ -1,8 +1,8 @@
 -- A job record written from values is read as those values.
---     wagons-back, count-back, row_back, column-back, value-back, cost-back    n, entry count, H and c
---     version-back, pin-count-back, free_back, pin-back                        version and pins
---     job-back                                                                 the settings
---     start_back, draw-back                                                    the start's doubles, and the draws
+--     wagons_back, count_back, row_back, column_back, value_back, cost_back    n, entry count, H and c
+--     version_back, pin_count_back, free_back, pin_back                        version and pins
+--     job_back                                                                 the settings
+--     start_back, draw_back                                                    the start's doubles, and the draws
 -- Assumes nothing.
 use Prim.Native.Nat.{ℕ, ◌+◌, ◌-◌, ◌*◌, ◌^◌, ◌<◌, ◌≤◌}
 use mathlib.Core.Path.{◌≡◌, refl, sym, ap, ap₂, ◌∙◌}
@@ -118,11 +118,11 @@ module _ (v : Values) where
 
 head_version : (rest version n count : ℕ) (body : List ℕ) → version < 2 ^ 8 → big_endian (head_bytes rest version n count ++ body) 4 1 ≡ version
 unfolding head_bytes bytes_of big_endian
-head_version rest version n count body h = read_bytes 1 version h
+head_version rest version n _ body h = read_bytes 1 version h
 
 head_n : (rest version n count : ℕ) (body : List ℕ) → n < 2 ^ 8 → big_endian (head_bytes rest version n count ++ body) 5 1 ≡ n
 unfolding head_bytes bytes_of big_endian
-head_n rest version n count body h = read_bytes 1 n h
+head_n rest version n _ body h = read_bytes 1 n h
 
 head_count : (rest version n count : ℕ) (body : List ℕ) → count < 2 ^ 16 → big_endian (head_bytes rest version n count ++ body) 6 2 ≡ count
 unfolding head_bytes bytes_of big_endian

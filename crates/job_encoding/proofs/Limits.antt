@@ -1,6 +1,6 @@
 -- Every list of values within 01's limits is held and allowed, so that its record is accepted.
---     limits-held, limits-allowed    from 01's words alone
---     limits-accepted                and so its number is 0
+--     limits_held, limits_allowed    from 01's words alone
+--     limits_accepted                and so its number is 0
 -- Assumes nothing.
 use Prim.Native.Nat.{ℕ, ◌+◌, ◌*◌, ◌^◌, ◌<◌, ◌≤◌}
 use mathlib.Core.Path.{◌≡◌, refl, sym, ◌∙◌}

@@ -1,15 +1,14 @@
 -- A job of version 2 with no pins is the job of version 1.
---     rank-back, start-count-back, drawn-back    the rank that is meant, the start's doubles and the draws' numbers, read back
---     no-pins-alike                              no pins: version 2 holds what version 1 holds
+--     rank_back, start_count_back, drawn_back    the rank that is meant, the start's doubles and the draws' numbers, read back
+--     no_pins_alike                              no pins: version 2 holds what version 1 holds
 -- Assumes nothing.
 use Prim.Native.Nat.{ℕ, ◌<◌}
-use mathlib.Core.Path.{◌≡◌, refl, sym, ap, ◌∙◌}
-use mathlib.Core.List.{List}
+use mathlib.Core.Path.{◌≡◌, sym, ap, ◌∙◌}
 use native.Mathlib.Omega.{arith}
 use lib.ListN.{length, replicate}
-use Rattle.job_record.specs.Fields.{wagons, pins_place, free_state}
+use Rattle.job_record.specs.Fields.{wagons, free_state}
 use Rattle.job_record.specs.Number.{job_number}
-use Rattle.job_record.specs.Values.{pin_count, states_of, job_states, job_rank, job_start_count, job_drawn}
+use Rattle.job_record.specs.Values.{states_of, job_states, job_rank, job_start_count, job_drawn}
 use Rattle.job_record.proofs.Pinning.{states_begin}
 use Rattle.job_encoding.specs.Encode.{Values, job_bytes, in_version}
 use Rattle.job_encoding.specs.Allowed.{rank_in, Typed, Allowed}

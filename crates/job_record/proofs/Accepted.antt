@@ -1,6 +1,6 @@
 -- What an accepted record holds.
 --     fields          its sizes and the places of its parts
---     pin-accepted, pins-apart, state-pinned, state-free, states-free    its pins, the states that they leave, and how many wagons are free
+--     pin_accepted, pins_apart, state_pinned, state_free, states_free    its pins, the states that they leave, and how many wagons are free
 use Prim.Native.Nat.{ℕ, ◌+◌, ◌-◌, ◌*◌, ◌<◌, ◌≤◌}
 use mathlib.Core.Path.{◌≡◌, refl, sym, ap, ◌∙◌}
 use mathlib.Core.Bool.{Bool, true, false, cond, not}

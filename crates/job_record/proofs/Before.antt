@@ -1,10 +1,10 @@
 -- A job of version 1 has the number and the fields that it had before there were pins, and one of version 1 or 2 those that it had before there
 -- were larger houses.
---     number-alike   two tables that say the same of a job's version give the same number
---     as_before      of version 1: number and fields
---     as-two         of any version but 3: number and fields by the table with versions 1 and 2
---     not-two        of any version but 2: the number by that table is the one by the table with version 1 alone
---     one-version    the table with version 1 alone gives the number of before
+--     number_alike       two tables that say the same of a job's version give the same number
+--     as_before          of version 1: number and fields
+--     as_two             of any version but 3: number and fields by the table with versions 1 and 2
+--     not_two            of any version but 2: the number by that table is the one by the table with version 1 alone
+--     one_version_lem    the table with version 1 alone gives the number of before
 -- Assumes nothing.
 use Prim.Native.Nat.{ℕ, zero, suc, ◌+◌, ◌-◌, ◌*◌, ◌≤◌}
 use mathlib.Core.Path.{◌≡◌, refl, sym, ap, ap₂, ◌∙◌}

@@ -1,7 +1,7 @@
 -- The fields of head and settings as a reader takes them: where each stands, and that they are judged as Number says.
---     reached, there     a field stands behind those before it, where these are there; and it is there itself
---     head-judged, settings-judged     the numbers of the fields are those of the record
---     head-there, settings-there       the values, where all fields are there
+--     reached, there                            a field stands behind those before it, where these are there; and it is there itself
+--     head_judged_lem, settings_judged_lem      the numbers of the fields are those of the record
+--     head_there, settings_there                the values, where all fields are there
 -- Assumes nothing.
 use Prim.Native.Nat.{ℕ, zero, suc, ◌+◌, ◌-◌, ◌^◌, ◌<◌, ◌≤◌}
 use mathlib.Core.Path.{◌≡◌, refl, sym, subst, ap, ◌∙◌}

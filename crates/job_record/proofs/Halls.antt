@@ -1,6 +1,6 @@
 -- An accepted job's H and c pass the tables' own checks, in the record and in the slices that they were read into.
 --     hall           the first number of the record's H and c is 0
---     hall-stored    and so is that of the slices that hold them
+--     hall_stored    and so is that of the slices that hold them
 use Prim.Native.Nat.{ℕ, ◌+◌, ◌*◌, ◌<◌, ◌≤◌}
 use mathlib.Core.Path.{◌≡◌, sym, ap, ◌∙◌}
 use mathlib.Core.Bool.{false}

@@ -1,7 +1,7 @@
 -- The pins: a pin judged against the states is a pin judged against the earlier pins; what accepted pins are.
---     judged-is               the number by the states is the pin's
---     pin-held, other-free    accepted pins: a pinned wagon is held in its pin's store, every other is free
---     free-left, free-kept    and so many wagons are free as no pin holds
+--     judged_is               the number by the states is the pin's
+--     pin_held, other_free    accepted pins: a pinned wagon is held in its pin's store, every other is free
+--     free_left, free_kept    and so many wagons are free as no pin holds
 -- Assumes nothing.
 use Prim.Native.Nat.{ℕ, zero, suc, ◌+◌, ◌*◌, ◌≤◌, ◌<◌}
 use mathlib.Core.Path.{◌≡◌, refl, sym, ap, ◌∙◌}
