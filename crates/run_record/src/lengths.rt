@@ -65,7 +65,7 @@ pub fn sweep_short(
 }
 
 // The lengths of the slices that a finish is lent.
-#[derive(Drop)]
+#[derive(Clone, Copy)]
 pub struct FinishSlices {
     pub draws: usize,
     pub factor: usize,

@@ -10,7 +10,7 @@ ghost use Rattle.run_record.specs.Numbers.{is_stopped};
 
 use step_rules::StepRule;
 
-#[derive(Drop)]
+#[derive(Clone, Copy)]
 pub enum Stage {
     Open,
     Stopped,
@@ -18,7 +18,7 @@ pub enum Stage {
 
 // The run record of 01: most and minimum are the sweep limits; status is 0 until a check stops the run with 1 or 2; standing is the total, over all
 // sweeps under rules 3 and 4, of the rows that a sweep left as they were.
-#[derive(Drop)]
+#[derive(Clone, Copy)]
 pub struct Run {
     pub size: usize,
     pub rank: usize,
@@ -35,7 +35,7 @@ pub struct Run {
 }
 
 // What an open is asked for: rank 0 is the default rank, rule and start are 01's numbers, `number` is the rule's.
-#[derive(Drop)]
+#[derive(Clone, Copy)]
 pub struct OpenSettings {
     pub rank: usize,
     pub rule: u8,

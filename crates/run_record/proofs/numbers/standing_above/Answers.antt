@@ -1,15 +1,13 @@
 -- `run_record::numbers::standing_above` meets its contract: standing is above size times sweeps exactly where one less, divided by the sweeps, is at
 -- least the size. Assumes nothing.
-use borrow.Author.Rules.{rules}
 use borrow.Author.Tests.{leb-true, leb-false, lt-ltb, le-ltb}
 use Prim.Native.Nat.{ℕ, ◌-◌, ◌*◌, ◌/◌, ◌≤◌, ◌<◌}
-use mathlib.Core.Path.{◌≡◌, refl, sym, ◌∙◌}
+use mathlib.Core.Path.{◌≡◌, refl, sym}
 use mathlib.Core.Bool.{Bool, true, false}
 use native.Mathlib.Nat.{mul-zero, le-div_iff_mul-le}
 use native.Mathlib.Omega.{arith}
 use lib.Dec.{ltb, leb}
-use Rattle.run_record.proofs.numbers.standing_above.Statement.{statement}
-use Rattle.run_record.proofs.numbers.standing_above.Tie as tie
+use Rattle.run_record.proofs.numbers.standing_above.Goals as goal
 
 none-standing : (size sweeps standing : ℕ) → standing ≡ 0 → false ≡ ltb (size * sweeps) standing
 none-standing size sweeps standing e = sym (le-ltb (size * sweeps) standing (omega arith))
@@ -35,14 +33,11 @@ by-division size sweeps standing some swept = by (leb size ((standing - 1) / swe
         under : (size * sweeps ≤ standing - 1 → ⊥) → standing ≤ size * sweeps
         under n = omega arith
 
-returns : tie.Need-returns
-returns c = none-standing _ _ _ c.if1.true
+pub returns-then-standing-eq0 : goal.returns-then-standing-eq0
+returns-then-standing-eq0 c = none-standing _ _ _ c.if-standing-eq0.true
 
-returns-2 : tie.Need-returns-2
-returns-2 c = no-sweep _ _ _ c.before.if1.false c.if2.true
+pub returns-then-sweeps-eq0 : goal.returns-then-sweeps-eq0
+returns-then-sweeps-eq0 c = no-sweep _ _ _ c.if-standing-eq0.false c.if-sweeps-eq0.true
 
-returns-3 : tie.Need-returns-3
-returns-3 c = by-division _ _ _ c.before.if1.false c.if2.false
-
-pub standing-above-spec : {M : Type 1} → statement M
-standing-above-spec = tie.close (tie.spec returns returns-2 (λ c. search rules) (λ c. search rules) returns-3)
+pub returns : goal.returns
+returns c = by-division _ _ _ c.if-standing-eq0.false c.if-sweeps-eq0.false

@@ -1,0 +1,6 @@
+use native.Mathlib.Omega.{arith}
+use Rattle.run_record.proofs.Holds.{table_lent, costs_lent}
+use Rattle.run_record.proofs.numbers.table_number.Goals as goal
+
+pub hall_number-requires : goal.hall_number-requires
+hall_number-requires c = (table_lent _ c.requires, costs_lent _ c.requires, omega arith, omega arith)
