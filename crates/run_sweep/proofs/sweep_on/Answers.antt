@@ -1,0 +1,20 @@
+use mathlib.Core.Path.{sym, ◌∙◌}
+use Rattle.step_rules.proofs.Standing.{standing_in_few}
+use Rattle.run_sweep.proofs.Loop.{after_factor, after_left, reshaped}
+use Rattle.run_sweep.proofs.sweep_on.Goals as goal
+
+pub step-answer-requires : goal.step-answer-requires
+step-answer-requires c = record { shaped = c.requires.sweepable.shaped; obj_fits = c.requires.sweepable.fits; scratch_len = (c.requires.sweepable.product_is, c.requires.sweepable.moved_is, c.requires.sweepable.some) }
+
+pub run_after-requires : goal.run_after-requires
+run_after-requires c = record {
+  countable = record {
+    standing_before = c.requires.sweeps_lt_most.1;
+    left_few = rw c.step-answer.ensures.standing_value (standing_in_few _ _ _ _ _ _ _);
+    signs_few = c.requires.sweepable.few;
+  };
+  sweeps_lt_most = (c.requires.sweeps_lt_most.0, c.step-answer.ensures.tests_value.0, reshaped c.requires.sweepable.shaped c.step-answer.auto.factor, c.step-answer.auto.scratch ∙ c.requires.sweepable.product_is, c.requires.sweepable.dual_is);
+}
+
+pub returns : goal.returns
+returns c = (after_left _ _ _ (after_factor _ _ _ c.run_after.ensures (sym c.step-answer.ensures.tests_value.1)) (sym c.step-answer.ensures.standing_value), c.step-answer.ensures.tests_value.1)
