@@ -1,6 +1,6 @@
 use native.Mathlib.Omega.{arith}
 use mathlib.Core.Path.{refl}
-use lib.ListN.{length, length-take, length-drop, length-replicate}
+use lib.ListN.{length, length-take, length-drop}
 use mir.Facts.{to_z-of_z}
 use Rattle.sign_words.proofs.Sizes.{few_words, enough_words}
 use Rattle.sign_search.proofs.search.search_room.Goals as goal
@@ -15,8 +15,8 @@ pub search_words-requires : goal.search_words-requires
 search_words-requires c = let m = length c.args.current.now in (
   c.requires.0,
   c.requires.1,
-  simp (length-take, length-drop, length-replicate) (omega (arith, c.sign_words-words.ensures, few_words m)),
-  simp (length-take, length-drop, length-replicate) (omega (arith, c.sign_words-words.ensures, few_words m, enough_words m c.requires.0.signs_few)),
+  simp (length-take, length-drop) (omega (arith, c.sign_words-words.ensures, few_words m)),
+  simp (length-take, length-drop) (omega (arith, c.sign_words-words.ensures, few_words m, enough_words m c.requires.0.signs_few)),
   refl,
   c.requires.2,
   c.requires.3,
