@@ -1,24 +1,23 @@
 -- The first of least cost, and what it means: it costs no more than any choice.
 -- Assumes nothing.
-use mathlib.Core.Path.{◌≡◌, refl, sym, ap, subst, ◌∙◌}
-use mathlib.Core.List.{List, ◌++◌}
-use Prim.Native.Nat.{ℕ, zero, suc, ◌+◌, ◌-◌, ◌*◌, ◌^◌, ◌<◌, ◌≤◌}
+use mathlib.Core.Path.{◌≡◌, sym, ap, subst, ◌∙◌}
+use mathlib.Core.List.{List}
+use Prim.Native.Nat.{ℕ, ◌-◌, ◌^◌, ◌<◌}
 use native.Mathlib.Omega.{arith}
 use lib.Dec.{lit≤}
 use lib.Pow.{pow_pos}
-use lib.IntN.{ℤ, pos}
+use lib.IntN.{ℤ}
 use lib.Signed.{◌≤ℤ◌}
 use lib.ListN.{length, drop, get_or-append}
 use Rattle.laws.specs.Lists.{elem_z, over}
 use Rattle.laws.proofs.Made.{length_tabulate}
-use Rattle.tables.specs.Table.{Table, value_at, floor_of}
-use Rattle.tables.specs.Cost.{cost_eighths, bit, choice_at}
+use Rattle.tables.specs.Table.{Table, value_at}
+use Rattle.tables.specs.Cost.{bit}
 use Rattle.tables.specs.Check.{Hall}
 use Rattle.limits.specs.Limits.{most_wagons, most_entries, most_magnitude}
 use Rattle.tables.proofs.Choices.{cost_ext}
 use Rattle.sign_table.proofs.Theorems.{floor_le_choice}
 use Rattle.float_bound.proofs.Theorem.{bound_below_cost}
-use Rattle.rounding.specs.Rounding.{first_least}
 use Rattle.rounding.proofs.Least.{least_within, least_least, least_first}
 use Rattle.exhaustive.specs.Choices.{digit, digits_of, cost_of, walk_cost, least_number}
 use Rattle.exhaustive.specs.Contract.{Found}

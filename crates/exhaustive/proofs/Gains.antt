@@ -2,9 +2,9 @@
 --     set-cost, set-gain      of any choice
 --     digit-grows, digit-shifts, cost-small, zero-cost, zero-gain    of the choices by number, of an accepted (H, c)
 -- Assumes nothing.
-use mathlib.Core.Path.{◌≡◌, refl, sym, ap, ap₂, ◌∙◌}
+use mathlib.Core.Path.{◌≡◌, sym, ap, ap₂, ◌∙◌}
 use mathlib.Core.Bool.{Bool, true, false, cond}
-use Prim.Native.Nat.{ℕ, zero, suc, ◌+◌, ◌*◌, ◌^◌, ◌<◌, ◌≤◌}
+use Prim.Native.Nat.{ℕ, ◌+◌, ◌*◌, ◌<◌, ◌≤◌}
 use native.Mathlib.Decide.{ℕ_discrete}
 use native.Mathlib.Omega.{arith}
 use borrow.Author.Tests.{eq-eqb, ne_eqb}
@@ -16,9 +16,8 @@ use Rattle.laws.proofs.Sums.{sum_ext, sum_add, sum_zero, sum_only, sum_bounded, 
 use Rattle.limits.specs.Limits.{most_magnitude, most_sign_magnitude}
 use Rattle.tables.specs.Table.{Table, Symmetric, InRange, magnitude_of, value_at}
 use Rattle.tables.specs.Cost.{cost_eighths, cost_term, linear_term, bit, choice_at}
-use Rattle.tables.specs.Check.{Hall, hall_magnitude}
+use Rattle.tables.specs.Check.{hall_magnitude}
 use Rattle.tables.proofs.Places.{only_sum}
-use Rattle.tables.proofs.Mirrors.{mirrored_symmetric}
 use Rattle.tables.proofs.Choices.{cost_ext, cost_entries, cost_abs, linear_abs}
 use Rattle.exhaustive.specs.Choices.{digit, digits_of, walk_cost}
 use Rattle.exhaustive.proofs.Digits.{clear, raised, digit_clear, digit_set, digit_other, digit_none, at_digit}

@@ -13,7 +13,7 @@ use Rattle.laws.specs.Lists.{elem_z}
 use Rattle.laws.specs.Refusal.{◌if◌, first}
 use Rattle.laws.specs.Sum.{total}
 use Rattle.laws.proofs.Any.{any_head, any_rest}
-use Rattle.laws.proofs.Refusal.{first_head, first_rest, first_here, first_skip, clear}
+use Rattle.laws.proofs.Refusal.{first_head, first_rest, first_here, clear}
 use Rattle.laws.proofs.Totals.{total_ext}
 use Rattle.limits.specs.Limits.{most_wagons, most_entries, most_magnitude}
 use Rattle.tables.specs.Table.{Table, table_of, Lent, magnitude_of}

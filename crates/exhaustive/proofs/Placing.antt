@@ -1,25 +1,24 @@
 -- The table laid out, entry by entry.
 -- Assumes nothing.
-use mathlib.Core.Path.{◌≡◌, refl, sym, ap, ap₂, subst, ◌∙◌}
+use mathlib.Core.Path.{◌≡◌, refl, sym, ap, ap₂, ◌∙◌}
 use mathlib.Core.Bool.{Bool, true, false, cond}
 use mathlib.Core.List.{List}
-use Prim.Native.Nat.{ℕ, zero, suc, ◌+◌, ◌-◌, ◌*◌, ◌^◌, ◌<◌, ◌≤◌}
+use Prim.Native.Nat.{ℕ, ◌+◌, ◌*◌, ◌<◌, ◌≤◌}
 use native.Mathlib.Decide.{ℕ_discrete}
-use native.Mathlib.Numerals.{add-one}
 use native.Mathlib.Omega.{arith}
 use borrow.Author.Tests.{eq-eqb, ne_eqb}
 use lib.Dec.{eqb}
 use lib.IntN.{ℤ, pos, nat_abs, ◌+ℤ◌, +ℤ_idr}
-use lib.ListN.{length, get_or, set, replicate, length-set, length-replicate, get_or-replicate}
+use lib.ListN.{length, set, replicate, length-set, length-replicate, get_or-replicate}
 use lib.Seq.{get_or-set_same, get_or-set_other}
 use mir.Syntax.{w64}
 use mir.Val.{SFits}
-use Rattle.laws.specs.Sum.{sum, total, only}
+use Rattle.laws.specs.Sum.{sum, only}
 use Rattle.laws.specs.Lists.{elem, elem_z}
 use Rattle.laws.proofs.Integer.{fits_abs}
 use Rattle.laws.proofs.Sums.{sum_bounded, sum_more}
 use Rattle.limits.specs.Limits.{most_magnitude}
-use Rattle.tables.specs.Table.{Table, table_of, InRange, magnitude_of, value_at}
+use Rattle.tables.specs.Table.{Table, table_of, magnitude_of, value_at}
 use Rattle.exhaustive.specs.Walk.{LaidOut}
 
 -- what entry k adds at (i, j)

@@ -1,0 +1,20 @@
+-- `exhaustive::grid::lay_out` meets its contract. Assumes nothing.
+use Prim.Native.Nat.{◌+◌}
+use mathlib.Core.Path.{sym, subst}
+use native.Mathlib.Omega.{arith}
+use Rattle.laws.specs.Lists.{elem_z}
+use Rattle.exhaustive.proofs.Placing.{Laid, none_laid, next_laid, next_fits, all_laid}
+use Rattle.laws.proofs.Integer.{held}
+use Rattle.exhaustive.proofs.grid.lay_out.Goals as goal
+
+pub loop-k-init : goal.loop-k-init
+loop-k-init c = (omega arith, none_laid _ _ _ _ c.requires.3)
+
+pub add_at-requires : goal.add_at-requires
+add_at-requires c = let a = c.args in let l = c.loop-k in let low = c.requires.1.rows_in c.loop-k.k (omega arith) in let left = c.requires.1.cols_in c.loop-k.k (omega arith) in (rw c.wide-i.ensures low, rw c.wide-j.ensures left, next_fits a.count a.rows.now a.cols.now a.values.now c.requires.2 l.k l.grid l.invariant.1 (omega arith) c.wide-i.result c.wide-j.result _ c.wide-i.ensures c.wide-j.ensures (held (elem_z a.values.now l.k) c.add_at-arg-1.given) (rw c.wide-i.ensures low) (rw c.wide-j.ensures left))
+
+pub loop-k-preserved : goal.loop-k-preserved
+loop-k-preserved c = let a = c.args in let l = c.loop-k in let low = c.requires.1.rows_in c.loop-k.k (omega arith) in let left = c.requires.1.cols_in c.loop-k.k (omega arith) in (omega arith, subst (Laid a.rows.now a.cols.now a.values.now (l.k + 1)) (sym c.add_at.ensures) (next_laid a.rows.now a.cols.now a.values.now l.k l.grid l.invariant.1 c.wide-i.result c.wide-j.result _ c.wide-i.ensures c.wide-j.ensures (held (elem_z a.values.now l.k) c.add_at-arg-1.given) (rw c.wide-i.ensures low) (rw c.wide-j.ensures left)))
+
+pub returns : goal.returns
+returns c = all_laid c.args.count c.args.rows.now c.args.cols.now c.args.values.now c.requires.2 c.loop-k.k c.loop-k.grid c.loop-k.invariant.1 c.loop-k.invariant.0 (omega arith)
