@@ -91,7 +91,7 @@ module _ {m : ℕ} {t : Table} (ok : Accepted most_signs most_sign_entries most_
 
   -- an objective is an i64
   pub objective_held : (x : List ℕ) {z : ℤ} → z ≡ objective_in t x → to_z w64 (of_z w64 z) ≡ z
-  objective_held x e = to_z-of_z (rw e (objective_fits (accepted_mirrors ok) ok.magnitude x))
+  objective_held x e = to_z-of_z {w = w64} (rw e (objective_fits (accepted_mirrors ok) ok.magnitude x))
 
 -- ---- the figures of a sign table, and of (H, c)
 
