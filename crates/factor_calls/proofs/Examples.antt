@@ -3,7 +3,7 @@
 -- Assumes nothing.
 use Prim.Native.Nat.{ℕ}
 use mathlib.Core.List.{List, [], ◌∷◌, map}
-use mathlib.Core.Path.{◌≡◌, refl, ap, ◌∙◌}
+use mathlib.Core.Path.{◌≡◌, refl, ap}
 use lib.IntN.{pos}
 use lib.Ieee.{Float, binary64, of_bits, to_bits, of_int, add, mul, div}
 use Rattle.laws.specs.Lists as Lists

@@ -8,7 +8,7 @@
 use mathlib.Core.Path.{◌≡◌, refl, sym, ap, ◌∙◌, subst}
 use mathlib.Core.Bool.{Bool, true, false, cond, ◌||◌, beq}
 use mathlib.Core.List.{List}
-use mathlib.Core.Logic.{◌⊎◌, inl, inr, ⊎_elim}
+use mathlib.Core.Logic.{◌⊎◌, inl, inr}
 use Prim.Native.Nat.{ℕ, zero, suc, ◌+◌, ◌*◌, ◌-◌, ◌/◌, ◌^◌, ◌≤◌, ◌<◌}
 use native.Mathlib.Nat.{lt_irrefl, mul-one, one-mul, zero-mul, mul-zero, mul-pos, mul_right_comm, eq_of_mul-eq-mul_right, lt_of_mul-lt-mul_right, mul-lt-mul_of_pos_right}
 use native.Mathlib.Decide.{ℕ_discrete}
@@ -22,7 +22,6 @@ use lib.Ieee.Fits.{and_l, add-fits, round-fits, up_pos, down_pos}
 use lib.Ieee.Exact.{HasValue, round_exact}
 use lib.Ieee.Nearest.{div_same}
 use lib.ListN.{length, replicate, length-replicate}
-use Rattle.laws.specs.Lists.{tabulate}
 use Rattle.laws.specs.Rows.{row_of}
 use Rattle.laws.specs.Turns.{up_to}
 use Rattle.laws.proofs.Any.{never}
@@ -30,7 +29,7 @@ use Rattle.laws.proofs.MapFirst.{length_map_first}
 use Rattle.laws.proofs.Parts.{length_row_of}
 use Rattle.laws.proofs.Made.{length_tabulate, tabulate_ext}
 use Rattle.ieee.specs.Floats.{at, zero64, one64, eighth_of, ◌/ᶠ◌, ◌*ᶠ◌, ◌+ᶠ◌}
-use Rattle.ieee.proofs.Nearest.{Parts, Exact, parts, exact}
+use Rattle.ieee.proofs.Nearest.{parts, exact}
 use Rattle.tables.specs.Table.{Table}
 use Rattle.factor.specs.Norms.{dot_to, dot_of}
 use Rattle.factor.specs.Vectors.{add_scaled}

@@ -45,10 +45,10 @@ record Between (w Y N : ℕ) : Type 0 where
 
 between : (n w Y N : ℕ) → w * w ≤ n → n < suc w * suc w → Nearer n N Y → Between w Y N
 between n w Y N u o c = ⊎_elim
-    (λ h. let more : 2 * w < N + Y = lt_square (lt_of_le_of_lt (omega (arith, u)) (c.than-above h)) in record { up = inl (omega arith); lo = inr (omega arith) })
+    (λ h. let more : 2 * w < N + Y = lt_square (lt_of_le_of_lt (omega (arith, u)) (c.than_above h)) in record { up = inl (omega arith); lo = inr (omega arith) })
     (λ h. ⊎_elim
     (λ e. record { up = inl (omega (arith, e)); lo = inl (omega arith) })
-    (λ l. let less : N + Y < 2 * suc w = lt_square (lt_of_lt_of_le (c.than-below l) (omega (arith, o))) in record { up = inr (omega arith); lo = inl (omega arith) })
+    (λ l. let less : N + Y < 2 * suc w = lt_square (lt_of_lt_of_le (c.than_below l) (omega (arith, o))) in record { up = inr (omega arith); lo = inl (omega arith) })
     (eq-or-lt_of_le h))
     (below_or_not N Y)
 

@@ -1,0 +1,31 @@
+-- `factor_calls::whole::whole_multipliers` meets its contract. The first i elements are written, and `from` is where row i starts. Assumes nothing.
+use mathlib.Core.Path.{◌≡◌, refl}
+use native.Mathlib.Omega.{arith}
+use lib.ListN.{length-set}
+use lib.Ieee.{nan}
+use Rattle.laws.specs.Lists.{tabulate}
+use Rattle.laws.proofs.Made.{tabulate_next, tabulate_all}
+use Rattle.laws.proofs.Parts.{row_within}
+use Rattle.factor_calls.specs.Equation8.{multipliers_by}
+use Rattle.factor_calls.proofs.Cursor.{at_first}
+use Rattle.factor_calls.proofs.whole.whole_multipliers.Goals as goal
+
+pub loop-i-init : goal.loop-i-init
+unfolding tabulate
+loop-i-init c = (omega arith, c.requires.rank_in_bounds.1, omega arith, refl, at_first _)
+
+pub whole_row-from-requires : goal.whole_row-from-requires
+whole_row-from-requires c = record { lent = (c.requires.lent.0, c.requires.lent.1); rising = (c.requires.lent.2, c.loop-i.invariant.4); rank_in_bounds = (c.requires.rank_in_bounds.0, c.loop-i.invariant.1) }
+
+pub row-requires : goal.row-requires
+row-requires c = omega (arith, row_within _ _ c.args.rank c.loop-i-test.true, c.requires.rank_in_bounds.0)
+
+pub value_of-requires : goal.value_of-requires
+value_of-requires c = omega (arith, c.row.ensures.result_len)
+
+pub loop-i-preserved : goal.loop-i-preserved
+loop-i-preserved c = (omega arith, omega arith, simp length-set (omega arith), rw (c.value_of.ensures, c.whole_row-from.ensures.sums_after, c.row.ensures.result_value) (tabulate_next _ _ _ _ nan (omega arith) c.loop-i.invariant.3), c.whole_row-from.ensures.at)
+
+pub returns : goal.returns
+unfolding multipliers_by
+returns c = let e : c.loop-i.i ≡ c.args.m = omega arith in rw (tabulate_all _ _ _ c.requires.rank_in_bounds.2) at (rw e at c.loop-i.invariant.3)

@@ -1,0 +1,17 @@
+-- `factor_calls::whole::whole_multipliers` meets its contract. The first i elements are written, and `from` is where row i starts. Assumes nothing.
+use mathlib.Core.Path.{◌≡◌}
+use Prim.Native.Nat.{◌≤◌, ◌-◌}
+use lib.ListN.{length}
+use Rattle.tables.specs.Table.{table_of}
+use Rattle.laws.specs.Lists.{over, tabulate}
+use Rattle.sign_table.specs.Walk.{At}
+use Rattle.laws.specs.Rows.{row_of}
+use Rattle.maxcut_oracle.specs.Whole.{whole_row}
+use Rattle.factor_calls.specs.Equation8.{value_of}
+use Rattle.factor_calls.proofs.whole.whole_multipliers.Given as goal
+
+abbrev pub invariant-loop-i : goal.invariant-loop-i
+invariant-loop-i l = (l.i ≤ l.m) × (length l.sums ≡ l.rank) × (length l.dual ≡ length l.initial.dual) × (l.dual ≡ over (tabulate (λ j. value_of l.divided (whole_row (table_of l.count l.rows l.cols l.values) l.rank l.factor j) (row_of l.rank l.factor j)) l.i) l.initial.dual) × At (table_of l.count l.rows l.cols l.values) l.from l.i 0
+
+abbrev pub decreases-loop-i : goal.decreases-loop-i
+decreases-loop-i l = l.m - l.i
