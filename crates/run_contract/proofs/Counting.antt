@@ -21,13 +21,12 @@ use lib.ListN.{length, get_or, take, length-append}
 use Rattle.laws.specs.Lists.{only_if, kept}
 use Rattle.laws.proofs.Made.{below_or_not}
 use Rattle.ieee.specs.Floats.{tiny, zero64}
-use Rattle.coordinate_sweep.specs.Sweep.{sweep_to, norm_at, standing_to}
+use Rattle.coordinate_sweep.specs.Sweep.{standing_to}
 use Rattle.step_rules.specs.declared.StepRule.{StepRule}
 use Rattle.step_rules.specs.declared.StepRule.TheVariants.{Grad, GradAdv, Coord, CoordNoStep, CoordMomentum}
 use Rattle.step_rules.specs.Rule.{rule_of, standing_in}
 use Rattle.step_rules.proofs.Standing.{standing_in_few}
 use Rattle.run_record.specs.declared.Run.{Run}
-use Rattle.run_record.specs.declared.Stage.{Stage}
 use Rattle.run_record.specs.declared.Stage.TheVariants.{Open, Stopped}
 use Rattle.run_sweep.specs.Work.{Work, call_work}
 use Rattle.run_sweep.specs.Sweep.{State, advanced, run_after}

@@ -6,7 +6,7 @@
 --     seen-in-turn   the same of the port: at every position of every list of calls, refused ones included
 -- By induction on sweeps and calls. Assumes nothing.
 use Prim.Native.Nat.{ℕ, zero, suc, ◌<◌}
-use mathlib.Core.Path.{◌≡◌, refl, sym, ap, ◌∙◌, subst}
+use mathlib.Core.Path.{◌≡◌, refl, sym, ap, ◌∙◌}
 use mathlib.Core.Bool.{Bool, true, false, cond}
 use mathlib.Core.List.{List, [], ◌∷◌, ◌++◌}
 use mathlib.Core.Logic.{◌⊎◌, inl, inr}
@@ -24,7 +24,7 @@ use Rattle.run_sweep.specs.Work.{Work, call_work}
 use Rattle.run_sweep.specs.Sweep.{State, advanced, run_after}
 use Rattle.run_contract.specs.declared.Opened.TheVariants as O
 use Rattle.run_contract.specs.Calls.{Settings, Opens, used, open_size, open_rank, start_factor}
-use Rattle.run_contract.specs.PlainRun.{Plain, SweepCall, Call, sweep, finish, exchange, plain_open, swept_factor, with_rule, plain_sweeps, if_open, acted, record_of, plain_number, plain_after, Seen, plain_seen, plain_trace}
+use Rattle.run_contract.specs.PlainRun.{Plain, Call, sweep, finish, exchange, plain_open, swept_factor, with_rule, plain_sweeps, if_open, acted, record_of, plain_number, plain_after, Seen, plain_seen, plain_trace}
 use Rattle.run_contract.specs.Chain.{Chain}
 use Rattle.run_contract.specs.Log.{Made, made_from, if_open_made, made, accepted, made_by, log, plain_end, Among, applied, rule_by, rule_after, MadeIn}
 use Rattle.run_contract.proofs.Follows.{state_of, turned, turns}

@@ -15,7 +15,7 @@ use Rattle.laws.specs.Lists.{over}
 use Rattle.run_record.specs.declared.Run.{Run}
 use Rattle.run_record.specs.declared.Stage.TheVariants.{Open, Stopped}
 use Rattle.run_record.specs.CostTable.{quadratic, linear}
-use Rattle.run_record.specs.Numbers.{sweep_number, finish_number, exchange_number}
+use Rattle.run_record.specs.Numbers.{sweep_number, finish_number}
 use Rattle.step_rules.specs.Rule.{rule_of}
 use Rattle.run_sweep.specs.Work.{Work, call_work}
 use Rattle.run_sweep.specs.Sweep.{State, sweeps_up_to, advanced, run_after}
@@ -80,9 +80,9 @@ keeps_sweeps (suc k) w p =
 
 module _ (p : Plain) (call : SweepCall) (factor : List Float) (number : ℕ) (run' : Run) (factor' : List Float) (w : Whole p)
     (lends : Lends p.factor call.factor_length factor) (says : Sweeps (record_of p) call.table call.k factor number run' factor') where
-  sweep_number : number ≡ plain_number p (sweep call)
+  sweep_number_lem : number ≡ plain_number p (sweep call)
   unfolding plain_number
-  sweep_number = says.numbered ∙ ap (sweep_number (record_of p) call.table) lends.sized
+  sweep_number_lem = says.numbered ∙ ap (sweep_number (record_of p) call.table) lends.sized
 
   -- record and factor that the call leaves
   abbrev Left : Plain → Type 0
@@ -98,7 +98,7 @@ module _ (p : Plain) (call : SweepCall) (factor : List Float) (number : ℕ) (ru
   sweep_acts z =
       let a = says.accepted z in
       let t = call_work call.table in
-      let room : p.size * p.rank ≤ call.factor_length = (sweep_accepted (record_of p) call.table call.factor_length (sym sweep_number ∙ z)).factor_room in
+      let room : p.size * p.rank ≤ call.factor_length = (sweep_accepted (record_of p) call.table call.factor_length (sym sweep_number_lem ∙ z)).factor_room in
       let state = ap (λ (v : List Float). sweeps_up_to call.k t (record_of p) v) (lent_factor p call.factor_length factor w lends room) ∙ sweeps_follow call.k t p in
       let keeps = keeps_sweeps call.k t p in (
         a.0 ∙ ap (λ (s : State). s.run) state,
@@ -109,15 +109,15 @@ module _ (p : Plain) (call : SweepCall) (factor : List Float) (number : ℕ) (ru
 
   sweep_by : (m : ℕ) → number ≡ m → Left (plain_after p (sweep call))
   unfolding plain_after
-  sweep_by zero e = rw (eq-eqb _ _ (sym sweep_number ∙ e)) (sweep_acts e)
-  sweep_by (suc m) e = let n : number ≡ 0 → ⊥ = (λ z. omega arith) in rw (ne_eqb (plain_number p (sweep call)) 0 (λ z. n (sweep_number ∙ z))) (sweep_stays n)
+  sweep_by zero e = rw (eq-eqb _ _ (sym sweep_number_lem ∙ e)) (sweep_acts e)
+  sweep_by (suc m) e = let n : number ≡ 0 → ⊥ = (λ z. omega arith) in rw (ne_eqb (plain_number p (sweep call)) 0 (λ z. n (sweep_number_lem ∙ z))) (sweep_stays n)
 
   sweep_left : Left (plain_after p (sweep call))
   sweep_left = sweep_by number refl
 
   sweep_seen : seen_of number none run' (kept_after p.factor call.factor_length factor') ≡ plain_seen p (sweep call)
   unfolding plain_seen
-  sweep_seen = rw (sweep_left.0, sweep_left.1, sweep_number, either (eqb (plain_number p (sweep call)) 0))
+  sweep_seen = rw (sweep_left.0, sweep_left.1, sweep_number_lem, either (eqb (plain_number p (sweep call)) 0))
 
 -- ---- a finish call from a plain run's state
 
