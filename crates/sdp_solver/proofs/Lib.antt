@@ -2,4 +2,3 @@ pub mod Prepared
 pub mod Written
 pub mod Opening
 pub mod Finishing
-pub mod Parameters
