@@ -6,15 +6,15 @@ use Prim.Native.Nat.{ℕ, zero, suc, ◌≤◌, ◌<◌}
 use native.Mathlib.Omega.{arith}
 use mathlib.Core.Bool.{Bool, true, false, cond}
 use mathlib.Core.List.{List}
-use mathlib.Core.Path.{◌≡◌, refl, sym, ap, ap₂, ◌∙◌}
+use mathlib.Core.Path.{◌≡◌, refl, sym, ap, ◌∙◌}
 use lib.IntN.{ℤ}
 use lib.ListN.{length}
 use Rattle.laws.specs.Turns.{up_to}
-use Rattle.laws.specs.Lists.{elem, tabulate}
+use Rattle.laws.specs.Lists.{elem}
 use Rattle.laws.proofs.Made.{tabulate_ext}
 use Rattle.tables.specs.Table.{Table}
-use Rattle.block_search.specs.Blocks.{BlockCall, named, held, searched_held, fall_held, block_of, searched_from, fall_from, choice_from, block_fall, block_moves, first_choice, choice_after, house_moves, last_choice, falls_of}
-use Rattle.block_search.specs.Moved.{named_moves, choice_after_moved, falls_of_moved, last_choice_moved, Apart, AsMoved}
+use Rattle.block_search.specs.Blocks.{BlockCall, named, held, searched_held, fall_held, block_of, searched_from, fall_from, choice_from, block_fall, block_moves, first_choice, choice_after, house_moves}
+use Rattle.block_search.specs.Moved.{named_moves, choice_after_moved, Apart, AsMoved}
 use Rattle.block_search.proofs.Named.{named_at, unnamed}
 
 -- ---- turns in which the same wagons move

@@ -16,10 +16,10 @@ use mathlib.Core.Logic.{◌⊎◌, inl, inr}
 use mathlib.Core.Path.{◌≡◌, refl, sym, ap, ◌∙◌, subst₂}
 use lib.Dec.{eqb}
 use lib.IntN.{ℤ, pos, neg_ℤ, ◌+ℤ◌, ◌-ℤ◌}
-use lib.ListN.{length, get_or, length-append, get_or-append, get_or-eq_default}
+use lib.ListN.{length, length-append, get_or-append, get_or-eq_default}
 use lib.Seq.{get_or_at}
 use lib.Signed.{◌≤ℤ◌}
-use Rattle.laws.specs.Lists.{elem, tabulate}
+use Rattle.laws.specs.Lists.{elem}
 use Rattle.laws.proofs.Any.{never}
 use Rattle.laws.proofs.Made.{length_tabulate, get_d_tabulate, below_or_not}
 use Rattle.laws.proofs.Integer.{integers, add_parts, neg-⁺, neg-⁻}
@@ -34,7 +34,7 @@ use Rattle.sign_search.proofs.Theorems.{answer_le}
 use Rattle.sign_search.proofs.HallTheorems.{hall_mirrors, signs_cost, one_wagon, all_wagons}
 use Rattle.finalize.specs.Finalize.{choice_of, cost_of}
 use Rattle.finalize.specs.Demand3.{DifferInOne}
-use Rattle.pinned.specs.Pinned.{is_free, free_of, free_table, free_cost, held_cost, lifted, free_part, Keeps}
+use Rattle.pinned.specs.Pinned.{is_free, free_of, free_table, free_cost, held_cost, free_part, Keeps}
 use Rattle.pinned.proofs.Free.{free_map, free_once}
 use Rattle.pinned.proofs.Lifting.{length_lifted, lifted_free, lifted_held, part_at, keeping_cost}
 use Rattle.pinned.proofs.Costs.{reduce_cost}

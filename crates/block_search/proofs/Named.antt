@@ -9,7 +9,7 @@ use mathlib.Core.List.{List}
 use mathlib.Core.Path.{◌≡◌, sym, ◌∙◌}
 use lib.Dec.{eqb}
 use lib.ListN.{length}
-use Rattle.laws.specs.Lists.{elem, any_below}
+use Rattle.laws.specs.Lists.{elem}
 use Rattle.laws.proofs.Any.{never, below_at, below_none, below_true}
 use Rattle.tables.specs.Cost.{choice_at}
 use Rattle.block_search.specs.Blocks.{BlockCall, named}

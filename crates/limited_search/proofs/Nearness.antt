@@ -5,12 +5,12 @@ use native.Mathlib.Omega.{arith}
 use borrow.Author.Tests.{le-leb, leb-true, eqb-true}
 use mathlib.Core.Bool.{Bool, true, false, cond}
 use mathlib.Core.List.{List}
-use mathlib.Core.Path.{◌≡◌, refl, sym, ap, ap₂, subst, subst₂, ◌∙◌}
-use lib.Dec.{T, eqb, leb}
+use mathlib.Core.Path.{◌≡◌, refl, sym, ap, ap₂, subst, ◌∙◌}
+use lib.Dec.{T, eqb}
 use lib.IntN.{ℤ, pos, nat_abs, ◌+ℤ◌, ◌-ℤ◌}
 use lib.Signed.{◌≤ℤ◌}
 use lib.ListN.{length, get_or}
-use lib.Seq.{get_or-set_same, get_or-set_other}
+use lib.Seq.{get_or-set_other}
 use Rattle.laws.specs.Lists.{elem, over}
 use Rattle.laws.specs.Sum.{total}
 use Rattle.laws.proofs.Totals.{total_ext}
@@ -27,7 +27,6 @@ use Rattle.local_search.proofs.LevelLaws.{flipped_length}
 use Rattle.local_search.specs.LocalSearch.{Found}
 use Rattle.sign_search.specs.Within.{Bounds, bounds, near, within}
 use Rattle.sign_search.specs.Search.{objective_in, limited_search}
-use Rattle.sign_search.specs.Choices.{one_moved}
 use Rattle.sign_search.proofs.NearLaws.{differ, apart_self, within_first, within_behind}
 use Rattle.sign_search.proofs.Theorems.{limited_holds, limited_fall, limited_no_flip}
 use Rattle.sign_search.proofs.HallTheorems.{hall_mirrors, signs_cost, decoded_wagon}
@@ -36,7 +35,7 @@ use Rattle.finalize.specs.Demand3.{DifferInOne}
 use Rattle.finalize.proofs.Demand3.{choice_byte, choice_at_lem, moved_one, fall}
 use Rattle.limited_search.specs.Search.{present_signs, limited_found}
 use Rattle.limited_search.specs.Near.{wagons_moved, Near}
-use Rattle.limited_search.proofs.Starts.{sign_of, sign_there, sign_behind, start_size, start_sign, start_binary}
+use Rattle.limited_search.proofs.Starts.{sign_there, sign_behind, start_size, start_sign, start_binary}
 
 -- ---- what a child within the bounds is, and that such a one is allowed
 

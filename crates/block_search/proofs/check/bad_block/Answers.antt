@@ -1,0 +1,39 @@
+-- `block_search::check::bad_block` meets its contract. Assumes nothing.
+use mathlib.Core.Path.{refl, sym, ap, ◌∙◌}
+use native.Mathlib.Omega.{arith}
+use lib.ListN.{length}
+use Prim.Native.Nat.{ℕ, ◌+◌}
+use Rattle.laws.specs.Sum.{total}
+use Rattle.laws.specs.Lists.{elem}
+use Rattle.laws.proofs.Any.{below_start, below_at, below_passed, below_ended}
+use Rattle.block_search.specs.Blocks.{block_of}
+use Rattle.block_search.specs.Numbers.{bad_list, bad_block}
+use Rattle.block_search.proofs.Turns.{block_ends, total_next, part_is}
+use Rattle.block_search.proofs.check.bad_block.Goals as goal
+
+pub loop-k-init : goal.loop-k-init
+unfolding total
+loop-k-init c = (omega arith, refl, below_start _)
+
+pub overflow_add-end : goal.overflow_add-end
+overflow_add-end c = omega (arith, block_ends (elem c.args.sizes.now) c.loop-k.k (length c.args.sizes.now) c.loop-k-test.true, c.requires.1, c.wide.ensures, c.loop-k.invariant.1)
+
+pub offset_bounds-wagons-at : goal.offset_bounds-wagons-at
+offset_bounds-wagons-at c = omega (arith, block_ends (elem c.args.sizes.now) c.loop-k.k (length c.args.sizes.now) c.loop-k-test.true, c.requires.1, c.wide.ensures, c.loop-k.invariant.1)
+
+pub slice_bounds-bad_list-end : goal.slice_bounds-bad_list-end
+slice_bounds-bad_list-end c = omega (arith, block_ends (elem c.args.sizes.now) c.loop-k.k (length c.args.sizes.now) c.loop-k-test.true, c.requires.1, c.wide.ensures, c.loop-k.invariant.1)
+
+pub bad_list-requires : goal.bad_list-requires
+bad_list-requires c = c.requires.0
+
+pub returns-then-bad_list : goal.returns-then-bad_list
+unfolding bad_block
+returns-then-bad_list c = let part = part_is c.args.sizes.now c.args.wagons.now c.loop-k.k c.loop-k.invariant.1 (ap (λ (i : ℕ). c.loop-k.at + i) c.wide.ensures) in sym (below_at (λ j. bad_list c.args.n (block_of c.args.sizes.now c.args.wagons.now j)) (length c.args.sizes.now) c.loop-k.k c.loop-k-test.true (ap (bad_list c.args.n) (sym part) ∙ sym c.bad_list.ensures ∙ c.if-bad_list.true))
+
+pub loop-k-preserved : goal.loop-k-preserved
+loop-k-preserved c = let part = part_is c.args.sizes.now c.args.wagons.now c.loop-k.k c.loop-k.invariant.1 (ap (λ (i : ℕ). c.loop-k.at + i) c.wide.ensures) in (omega arith, total_next (elem c.args.sizes.now) c.loop-k.k c.loop-k.invariant.1 (ap (λ (i : ℕ). c.loop-k.at + i) c.wide.ensures), below_passed _ _ c.loop-k.invariant.2 (ap (bad_list c.args.n) (sym part) ∙ sym c.bad_list.ensures ∙ c.if-bad_list.false))
+
+pub returns : goal.returns
+unfolding bad_block
+returns c = below_ended _ _ _ c.loop-k.invariant.2 c.loop-k.invariant.0 c.loop-k-test.false

@@ -1,0 +1,16 @@
+-- `block_search::check::bad_block` meets its contract. Assumes nothing.
+use mathlib.Core.Path.{◌≡◌}
+use lib.ListN.{length}
+use Prim.Native.Nat.{◌≤◌, ◌-◌}
+use mathlib.Core.Bool.{false}
+use Rattle.laws.specs.Sum.{total}
+use Rattle.laws.specs.Lists.{elem, any_below}
+use Rattle.block_search.specs.Blocks.{block_of}
+use Rattle.block_search.specs.Numbers.{bad_list}
+use Rattle.block_search.proofs.check.bad_block.Given as goal
+
+abbrev pub invariant-loop-k : goal.invariant-loop-k
+invariant-loop-k l = (l.k ≤ length l.sizes) × (l.at ≡ total l.k (elem l.sizes)) × (any_below l.k (λ j. bad_list l.n (block_of l.sizes l.wagons j)) ≡ false)
+
+abbrev pub decreases-loop-k : goal.decreases-loop-k
+decreases-loop-k l = length l.sizes - l.k

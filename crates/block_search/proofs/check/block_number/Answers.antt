@@ -1,0 +1,26 @@
+-- `block_search::check::block_number` meets its contract. Assumes nothing.
+use mathlib.Core.Path.{sym, ◌∙◌}
+use Rattle.laws.proofs.Refusal.{first_here, first_skip, first_found, first_next, first_last}
+use lib.Dec.{lit<, lit≤}
+use Rattle.tables.proofs.Checks.{hall_accepted}
+use Rattle.block_search.specs.Numbers.{block_number}
+use Rattle.block_search.proofs.Numbers.{slices_long}
+use Rattle.block_search.proofs.check.block_number.Goals as goal
+
+pub returns-then-call_short : goal.returns-then-call_short
+unfolding block_number
+returns-then-call_short c = sym (first_here 30 _ _ (sym c.call_short.ensures ∙ c.if-call_short.true))
+
+pub hall_number-hall-requires : goal.hall_number-hall-requires
+hall_number-hall-requires c = let l = slices_long c.args.n c.args.count c.args.rows.now c.args.cols.now c.args.values.now c.args.c.now c.args.pinned.now c.args.stores.now c.args.present.now c.args.sizes.now c.args.wagons.now c.args.choice c.args.falls c.args.workspace (sym c.call_short.ensures ∙ c.if-call_short.false) in (λ h. l.table_long h, λ h. l.costs_long h, lit≤ tt, lit< tt)
+
+pub returns-then-hall-ne0 : goal.returns-then-hall-ne0
+unfolding block_number
+returns-then-hall-ne0 c = c.hall_number-hall.ensures ∙ sym (first_skip 31 _ _ (sym c.call_short.ensures ∙ c.if-call_short.false) ∙ first_found _ _ (λ e. c.if-hall-ne0.true (c.hall_number-hall.ensures ∙ e)))
+
+pub list_number-requires : goal.list_number-requires
+list_number-requires c = let l = slices_long c.args.n c.args.count c.args.rows.now c.args.cols.now c.args.values.now c.args.c.now c.args.pinned.now c.args.stores.now c.args.present.now c.args.sizes.now c.args.wagons.now c.args.choice c.args.falls c.args.workspace (sym c.call_short.ensures ∙ c.if-call_short.false) in let ok = hall_accepted (sym c.hall_number-hall.ensures ∙ c.if-hall-ne0.false) in (ok.wagons, l.stores_long, l.present_long ok.wagons, λ h. l.wagons_long h)
+
+pub returns : goal.returns
+unfolding block_number
+returns c = c.list_number.ensures ∙ sym (first_skip 31 _ _ (sym c.call_short.ensures ∙ c.if-call_short.false) ∙ first_next _ _ (sym c.hall_number-hall.ensures ∙ c.if-hall-ne0.false) ∙ first_last _)

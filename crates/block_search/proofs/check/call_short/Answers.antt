@@ -1,0 +1,21 @@
+-- `block_search::check::call_short` meets its contract. Assumes nothing.
+use mathlib.Core.Path.{sym, ◌∙◌}
+use Rattle.laws.proofs.Any.{any_here, any_skip, any_last}
+use Rattle.block_search.specs.Numbers.{call_short}
+use Rattle.block_search.proofs.check.call_short.Goals as goal
+
+pub returns-then-short_table : goal.returns-then-short_table
+unfolding call_short
+returns-then-short_table c = sym (any_here _ _ (sym c.short_table.ensures ∙ c.if-short_table.true))
+
+pub returns-then-choices_short : goal.returns-then-choices_short
+unfolding call_short
+returns-then-choices_short c = sym (any_skip _ _ (sym c.short_table.ensures ∙ c.if-short_table.false) ∙ any_here _ _ (sym c.choices_short.ensures ∙ c.if-choices_short.true))
+
+pub returns-then-lists_short : goal.returns-then-lists_short
+unfolding call_short
+returns-then-lists_short c = sym (any_skip _ _ (sym c.short_table.ensures ∙ c.if-short_table.false) ∙ any_skip _ _ (sym c.choices_short.ensures ∙ c.if-choices_short.false) ∙ any_here _ _ (sym c.lists_short.ensures ∙ c.if-lists_short.true))
+
+pub returns : goal.returns
+unfolding call_short
+returns c = c.too_short.ensures ∙ sym (any_skip _ _ (sym c.short_table.ensures ∙ c.if-short_table.false) ∙ any_skip _ _ (sym c.choices_short.ensures ∙ c.if-choices_short.false) ∙ any_skip _ _ (sym c.lists_short.ensures ∙ c.if-lists_short.false) ∙ any_last _)
