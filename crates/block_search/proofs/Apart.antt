@@ -1,5 +1,5 @@
 -- The pin comes first (02, Note 10): only a call with a wagon in both lists, pinned and in a block, may answer otherwise than by Note 6's rule.
---     apart-same    where no wagon is in both, every choice on the way, the last choice and the falls are those of that rule
+--     apart_same    where no wagon is in both, every choice on the way, the last choice and the falls are those of that rule
 --     apart         what is meant by that
 -- Assumes nothing.
 use Prim.Native.Nat.{ℕ, zero, suc, ◌≤◌, ◌<◌}

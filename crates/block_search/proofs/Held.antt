@@ -1,9 +1,9 @@
 -- One search with some wagons held: the full cost falls by exactly the fall, which is never negative; the held wagons stay; no choice that differs
 -- in one free wagon, or in all of them, costs less.
---     fall-is, fall-up       the fall
+--     fall_is, fall_up       the fall
 --     stays                  a wagon that doesn't move
---     one-better, all-better  a wagon that moves, and all of them
---     low-after, long_after  the choice has n bytes, each 0 or 1
+--     one_better, all_better  a wagon that moves, and all of them
+--     low_after, long_after  the choice has n bytes, each 0 or 1
 -- Assumes nothing.
 use Prim.Native.Nat.{ℕ, zero, suc, ◌+◌, ◌≤◌, ◌<◌}
 use native.Mathlib.Decide.{ℕ_discrete}

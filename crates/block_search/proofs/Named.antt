@@ -1,6 +1,6 @@
 -- Which wagons a list names, and what is meant by two choices that differ in the house.
---     is-named, unnamed, named-at   a list names its wagons and no other
---     differ-house                  whatever differs in every wagon but the pinned ones is meant
+--     is_named, unnamed, named_at   a list names its wagons and no other
+--     differ_house                  whatever differs in every wagon but the pinned ones is meant
 -- Assumes nothing.
 use Prim.Native.Nat.{ℕ, ◌<◌}
 use borrow.Author.Tests.{eq-eqb, ne_eqb, eqb-true}

@@ -1,6 +1,6 @@
 -- Two rows that follow each other, of a list that lies row after row, and a gradient that doesn't see a row.
---     pair-moved       both rows moved, then each divided by its norm: the same as one row after the other
---     gradient-away    a row that no entry names may change
+--     pair_moved       both rows moved, then each divided by its norm: the same as one row after the other
+--     gradient_away    a row that no entry names may change
 -- Assumes nothing.
 use mathlib.Core.Path.{◌≡◌, refl, sym, ap, ◌∙◌}
 use mathlib.Core.Bool.{Bool, true, false}

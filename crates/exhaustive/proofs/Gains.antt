@@ -1,6 +1,6 @@
 -- What setting one digit adds to the cost of a choice, and to what the other digits add.
---     set-cost, set-gain      of any choice
---     digit-grows, digit-shifts, cost-small, zero-cost, zero-gain    of the choices by number, of an accepted (H, c)
+--     set_cost, set_gain      of any choice
+--     digit_grows, digit_shifts, cost_small, zero_cost, zero_gain    of the choices by number, of an accepted (H, c)
 -- Assumes nothing.
 use mathlib.Core.Path.{◌≡◌, sym, ap, ap₂, ◌∙◌}
 use mathlib.Core.Bool.{Bool, true, false, cond}

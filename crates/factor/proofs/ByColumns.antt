@@ -1,6 +1,6 @@
 -- A row of the table times the factor is one sum per column.
---     block_start, block-next    a block of columns before the first entry, and after one more
---     product-columns            the definition of the product's row, column by column
+--     block_start, block_next    a block of columns before the first entry, and after one more
+--     product_columns            the definition of the product's row, column by column
 -- Assumes nothing.
 use mathlib.Core.Path.{◌≡◌, ◌∙◌}
 use mathlib.Core.List.{List}

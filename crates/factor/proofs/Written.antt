@@ -1,10 +1,10 @@
 -- Lists made by index that are written block by block.
---     block-asked       what the sums of a block ask, given what the whole row asks
---     entry-made        an entry's share to sums that are made by index
---     block-copied      a block's sums, copied over as many elements
---     sums-put          a block's sums, copied to where they lie in a row
---     front-made        a list whose first elements are made by index
---     block-next-put    the turn of a loop over blocks
+--     block_asked       what the sums of a block ask, given what the whole row asks
+--     entry_made        an entry's share to sums that are made by index
+--     block_copied      a block's sums, copied over as many elements
+--     sums_put          a block's sums, copied to where they lie in a row
+--     front_made        a list whose first elements are made by index
+--     block_next_put    the turn of a loop over blocks
 -- Assumes nothing.
 use mathlib.Core.Path.{◌≡◌, sym, ap, subst, ◌∙◌}
 use mathlib.Core.List.{List, ◌++◌, append_assoc}

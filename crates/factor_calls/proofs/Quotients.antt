@@ -1,9 +1,9 @@
 -- What `dual_variables_divided` gives.
---     by-numerators, by-quotients   what the one function that both calls share makes
---     divided-unit      a row whose product with itself is 1.0 has its numerator: x / 1.0 is x
---     units-undivided   so where all rows are such, the call gives what `dual_variables` gives
---     divided-zero      a row of zeros has NaN
---     divided-nan       and so has a row with a NaN in it
+--     by_numerators, by_quotients   what the one function that both calls share makes
+--     divided_unit      a row whose product with itself is 1.0 has its numerator: x / 1.0 is x
+--     units_undivided   so where all rows are such, the call gives what `dual_variables` gives
+--     divided_zero      a row of zeros has NaN
+--     divided_nan       and so has a row with a NaN in it
 -- Assumes nothing.
 use mathlib.Core.Path.{◌≡◌, refl, sym, ap, ◌∙◌, subst}
 use mathlib.Core.Bool.{Bool, true, false, cond, ◌||◌, beq}

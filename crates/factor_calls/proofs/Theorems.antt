@@ -1,9 +1,9 @@
 -- What the calls' answers are worth to whoever has the table, the factor and the draws.
---     rounds-first-of-least   an accepted `compute_rounded_sol` gives the first draw of least objective
---     multiplied-at           an accepted `dual_variables` gives row i's numerator at place i
---     tail-stays              and leaves what stands behind the m places
---     divided-at, -tail       the same of `dual_variables_divided`, whose place i has row i's numerator divided by the row's product with itself
---     divided-zero-at, -nan-at, -unit-at   NaN for a row of zeros or with a NaN; the numerator where that product is 1.0
+--     rounds_first_of_least   an accepted `compute_rounded_sol` gives the first draw of least objective
+--     multiplied_at           an accepted `dual_variables` gives row i's numerator at place i
+--     tail_stays              and leaves what stands behind the m places
+--     divided_at_lem, -tail       the same of `dual_variables_divided`, whose place i has row i's numerator divided by the row's product with itself
+--     divided_zero_at, -nan-at, -unit-at   NaN for a row of zeros or with a NaN; the numerator where that product is 1.0
 -- Assumes nothing.
 use mathlib.Core.Path.{◌≡◌, refl, sym, ap, ◌∙◌, subst}
 use mathlib.Core.Bool.{Bool, true, false, not}

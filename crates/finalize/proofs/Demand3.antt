@@ -1,9 +1,9 @@
 -- Demand 3 holds of every accepted finish of width 1 or more, whatever the factor and the draws.
 --     demand3         of whatever an accepted finish leaves
---     rounded-first   the rounded choice is that of the first draw of least cost
---     search-ends     the search's levels end with an empty one, and the search is over exactly these
+--     rounded_first   the rounded choice is that of the first draw of least cost
+--     search_ends     the search's levels end with an empty one, and the search is over exactly these
 --     unsearched      with width 0 the rounded choice stands, rounds 0
---     differ-one, differ-all   any choice that differs in one wagon and no other is meant, and any that differs in all
+--     differ_one, differ_all   any choice that differs in one wagon and no other is meant, and any that differs in all
 -- Assumes nothing.
 use Prim.Native.Nat.{ℕ, zero, suc, ◌-◌, ◌*◌, ◌≤◌, ◌<◌}
 use native.Mathlib.Decide.{ℕ_discrete}

@@ -1,6 +1,6 @@
 -- The double nearest to the root of a double above 0 is one double, and `sqrt_of` gives it.
---     nearest-unique        two of them have one magnitude
---     sqrt-is-the-nearest   any of them is `sqrt_of`'s result
+--     nearest_unique        two of them have one magnitude
+--     sqrt_is_the_nearest   any of them is `sqrt_of`'s result
 -- Assumes nothing.
 use Rattle.std.proofs.Common.{◌≡◌, ℕ, zero, suc, ◌+◌, ◌-◌, ◌*◌, ◌%◌, ◌^◌, ◌<◌, Bool, true, false, ◌&&◌, T, eqb, ltb, leb, ◌⊎◌, ℤ, pos, negsuc, sym, refl, ap, ◌∙◌, subst, inl, inr, ⊎_elim, mul_assoc, eq-zero-or-pos, mul-one, mul_left_comm, arith, eqb→eq, pow-add}
 use native.Mathlib.Nat.{pow-succ'}

@@ -1,5 +1,5 @@
 -- The multipliers row by row: a row of the product is that row of the table times the factor. Assumes nothing.
---     product-row      row i of the product
+--     product_row_lem      row i of the product
 --     by_row           the multipliers of the product, each from its row alone
 use Prim.Native.Nat.{ℕ, zero, suc, ◌+◌, ◌*◌, ◌<◌, ◌≤◌}
 use mathlib.Core.Path.{◌≡◌, sym, ap, ◌∙◌}

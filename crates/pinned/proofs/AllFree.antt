@@ -1,7 +1,7 @@
 -- Where every wagon is free, the reduced (H, c) is (H, c) itself, entry for entry, the constant is 0, and a lifted choice is the choice.
 -- Assumes nothing.
---     rows_all, cols-all, values-all, count-all    the entries
---     costs-all, constant-all, lifted-all          the linear costs, the constant, a choice
+--     rows_all, cols_all, values_all, count_all    the entries
+--     costs_all, constant_all, lifted_all          the linear costs, the constant, a choice
 use mathlib.Core.Path.{◌≡◌, refl, sym, ◌∙◌, ap, ap₂}
 use mathlib.Core.Bool.{Bool, true}
 use mathlib.Core.List.{List, ◌++◌}

@@ -1,7 +1,7 @@
 -- The free entries of a rising table, those of a free row and a free column, in the order they have and under the places of their wagons, are the
 -- submatrix of the free wagons.
 -- Assumes nothing.
---     rows-free, cols-free, values-free, many-free
+--     rows_free, cols_free, values_free, many_free
 use mathlib.Core.Path.{◌≡◌, refl, sym, ◌∙◌, ap, ap₂}
 use mathlib.Core.Logic.{◌⊎◌, inl, inr}
 use mathlib.Core.Bool.{Bool, true, false, cond}

@@ -1,7 +1,7 @@
 -- What demand 3 for the free wagons says, with no hypothesis but 02's words, so that no field of `PinnedDemand3` can ask for more. Assumes nothing.
---     moved-free-wagon     a choice that differs from b in one free wagon and in no other doesn't cost less
---     moved-free-wagons    nor does one that differs in every free wagon and in no held one
---     floor-of-keeping     no choice in which the held wagons stand in their stores costs less than the floor
+--     moved_free_wagon     a choice that differs from b in one free wagon and in no other doesn't cost less
+--     moved_free_wagons    nor does one that differs in every free wagon and in no held one
+--     floor_of_keeping     no choice in which the held wagons stand in their stores costs less than the floor
 use Prim.Native.Nat.{ℕ, ◌≤◌, ◌<◌}
 use mathlib.Core.List.{List}
 use mathlib.Core.Path.{◌≡◌}

@@ -1,7 +1,7 @@
 -- Demand 3 of the reduced (H, c) gives demand 3 among the choices that keep the held wagons.
---     differ-free      which choices differ in the free wagons
---     pinned-demand3   from demand 3 of the reduced (H, c), the constant added
---     pinned-finish    of whatever an accepted finish on the reduced (H, c) leaves, lifted to all wagons
+--     differ_free      which choices differ in the free wagons
+--     pinned_demand3   from demand 3 of the reduced (H, c), the constant added
+--     pinned_finish    of whatever an accepted finish on the reduced (H, c) leaves, lifted to all wagons
 -- Assumes nothing.
 use Prim.Native.Nat.{ℕ, zero, suc, ◌≤◌, ◌<◌}
 use native.Mathlib.Omega.{arith}

@@ -1,6 +1,6 @@
 -- The prepared table is what the sweeps and the objective ask for, and lies at the front of the slices that `separate_diagonal` writes.
---     work-shaped, work-fits     what a sweep and the objective ask
---     work-front                 the entries that stay, cut from the front of their slice
+--     work_shaped, work_fits     what a sweep and the objective ask
+--     work_front                 the entries that stay, cut from the front of their slice
 -- Assumes nothing.
 use mathlib.Core.Path.{◌≡◌, refl, sym, ◌∙◌}
 use mathlib.Core.Bool.{Bool, true, false}

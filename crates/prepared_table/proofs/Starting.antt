@@ -1,10 +1,10 @@
 -- Where rows start: the first entry whose row is at least i. Nothing here asks that the rows rise.
---     start-le      it is at most the number of entries
---     start-most    it is at most any entry whose row is at least i
---     start-more    it is past any entry that it has reached and whose row is below i
---     start-rise    it rises with i
---     start-below   the entries before it lie in rows below i
---     row-entries   the entries from row i's start up to the next row's are row i's, where rows rise
+--     start_le      it is at most the number of entries
+--     start_most    it is at most any entry whose row is at least i
+--     start_more    it is past any entry that it has reached and whose row is below i
+--     start_rise    it rises with i
+--     start_below   the entries before it lie in rows below i
+--     row_entries   the entries from row i's start up to the next row's are row i's, where rows rise
 -- Assumes nothing.
 use mathlib.Core.Path.{◌≡◌, refl}
 use mathlib.Core.Bool.{Bool, true, false}

@@ -1,6 +1,6 @@
 -- The first of the least: a loop that keeps it, and what it is.
---     least-next       the turn of a loop that keeps the first least of f, and g there
---     least-within, least-least, least_first   it is an index, none has less, and each one before it has more
+--     least_next       the turn of a loop that keeps the first least of f, and g there
+--     least_within, least_least, least_first   it is an index, none has less, and each one before it has more
 -- Assumes nothing.
 use mathlib.Core.Path.{◌≡◌, refl, sym, ap, ◌∙◌}
 use mathlib.Core.Bool.{Bool, true, false, cond}

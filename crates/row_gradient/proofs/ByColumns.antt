@@ -1,10 +1,10 @@
 -- The gradient of a row is one sum per column.
---     block_start, block-next    a block of columns before the first entry, and after one more
---     column-next                a column after one more entry
---     gradient-columns           the definition of the sweep, column by column
---     whole-block                all columns as one block
+--     block_start, block_next    a block of columns before the first entry, and after one more
+--     column_next                a column after one more entry
+--     gradient_columns           the definition of the sweep, column by column
+--     whole_block                all columns as one block
 --     first_block                a block at the start of a row
---     one_block, block-and-one, two_ends    a row written as one block, as a block and a column, as two blocks
+--     one_block, block_and_one, two_ends    a row written as one block, as a block and a column, as two blocks
 -- Assumes nothing.
 use mathlib.Core.Path.{◌≡◌, refl, sym, ◌∙◌}
 use mathlib.Core.Bool.{Bool, true, false}

@@ -1,6 +1,6 @@
 -- Which doubles are finite and at most 2 in magnitude: those whose bits, the sign's left out, are at most the bits of 2.0.
 --     at_most_two     of a double
---     two-of-bits     of 64 bits
+--     two_of_bits     of 64 bits
 -- Assumes nothing.
 use mathlib.Core.Path.{◌≡◌, sym, ◌∙◌, subst}
 use mathlib.Core.Logic.{◌⊎◌, inl, inr}

@@ -1,5 +1,5 @@
 -- The squared norm by four running sums (001) is near the exact sum of squares.
---     norm-near    of a list of at most 32 doubles, none too large
+--     norm_near    of a list of at most 32 doubles, none too large
 -- Assumes nothing.
 use mathlib.Core.Path.{◌≡◌, refl, sym, ap, ◌∙◌, subst}
 use mathlib.Core.Bool.{Bool, true, false}

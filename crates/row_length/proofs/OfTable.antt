@@ -1,6 +1,6 @@
 -- Note 14 of a table: one step by rule 3 over the table of a call.
---     rule3-length, rule3-standing    of m rows
---     rule3-slice                     of the slice that a sweep is lent
+--     rule3_length, rule3_standing    of m rows
+--     rule3_slice                     of the slice that a sweep is lent
 -- Assumes nothing.
 use mathlib.Core.Path.{◌≡◌, refl, sym, ◌∙◌, subst}
 use mathlib.Core.Bool.{true, false}

@@ -1,5 +1,5 @@
 -- A row that rule 3 writes from a gradient g: its squared length is one, but for one part in 2 ^ 40.
---     row-unit
+--     row_unit
 -- Assumes nothing.
 use mathlib.Core.Path.{◌≡◌, refl, sym, ap, ◌∙◌, subst}
 use mathlib.Core.Bool.{Bool, true, false}

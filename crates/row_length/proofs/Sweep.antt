@@ -1,6 +1,6 @@
 -- One sweep under rule 3, row by row: the factor stays finite and at most 2, and a row that is rewritten has the length one when it is written,
 -- and keeps it to the end.
---     sweep-bounded, sweep-done
+--     sweep_bounded, sweep_done
 -- Assumes nothing.
 use mathlib.Core.Path.{◌≡◌, refl, sym, ap, ◌∙◌, subst}
 use mathlib.Core.Logic.{◌⊎◌, inl, inr}

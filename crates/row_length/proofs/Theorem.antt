@@ -1,5 +1,5 @@
 -- Note 14: a row that a sweep under rule 3 rewrites has a squared length that differs from 1 by at most 2 ^ -40.
---     rewritten-length, standing-same, swept-low
+--     rewritten_length, standing_same, swept_low
 -- Assumes nothing.
 use mathlib.Core.Path.{◌≡◌, refl, sym, ap, ◌∙◌, subst}
 use mathlib.Core.Bool.{Bool, true, false}

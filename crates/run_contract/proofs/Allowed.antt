@@ -1,11 +1,11 @@
 -- Whatever a caller may lend is meant: no field of `Lends` or `Sized` and no case of `Chain` asks more than 01 does. Assumes nothing.
---     lends-agree     any slice that has the kept factor as far as both go
---     lends-any       the kept factor, with anything behind it
---     lends-short     the front of the kept factor
---     sized-any       slices of the lengths that the call says, whatever they hold
---     sweeps-any      a sweep on such a slice, with any outcome that its promise allows, goes before any chain
---     finishes-any    so does a finish
---     exchanges-any   and an exchange
+--     lends_agree     any slice that has the kept factor as far as both go
+--     lends_any       the kept factor, with anything behind it
+--     lends_short     the front of the kept factor
+--     sized_any       slices of the lengths that the call says, whatever they hold
+--     sweeps_any      a sweep on such a slice, with any outcome that its promise allows, goes before any chain
+--     finishes_any    so does a finish
+--     exchanges_any   and an exchange
 use Prim.Native.Nat.{ℕ, suc, ◌+◌, ◌≤◌, ◌<◌}
 use mathlib.Core.Path.{◌≡◌, refl, sym, ap, ◌∙◌}
 use mathlib.Core.List.{List, [], ◌∷◌, ◌++◌}

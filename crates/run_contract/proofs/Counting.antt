@@ -1,10 +1,10 @@
 -- The total of a run is the number of pairs of sweep and row, under rules 3 and 4, whose norm isn't ≥ 1E-24 (02, Note 2).
---     standing-pairs    of every list of calls from an open: the total equals the number of pairs
+--     standing_pairs    of every list of calls from an open: the total equals the number of pairs
 --     pair_is           which pairs these are
---     pairs-once        none is counted twice
---     log-numbered      the sweeps are numbered 1, 2, 3, .. up to the sweeps done (`log_length`)
---     standing-kept     the total never is above m times the sweeps done, so no record of a run is 33 by that
---     seen-standing     the same of the port: at every position of every list of calls, refused ones included
+--     pairs_once        none is counted twice
+--     log_numbered      the sweeps are numbered 1, 2, 3, .. up to the sweeps done (`log_length`)
+--     standing_kept     the total never is above m times the sweeps done, so no record of a run is 33 by that
+--     seen_standing     the same of the port: at every position of every list of calls, refused ones included
 -- By induction on sweeps and calls. Assumes nothing.
 use Prim.Native.Nat.{ℕ, zero, suc, ◌+◌, ◌*◌, ◌≤◌, ◌<◌}
 use mathlib.Core.Path.{◌≡◌, refl, sym, ap, ◌∙◌, subst}

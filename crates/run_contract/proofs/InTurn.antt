@@ -1,9 +1,9 @@
 -- For every list of calls with exchanges of the rule the factor is that of applying each sweep's rule in turn (02, Note 12).
---     in-turn        the factor after a list, from its log
---     rule-then      each sweep of the log was made by an accepted sweep call, over that call's table, by the rule of the last accepted exchange before it, or
+--     in_turn        the factor after a list, from its log
+--     rule_then      each sweep of the log was made by an accepted sweep call, over that call's table, by the rule of the last accepted exchange before it, or
 --                    the open's
---     rule-stands    the rule of the state after a list is that of its last accepted exchange, or the open's
---     seen-in-turn   the same of the port: at every position of every list of calls, refused ones included
+--     rule_stands    the rule of the state after a list is that of its last accepted exchange, or the open's
+--     seen_in_turn   the same of the port: at every position of every list of calls, refused ones included
 -- By induction on sweeps and calls. Assumes nothing.
 use Prim.Native.Nat.{ℕ, zero, suc, ◌<◌}
 use mathlib.Core.Path.{◌≡◌, refl, sym, ap, ◌∙◌}

@@ -1,6 +1,6 @@
 -- What an accepted call of `entrywise_lower_bound` answers, from its contract: finite and at most the objective of any signs; on a table that
 -- `qubo_sign_table` left, at most the cost of every choice. Assumes nothing.
---     bound-call, bound-call-cost
+--     bound_call, bound_call_cost
 use mathlib.Core.Path.{◌≡◌, refl, sym, ◌∙◌, subst}
 use mathlib.Core.List.{List}
 use Prim.Native.Nat.{ℕ}
