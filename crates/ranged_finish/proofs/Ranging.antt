@@ -12,7 +12,7 @@ use lib.IntN.{ℤ, pos}
 use lib.Signed.{◌≤ℤ◌}
 use Rattle.laws.specs.Lists.{elem, elem_z}
 use Rattle.laws.proofs.Integer.{integers}
-use Rattle.tables.specs.Table.{Table, value_at, stored_at}
+use Rattle.tables.specs.Table.{value_at, stored_at}
 use Rattle.tables.proofs.Mirrors.{value_here, stored_true, stored_false, value_none}
 use Rattle.run_record.specs.CostTable.{quadratic, linear}
 use Rattle.ranged_finish.specs.Ranged.{RangedTable, with_values, low_of, high_of, Within, WithinEach}

@@ -18,7 +18,7 @@ use Rattle.tables.specs.Cost.{cost_eighths, choice_at}
 use Rattle.tables.proofs.Checks.{table_lent, long_enough}
 use Rattle.sign_table.proofs.Theorems.{floor_le_choice}
 use Rattle.run_record.specs.declared.Run.{Run}
-use Rattle.run_record.specs.CostTable.{CostTable, quadratic, linear}
+use Rattle.run_record.specs.CostTable.{quadratic, linear}
 use Rattle.finalize.specs.Finalize.{floor_eighths}
 use Rattle.run_contract.specs.Calls.{finish_lengths, Finishes}
 use Rattle.run_contract.specs.declared.Finished.TheVariants as F

@@ -3,7 +3,7 @@
 --     opened_some     settings whose opens are accepted have such runs
 --     turns-any       a turn on any slice that has the kept factors as far as both go, with any outcome that its promise allows, goes before any chain
 use Prim.Native.Nat.{ℕ, ◌<◌, ◌≤◌}
-use mathlib.Core.Path.{◌≡◌, refl, sym, ap, subst, ◌∙◌}
+use mathlib.Core.Path.{◌≡◌, refl, sym, ap}
 use mathlib.Core.List.{List, ◌∷◌}
 use native.Mathlib.Omega.{arith}
 use lib.ListN.{length, take}
