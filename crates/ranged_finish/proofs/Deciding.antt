@@ -1,5 +1,5 @@
 -- The number of the ranged finish from that of the finish on the high table and that of the ranged table. Assumes nothing.
---     short-ranged, by_state, by-table, by-settings   the four ways that the code answers
+--     short_ranged, by_state, by_table, by_settings   the four ways that the code answers
 use mathlib.Core.Path.{◌≡◌, refl, sym, ap, ◌∙◌}
 use mathlib.Core.Bool.{Bool, true, false, not}
 use mathlib.Core.List.{[], ◌∷◌}

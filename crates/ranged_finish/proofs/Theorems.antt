@@ -1,6 +1,6 @@
 -- What the figures mean for every table within the ranges, and the call's contract put together. Assumes nothing.
---     ranges-hold                      between, reached, under, for any choice and any (H, c) within the ranges
---     ranged-refused, ranged-finishes  the two ways to the contract
+--     ranges_hold                      between, reached, under, for any choice and any (H, c) within the ranges
+--     ranged_refused, ranged_finishes  the two ways to the contract
 use mathlib.Core.Path.{◌≡◌, refl, sym, ap, subst}
 use mathlib.Core.Bool.{false}
 use mathlib.Core.List.{List}

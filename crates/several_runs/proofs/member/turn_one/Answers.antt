@@ -20,34 +20,31 @@ pub overflow_mul-end : goal.overflow_mul-end
 overflow_mul-end c =
     let table : CostTable =
     cost_table c.args.hall.n c.args.hall.count (drop c.args.entries c.args.rows.now) (drop c.args.entries c.args.cols.now) (drop c.args.entries c.args.values.now) (drop c.args.costs c.args.c.now) in
-    let fit : Sweeping c.args.run (table) (length c.args.factors.now - c.args.at) =
+    let fit : Sweeping c.args.run table (length c.args.factors.now - c.args.at) =
     member_accepted _ _ _ c.requires.at_value in
-    omega (arith, (fit).factor_room)
+    omega (arith, fit.factor_room)
 
 pub overflow_add-end : goal.overflow_add-end
 overflow_add-end c =
     let table : CostTable =
     cost_table c.args.hall.n c.args.hall.count (drop c.args.entries c.args.rows.now) (drop c.args.entries c.args.cols.now) (drop c.args.entries c.args.values.now) (drop c.args.costs c.args.c.now) in
-    let fit : Sweeping c.args.run (table) (length c.args.factors.now - c.args.at) =
+    let fit : Sweeping c.args.run table (length c.args.factors.now - c.args.at) =
     member_accepted _ _ _ c.requires.at_value in
-    omega (arith, (fit).factor_room)
-
-pub offset_bounds-factors-at : goal.offset_bounds-factors-at
-offset_bounds-factors-at c = omega (arith, c.well_formed.1.1.1.1.1.1.1.1.1.1.0.0, c.well_formed.1.1.1.1.1.1.1.1.1.1.0.1)
+    omega (arith, fit.factor_room)
 
 pub slice_bounds-sweep_accepted-end-5 : goal.slice_bounds-sweep_accepted-end-5
 slice_bounds-sweep_accepted-end-5 c =
     let table : CostTable =
     cost_table c.args.hall.n c.args.hall.count (drop c.args.entries c.args.rows.now) (drop c.args.entries c.args.cols.now) (drop c.args.entries c.args.values.now) (drop c.args.costs c.args.c.now) in
-    let fit : Sweeping c.args.run (table) (length c.args.factors.now - c.args.at) =
+    let fit : Sweeping c.args.run table (length c.args.factors.now - c.args.at) =
     member_accepted _ _ _ c.requires.at_value in
-    omega (arith, (fit).factor_room, c.requires.entries_in_bounds.4)
+    omega (arith, fit.factor_room, c.requires.entries_in_bounds.4)
 
 pub sweep_accepted-requires : goal.sweep_accepted-requires
 sweep_accepted-requires c =
     let table : CostTable =
     cost_table c.args.hall.n c.args.hall.count (drop c.args.entries c.args.rows.now) (drop c.args.entries c.args.cols.now) (drop c.args.entries c.args.values.now) (drop c.args.costs c.args.c.now) in
-    let fit : Sweeping c.args.run (table) (length c.args.factors.now - c.args.at) =
+    let fit : Sweeping c.args.run table (length c.args.factors.now - c.args.at) =
     member_accepted _ _ _ c.requires.at_value in
     let a = c.args in
     let s = fit in (
@@ -63,6 +60,6 @@ returns c =
     let table : CostTable =
     cost_table c.args.hall.n c.args.hall.count (drop c.args.entries c.args.rows.now) (drop c.args.entries c.args.cols.now) (drop c.args.entries c.args.values.now) (drop c.args.costs c.args.c.now) in
     let a = c.args in
-    turned_part a.k (table) _ a.run a.at _ a.factors.now
+    turned_part a.k table _ a.run a.at _ a.factors.now
     (cut_table a.hall.n a.hall.count a.entries a.costs a.rows.now a.cols.now a.values.now a.c.now)
     (add-sub_cancel_left a.at (used a.run)) c.sweep_accepted.ensures

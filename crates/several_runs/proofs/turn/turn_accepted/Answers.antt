@@ -42,16 +42,16 @@ pub overflow_add-before : goal.overflow_add-before
 overflow_add-before c = let eight = count_few _ (count_good _ _ _ _ _ c.requires) in let few = found_few _ _ c.loop-i.invariant.2 c.open_one-before.ensures (omega (arith, eight, c.loop-i-test.true)) in omega (arith, few)
 
 pub overflow_add-entries : goal.overflow_add-entries
-overflow_add-entries c = let k = cursor_next _ _ _ c.loop-i.invariant.1 (number_good _ _ _ _ _ c.requires _ c.loop-i-test.true) in omega (arith, k.rows_room, c.well_formed.1.1.1.1.0.0, c.well_formed.1.1.1.1.0.1)
+overflow_add-entries c = let k = cursor_next _ _ _ c.loop-i.invariant.1 (number_good _ _ _ _ _ c.requires _ c.loop-i-test.true) in omega (arith, k.rows_room)
 
 pub overflow_add-costs : goal.overflow_add-costs
-overflow_add-costs c = let k = cursor_next _ _ _ c.loop-i.invariant.1 (number_good _ _ _ _ _ c.requires _ c.loop-i-test.true) in omega (arith, k.costs_room, c.well_formed.1.1.1.1.1.1.1.0.0, c.well_formed.1.1.1.1.1.1.1.0.1)
+overflow_add-costs c = let k = cursor_next _ _ _ c.loop-i.invariant.1 (number_good _ _ _ _ _ c.requires _ c.loop-i-test.true) in omega (arith, k.costs_room)
 
 pub overflow_mul-at : goal.overflow_mul-at
-overflow_mul-at c = let k = cursor_next _ _ _ c.loop-i.invariant.1 (number_good _ _ _ _ _ c.requires _ c.loop-i-test.true) in omega (arith, k.factors_room, c.well_formed.1.1.1.1.1.1.1.1.0.0, c.well_formed.1.1.1.1.1.1.1.1.0.1)
+overflow_mul-at c = let k = cursor_next _ _ _ c.loop-i.invariant.1 (number_good _ _ _ _ _ c.requires _ c.loop-i-test.true) in omega (arith, k.factors_room)
 
 pub overflow_add-at : goal.overflow_add-at
-overflow_add-at c = let k = cursor_next _ _ _ c.loop-i.invariant.1 (number_good _ _ _ _ _ c.requires _ c.loop-i-test.true) in omega (arith, k.factors_room, c.well_formed.1.1.1.1.1.1.1.1.0.0, c.well_formed.1.1.1.1.1.1.1.1.0.1)
+overflow_add-at c = let k = cursor_next _ _ _ c.loop-i.invariant.1 (number_good _ _ _ _ _ c.requires _ c.loop-i-test.true) in omega (arith, k.factors_room)
 
 pub overflow_add-i : goal.overflow_add-i
 overflow_add-i c = let eight = count_few _ (count_good _ _ _ _ _ c.requires) in omega (arith, eight, c.loop-i-test.true)
