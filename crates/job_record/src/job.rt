@@ -20,7 +20,7 @@ use run_limits::{rank_meant, start_length};
 
 // The fields of one number each: n, the entries, the pins and the wagons that they leave free; the rank as given (0 means the default rank),
 // the rule's code, the start's kind.
-#[derive(Drop)]
+#[derive(Clone, Copy)]
 pub struct Job {
     pub n: usize,
     pub count: usize,

@@ -1,13 +1,13 @@
 -- The number of the ranged finish from that of the finish on the high table and that of the ranged table. Assumes nothing.
---     short-ranged, by_state, by-table, by-settings   the four ways that the code answers
+--     short_ranged, by_state, by_table, by_settings   the four ways that the code answers
 use mathlib.Core.Path.{◌≡◌, refl, sym, ap, ◌∙◌}
-use mathlib.Core.Bool.{Bool, true, false, not, ◌||◌}
-use mathlib.Core.List.{List, [], ◌∷◌}
+use mathlib.Core.Bool.{Bool, true, false, not}
+use mathlib.Core.List.{[], ◌∷◌}
 use Prim.Native.Nat.{ℕ, zero, suc, ◌≤◌, ◌<◌}
 use native.Mathlib.Omega.{arith}
-use Rattle.laws.specs.Refusal.{◌if◌, or_else, first, any_of, short}
+use Rattle.laws.specs.Refusal.{◌if◌, or_else, first}
 use Rattle.laws.proofs.Any.{any_head, any_rest, any_not, any_none, any_here, any_skip}
-use Rattle.laws.proofs.Refusal.{first_head, first_rest, first_next, first_here, first_skip, first_found, clear}
+use Rattle.laws.proofs.Refusal.{first_head, first_rest, first_here, first_found, clear}
 use lib.Dec.{ltb}
 use Rattle.laws.specs.Lists.{elem}
 use Rattle.limits.specs.Limits.{most_wagons, most_entries, most_magnitude}
@@ -15,7 +15,7 @@ use Rattle.tables.specs.Check.{bad_size, bad_order, unmirrored, hall_magnitude, 
 use Rattle.run_record.specs.declared.Run.{Run}
 use Rattle.run_record.specs.CostTable.{CostTable, quadratic, linear}
 use Rattle.run_record.specs.Numbers.{is_stopped, record_refused, bad_momentum, width_refused, cost_table_number, table_short, finish_short, finish_number, FinishLengths}
-use Rattle.ranged_finish.specs.Ranged.{RangedTable, low_of, high_of}
+use Rattle.ranged_finish.specs.Ranged.{RangedTable, high_of}
 use Rattle.ranged_finish.specs.Numbers.{ranged_number, ranged_short, ranged_finish_short, ranged_finish_number}
 use Rattle.ranged_finish.proofs.Halls.{high_number}
 

@@ -1,8 +1,8 @@
 -- Where no number applies to a ranged table both of its ends are accepted halls, and the low one is nowhere above the high one. Assumes nothing.
 use mathlib.Core.Path.{◌≡◌}
-use mathlib.Core.Bool.{true, false, ◌||◌}
+use mathlib.Core.Bool.{false, ◌||◌}
 use mathlib.Core.List.{List}
-use Prim.Native.Nat.{ℕ, ◌+◌, ◌*◌, ◌<◌, ◌≤◌}
+use Prim.Native.Nat.{ℕ, ◌<◌, ◌≤◌}
 use native.Mathlib.Nat.{le-max_left, le-max_right}
 use native.Mathlib.Omega.{arith}
 use borrow.Author.Tests.{ltb-false}
@@ -10,16 +10,15 @@ use lib.Dec.{ltb}
 use lib.IntN.{ℤ, nat_abs}
 use lib.Signed.{◌≤ℤ◌, lt_z}
 use Rattle.laws.specs.Lists.{elem, elem_z}
-use Rattle.laws.specs.Sum.{total}
 use Rattle.laws.proofs.Any.{below_false, or_left, or_right}
 use Rattle.laws.proofs.Integer.{lt_z_false, parts_le}
 use Rattle.laws.proofs.Refusal.{first_head, first_rest, clear}
 use Rattle.laws.proofs.Totals.{total_mono}
 use Rattle.limits.specs.Limits.{most_wagons, most_entries, most_magnitude}
 use Rattle.tables.specs.Table.{value_at}
-use Rattle.tables.specs.Check.{bad_size, bad_order, unmirrored, hall_magnitude, Hall}
+use Rattle.tables.specs.Check.{bad_size, bad_order, unmirrored}
 use Rattle.tables.proofs.Checks.{size_parts, order_range, order_rising, mirror_mirrored, hall_passes}
-use Rattle.run_record.specs.CostTable.{CostTable, quadratic, linear}
+use Rattle.run_record.specs.CostTable.{quadratic, linear}
 use Rattle.run_record.specs.Numbers.{cost_table_number}
 use Rattle.run_contract.proofs.Accepting.{HallOf}
 use Rattle.ranged_finish.specs.Ranged.{RangedTable, with_values, low_of, high_of}

@@ -1,5 +1,4 @@
 -- A cost rises with its table: larger entries and larger c never make a choice cheaper. Assumes nothing.
-use mathlib.Core.Path.{◌≡◌}
 use mathlib.Core.Bool.{Bool, true, false, cond}
 use mathlib.Core.List.{List}
 use Prim.Native.Nat.{ℕ, zero, suc, ◌<◌}
@@ -10,7 +9,7 @@ use Rattle.laws.specs.Sum.{sum₂}
 use Rattle.laws.specs.Lists.{elem}
 use Rattle.laws.proofs.Integer.{integers, parts, differences, ring, le_parts, add_parts, times_one}
 use Rattle.laws.proofs.Sums.{sum_le}
-use Rattle.tables.specs.Table.{Table, value_at}
+use Rattle.tables.specs.Table.{value_at}
 use Rattle.tables.specs.Cost.{cost_eighths, bit, choice_at}
 
 pub le_same : (a : ℤ) → a ≤ℤ a

@@ -1,9 +1,9 @@
 -- What lies within the ranges: (H, c) entry by entry as 02 gives the ranges, and each stored table at these places whose numbers lie between the ends.
 -- Assumes nothing.
 --     each_within     entry by entry, then place by place
---     within-each     and back, so that `Within` says no more and no less
---     stored-within   a stored table between the ends
---     low-in, high-in both ends
+--     within_each     and back, so that `Within` says no more and no less
+--     stored_within   a stored table between the ends
+--     low_in, high_in both ends
 use mathlib.Core.Path.{◌≡◌, refl, subst, subst₂}
 use mathlib.Core.Bool.{Bool, true, false}
 use mathlib.Core.List.{List}
@@ -12,7 +12,7 @@ use lib.IntN.{ℤ, pos}
 use lib.Signed.{◌≤ℤ◌}
 use Rattle.laws.specs.Lists.{elem, elem_z}
 use Rattle.laws.proofs.Integer.{integers}
-use Rattle.tables.specs.Table.{Table, value_at, stored_at}
+use Rattle.tables.specs.Table.{value_at, stored_at}
 use Rattle.tables.proofs.Mirrors.{value_here, stored_true, stored_false, value_none}
 use Rattle.run_record.specs.CostTable.{quadratic, linear}
 use Rattle.ranged_finish.specs.Ranged.{RangedTable, with_values, low_of, high_of, Within, WithinEach}

@@ -1,6 +1,6 @@
 -- What the figures mean for every table within the ranges, and the call's contract put together. Assumes nothing.
---     ranges-hold                      between, reached, under, for any choice and any (H, c) within the ranges
---     ranged-refused, ranged-finishes  the two ways to the contract
+--     ranges_hold                      between, reached, under, for any choice and any (H, c) within the ranges
+--     ranged_refused, ranged_finishes  the two ways to the contract
 use mathlib.Core.Path.{◌≡◌, refl, sym, ap, subst}
 use mathlib.Core.Bool.{false}
 use mathlib.Core.List.{List}
@@ -18,7 +18,7 @@ use Rattle.tables.specs.Cost.{cost_eighths, choice_at}
 use Rattle.tables.proofs.Checks.{table_lent, long_enough}
 use Rattle.sign_table.proofs.Theorems.{floor_le_choice}
 use Rattle.run_record.specs.declared.Run.{Run}
-use Rattle.run_record.specs.CostTable.{CostTable, quadratic, linear}
+use Rattle.run_record.specs.CostTable.{quadratic, linear}
 use Rattle.finalize.specs.Finalize.{floor_eighths}
 use Rattle.run_contract.specs.Calls.{finish_lengths, Finishes}
 use Rattle.run_contract.specs.declared.Finished.TheVariants as F

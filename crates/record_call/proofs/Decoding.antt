@@ -50,7 +50,7 @@ use Rattle.job_record.specs.declared.job.Job.{Job}
 use Rattle.job_record.proofs.Same.{filled}
 use Rattle.job_record.proofs.Products.{area}
 use Rattle.job_record.proofs.Accepted.{fields, start_fits, drawn_fits}
-use Rattle.record_call.specs.Record.{job_costs, reduced_costs, run_costs, pinned_cost, job_settings, job_draws, opened, stopped, job_result, job_choice, fields_of, job_fields, whole_choice}
+use Rattle.record_call.specs.Record.{job_costs, reduced_costs, run_costs, pinned_cost, job_settings, job_draws, stopped, job_result, job_choice, fields_of, job_fields, whole_choice}
 use Rattle.record_call.specs.Decoded.{Decoded, AtFronts, OwnCosts, FiguresFit}
 use Rattle.record_call.proofs.Freed.{same_costs, rows_long, cols_long, values_long, costs_long, choice_long, states_whole, job_hall, many_free, run_n, run_hall, no_pins, constant_none, whole_none}
 use Rattle.record_call.proofs.Figures.{rank_low, figures_fit}

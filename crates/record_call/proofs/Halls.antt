@@ -41,7 +41,6 @@ use Rattle.local_search.specs.LocalSearch as LocalSearch
 use Rattle.local_search.specs.Level as Level
 use Rattle.local_search.specs.SignSearch as SignSearch
 use Rattle.sign_search.specs.Search as Search
-use Rattle.run_sweep.specs.Work as Work
 use Rattle.run_sweep.specs.Work.{sign_table_of}
 use Rattle.finalize.specs.Finalize as Finalize
 use Rattle.run_contract.specs.Calls as Calls

@@ -1,11 +1,10 @@
 -- Turns after an exchange of a run's rule (02, Notes 11 and 12): they are seen as those of plain runs of which that one has taken the exchange, an
 -- accepted or a refused one. Assumes nothing.
-use Prim.Native.Nat.{ℕ, ◌≤◌, ◌<◌}
-use mathlib.Core.Path.{◌≡◌, refl, sym, ap, ◌∙◌, subst}
+use Prim.Native.Nat.{ℕ, ◌<◌}
+use mathlib.Core.Path.{◌≡◌, refl, sym, ◌∙◌, subst}
 use mathlib.Core.Bool.{Bool, true, false, cond}
 use mathlib.Core.List.{List}
 use lib.Dec.{eqb}
-use lib.ListN.{length}
 use lib.Ieee.{Float}
 use borrow.Author.Tests.{eqb-true, eqb-false}
 use Rattle.run_record.specs.declared.Run.{Run}
@@ -13,7 +12,7 @@ use Rattle.run_contract.specs.Calls.{Settings, Exchanges}
 use Rattle.run_contract.specs.PlainRun.{Plain, ExchangeCall, exchange, plain_open, plain_after, record_of}
 use Rattle.run_contract.proofs.Opening.{Whole}
 use Rattle.run_contract.proofs.OnLists.{exchange_left}
-use Rattle.several_runs.specs.Turn.{Tables, run_at, joined}
+use Rattle.several_runs.specs.Turn.{Tables, run_at}
 use Rattle.several_runs.specs.Shared.{TurnCall, TurnSeen, TurnChain, runs_left, factors_left, OpenedAll, shared_trace, shared_end, exchanged_at, OneExchanged}
 use Rattle.several_runs.proofs.Joined.{joined_ext}
 use Rattle.several_runs.proofs.OnTurns.{Follow, opened_follow, turns_follow, turns_leave}

@@ -1,9 +1,9 @@
 -- Whatever a caller may do is meant: `OpenedAll` and `TurnChain` ask no more than 02 does. Assumes nothing.
---     opened-any      accepted opens, whatever was lent to them, their factors moved together, are runs that were opened
+--     opened_any      accepted opens, whatever was lent to them, their factors moved together, are runs that were opened
 --     opened_some     settings whose opens are accepted have such runs
---     turns-any       a turn on any slice that has the kept factors as far as both go, with any outcome that its promise allows, goes before any chain
+--     turns_any       a turn on any slice that has the kept factors as far as both go, with any outcome that its promise allows, goes before any chain
 use Prim.Native.Nat.{ℕ, ◌<◌, ◌≤◌}
-use mathlib.Core.Path.{◌≡◌, refl, sym, ap, subst, ◌∙◌}
+use mathlib.Core.Path.{◌≡◌, refl, sym, ap}
 use mathlib.Core.List.{List, ◌∷◌}
 use native.Mathlib.Omega.{arith}
 use lib.ListN.{length, take}

@@ -5,7 +5,7 @@ use mathlib.Core.Bool.{Bool, true, false, false≢true}
 use mathlib.Core.List.{[], ◌∷◌}
 use native.Mathlib.Omega.{arith}
 use lib.Dec.{ltb, eqb}
-use borrow.Author.Tests.{ltb-true, ltb-false, lt-ltb, eqb-true, eqb-false, eq-eqb}
+use borrow.Author.Tests.{ltb-true, eqb-true, eqb-false}
 use Rattle.laws.specs.Refusal.{or_else, first_of, any_of}
 use Rattle.laws.proofs.Refusal.{first_here, first_skip, first_last, each, found, none_of}
 use Rattle.limits.specs.Limits.{most_runs, least_turn, most_turn}
@@ -61,10 +61,10 @@ pub record First (f : ℕ → ℕ) (n number : ℕ) : Type 0 where
   pub before : (j : ℕ) → j < place → f j ≡ 0
   pub is : number ≡ f place
 
-first_of : (f : ℕ → ℕ) (n : ℕ) → (first_of f n ≡ 0 → ⊥) → First f n (first_of f n)
+first_of_lem : (f : ℕ → ℕ) (n : ℕ) → (first_of f n ≡ 0 → ⊥) → First f n (first_of f n)
 unfolding first_of or_else
-first_of f zero nonzero = absurd (nonzero refl)
-first_of f (suc n) nonzero = by (first_of f n) refl nonzero (first_of f n)
+first_of_lem f zero nonzero = absurd (nonzero refl)
+first_of_lem f (suc n) nonzero = by (first_of f n) refl nonzero (first_of_lem f n)
   where
     by : (so_far : ℕ) → first_of f n ≡ so_far → (or_else so_far (f n) ≡ 0 → ⊥) → ((first_of f n ≡ 0 → ⊥) → First f n (first_of f n)) → First f (suc n) (or_else so_far (f n))
     by zero e nonzero more = record { place = n; below = omega arith; before = each f n e; is = refl }
@@ -88,7 +88,7 @@ module _ (sweeps count : ℕ) (at : ℕ → Run) (t : Tables) (lent : ℕ) where
       by false e true f = by_runs (in_range sweeps e) (not_some count f) (first_skip 25 _ _ e ∙ first_here 25 _ _ f)
       by false e false f =
           let is = of_runs e f in
-          let m = first_of (number_at at t lent) count (λ z. nonzero (is ∙ z)) in
+          let m = first_of_lem (number_at at t lent) count (λ z. nonzero (is ∙ z)) in
           by_a_run (in_range sweeps e) (some_runs count f) m.place m.below m.before nonzero (is ∙ m.is)
 
   pub only_so : (number : ℕ) → TurnedDown sweeps count at t lent number → turn_number sweeps count at t lent ≡ number

@@ -11,7 +11,7 @@ use limits::MOST_RUNS;
 use run_record::Run;
 
 // A run's table: n wagons, and how many entries.
-#[derive(Drop)]
+#[derive(Clone, Copy)]
 pub struct HallSize {
     pub n: usize,
     pub count: usize,

@@ -11,7 +11,6 @@ use lib.ListN.{length, take}
 use lib.Seq.{get_or-take}
 use Rattle.laws.specs.Rows.{row_of}
 use Rattle.laws.proofs.Parts.{row_within, length_row_of}
-use Rattle.ieee.specs.Floats.{at}
 use Rattle.step_rules.specs.declared.StepRule.TheVariants.{CoordNoStep}
 use Rattle.row_length.specs.Length.{AtMostTwo, UnitLength}
 use Rattle.run_record.specs.declared.Run.{Run}

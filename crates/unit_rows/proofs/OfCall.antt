@@ -1,11 +1,11 @@
 -- Note 14 of the call `sweep`: an accepted call under rule 3, from a factor whose numbers are finite and at most 2 in magnitude.
---     how-long-a-row-is   the request, for one sweep: each row that it rewrites has a squared length that differs from 1 by at most 2 ^ -40
---     call-lengths        for up to k: each row that one of them rewrites; the others are as they were; the numbers are finite and at most 2 again
+--     how_long_a_row_is   the request, for one sweep: each row that it rewrites has a squared length that differs from 1 by at most 2 ^ -40
+--     call_lengths        for up to k: each row that one of them rewrites; the others are as they were; the numbers are finite and at most 2 again
 --     call_next           rule, size and rank stay, so that the next call starts from such a factor too, whatever its table
---     length-kept         a row of that length keeps it
---     call-counts         for one sweep: the rows outside are those that Note 2 counts; `left_is` in the words of its pairs
---     all-rows            where a call for one sweep or more leaves the total as it was, every row of the factor has that length
--- By induction on sweeps, over rule3-length. Assumes nothing.
+--     length_kept         a row of that length keeps it
+--     call_counts         for one sweep: the rows outside are those that Note 2 counts; `left_is` in the words of its pairs
+--     all_rows            where a call for one sweep or more leaves the total as it was, every row of the factor has that length
+-- By induction on sweeps, over rule3_length. Assumes nothing.
 use mathlib.Core.Path.{◌≡◌, refl, sym, ap, ◌∙◌, subst}
 use mathlib.Core.Bool.{Bool, true, false, not, cond}
 use mathlib.Core.Logic.{⊎_elim}
@@ -44,7 +44,7 @@ use Rattle.run_sweep.specs.Sweep.{State, while_open, swept_once, standing_once, 
 use Rattle.run_contract.specs.Calls.{Sweeps, used}
 use Rattle.run_contract.specs.Log.{Made, is_left}
 use Rattle.run_contract.proofs.Accepting.{Sweeping, sweep_accepted}
-use Rattle.unit_rows.specs.UnitRows.{Tame, rewritten_by, if_open_rewritten, ever_rewritten_by, rewritten, ever_rewritten, UnitRows, OneSweep, HowLongARowIs}
+use Rattle.unit_rows.specs.UnitRows.{Tame, rewritten_by, if_open_rewritten, ever_rewritten_by, rewritten, ever_rewritten, UnitRows, HowLongARowIs}
 
 -- ---- sweeps over a table
 
@@ -264,7 +264,7 @@ open_picks Stopped next last e = let z : ◌≡◌ {A = ℕ} 0 1 = cc in absurd 
 
 one_standing : (w : Work) (run : Run) (rows : List Float) → is_stopped run.stage ≡ false → (sweeps_up_to 1 w run rows).run.standing ≡ run.standing + standing_once w run rows
 unfolding sweeps_up_to run_after advanced
-one_standing w run rows e = ap (λ (s : State). s.run.standing) (open_picks run.stage _ _ e)
+one_standing w run _ e = ap (λ (s : State). s.run.standing) (open_picks run.stage _ _ e)
 
 length_only : (b : Bool) (i : ℕ) → length (only_if (not b) i) ≡ cond b 0 1
 length_only true i = refl
@@ -321,7 +321,7 @@ how_long_a_row_is run t factor number run' factor' one = call_length run t facto
 
 next_standing : (w : Work) (run : Run) (rows : List Float) → (run_after run w (swept_once w run rows) (standing_once w run rows)).standing ≡ run.standing + standing_once w run rows
 unfolding run_after advanced
-next_standing w run rows = refl
+next_standing w run _ = refl
 
 never_falls : (k : ℕ) (w : Work) (run : Run) (rows : List Float) → run.standing ≤ (sweeps_up_to k w run rows).run.standing
 unfolding sweeps_up_to
@@ -374,11 +374,11 @@ module _ (run : Run) (t : CostTable) (k : ℕ) (factor : List Float) (number : �
     (rule : run.rule ≡ CoordNoStep) (tame : Tame run factor) (same : run'.standing ≡ run.standing) where
   none_left : length (kept (λ i. not (rewritten run t factor i)) (λ i. i) run.size) ≡ 0
   none_left =
-      let open-then = open_run_lem run t (length factor) (sym call.numbered ∙ ok) in
-      let grew = first_left k (call_work t) run (take (used run) factor) open-then in
-      let Ended-so = ap (λ (r : Run). r.standing) (call.accepted ok).0 in
+      let opened_then = open_run_lem run t (length factor) (sym call.numbered ∙ ok) in
+      let grew = first_left k (call_work t) run (take (used run) factor) opened_then in
+      let ended_so = ap (λ (r : Run). r.standing) (call.accepted ok).0 in
       let count = once_counted (call_work t) run (take (used run) factor) rule in
-      omega (arith, grew, Ended-so, same, count)
+      omega (arith, grew, ended_so, same, count)
 
   pub all_rows : (i : ℕ) → i < run.size → UnitLength (row_of run.rank factor' i)
   all_rows i l =

@@ -1,14 +1,14 @@
 -- What Note 14 starts from is there: numbers of every such pattern, and an outcome of every call.
---     tame-of-bits    64 bits a number, the sign's left out at most those of 2.0
---     one-sweep-any   a run under rule 3 and a table to which no number applies, and such a factor
+--     tame_of_bits    64 bits a number, the sign's left out at most those of 2.0
+--     one_sweep_any   a run under rule 3 and a table to which no number applies, and such a factor
 -- Assumes nothing.
-use mathlib.Core.Path.{◌≡◌, refl, sym, ap, subst}
+use mathlib.Core.Path.{◌≡◌, refl, sym, subst}
 use mathlib.Core.List.{List, [], ◌∷◌, map}
 use Prim.Native.Nat.{ℕ, zero, suc, ◌%◌, ◌^◌, ◌≤◌, ◌<◌}
 use native.Mathlib.Nat.{le_trans}
 use native.Mathlib.Omega.{arith}
-use lib.Ieee.{Float, nan}
-use lib.ListN.{length, get_or, take}
+use lib.Ieee.{Float}
+use lib.ListN.{length, take}
 use Rattle.laws.specs.Lists.{elem, over}
 use Rattle.ieee.specs.Floats.{at, double_of}
 use Rattle.step_rules.specs.declared.StepRule.TheVariants.{CoordNoStep}
@@ -19,7 +19,7 @@ use Rattle.run_record.specs.CostTable.{CostTable}
 use Rattle.run_record.specs.Numbers.{sweep_number}
 use Rattle.run_sweep.specs.Work.{call_work}
 use Rattle.run_sweep.specs.Sweep.{sweeps_up_to}
-use Rattle.run_contract.specs.Calls.{Sweeps, used}
+use Rattle.run_contract.specs.Calls.{used}
 use Rattle.unit_rows.specs.UnitRows.{Tame, OneSweep}
 
 at_map : (bits : List ℕ) (k : ℕ) → k < length bits → at (map double_of bits) k ≡ double_of (elem bits k)

@@ -1,0 +1,17 @@
+use Rattle.record_call.proofs.Decoding.{unpinned_run, unpinned_figures, unpinned_fields, unpinned_choice}
+use Rattle.record_call.proofs.run.costs_answer.Goals as goal
+
+pub pinned_answer-requires : goal.pinned_answer-requires
+pinned_answer-requires c = c.requires
+
+pub returns-then-j-ne0 : goal.returns-then-j-ne0
+returns-then-j-ne0 c = c.pinned_answer.ensures
+
+pub finish_read-x-requires : goal.finish_read-x-requires
+finish_read-x-requires c = (c.requires.0.accepted, c.requires.0.job_is, unpinned_run c.args.job.now c.requires.0.accepted c.requires.0 c.if-j-ne0.false, c.requires.1, c.requires.2)
+
+pub fields_of-requires : goal.fields_of-requires
+fields_of-requires c = unpinned_figures c.args.job.now c.requires.0.accepted c.requires.0 c.if-j-ne0.false c.finish_read-x.ensures.0
+
+pub returns : goal.returns
+returns c = (unpinned_fields c.args.job.now c.requires.0.accepted c.requires.0 c.if-j-ne0.false c.finish_read-x.ensures.0 c.fields_of.ensures, unpinned_choice c.args.job.now c.requires.0.accepted c.requires.0 c.if-j-ne0.false _ _ c.finish_read-x.ensures.1)
