@@ -26,7 +26,7 @@ target/libwagonplan.a: $(SOURCES)
 	env -u WAGONPLAN_ARCHIVE tools/archive.sh
 
 target/bin/wagonplan: $(SOURCES)
-	rt check wagonplan
+	env -u WAGONPLAN tools/program.sh
 
 install: $(WAGONPLAN_ARCHIVE) $(WAGONPLAN)
 	$(INSTALL) -d $(DESTDIR)$(BINDIR) $(DESTDIR)$(LIBDIR)/pkgconfig $(DESTDIR)$(INCLUDEDIR) $(DESTDIR)$(DATADIR)/tools/halls $(DESTDIR)$(DATADIR)/include

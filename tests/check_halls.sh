@@ -4,7 +4,7 @@
 # WAGONPLAN_ARCHIVE an archive that is built already.
 set -eu
 cd "$(dirname "$0")/.."
-[ -x "${WAGONPLAN:-target/bin/wagonplan}" ] || { echo "there is no program ${WAGONPLAN:-target/bin/wagonplan}: run \`rt check wagonplan\` first" >&2; exit 1; }
+[ -x "${WAGONPLAN:-target/bin/wagonplan}" ] || { echo "there is no program ${WAGONPLAN:-target/bin/wagonplan}: run tools/program.sh first" >&2; exit 1; }
 PYTHONPYCACHEPREFIX=$PWD/target/pycache python3 -m py_compile tools/hall tools/plan tools/halls/*.py tests/check_halls.py tests/look_at_plan.py
 WAGONPLAN_ARCHIVE=$(tools/archive.sh)
 export WAGONPLAN_ARCHIVE

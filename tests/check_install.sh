@@ -7,7 +7,7 @@ set -eu
 cd "$(dirname "$0")/.."
 archive=$(realpath "$(tools/archive.sh)")
 program=$(realpath "${WAGONPLAN:-target/bin/wagonplan}")
-[ -x "$program" ] || { echo "there is no program $program: run \`rt check wagonplan\` first" >&2; exit 1; }
+[ -x "$program" ] || { echo "there is no program $program: run tools/program.sh first" >&2; exit 1; }
 away=$(mktemp -d)
 trap 'rm -rf "$away"' EXIT
 unset WAGONPLAN WAGONPLAN_ARCHIVE MAKEFLAGS

@@ -1,12 +1,13 @@
 #!/usr/bin/env bash
-# Builds target/fuzz/libwagonplan.a: the calls as `rt staticlib` builds them, from the same proved module, but with the compiler's
+# Builds target/fuzz/libwagonplan.a: the calls as `rt lib` builds them, from the same proved module, but with the compiler's
 # assumptions checked (tools/checked_module.py), address checks and libFuzzer's coverage. The kit is seen through a folder of links, in which
-# its compiler is a script that adds these.
+# its compiler is a script that adds these. (bin/rt finds the kit by its own place, so it and what it reads there are copied.)
 set -eu
 cd "$(dirname "$0")/.."
-kit=$(dirname "$(dirname "$(rt doc)")") links=$PWD/target/fuzz/kit bin=on/$(uname -m)/toolchain/bin
+kit=$(dirname "$(rt doc)") links=$PWD/target/fuzz/kit bin=toolchain/bin
 rm -rf "$links"
-mkdir -p "$links/$bin" target/log
+mkdir -p "$links/$bin" "$links/bin" target/log
+cp "$kit/bin/rt" "$kit/bin/rtlib.py" "$links/bin/"
 cat >"$links/$bin/clang" <<SCRIPT
 #!/usr/bin/env bash
 set -eu
@@ -22,11 +23,12 @@ done
 exec "$kit/$bin/clang" "\${words[@]}" -Wno-unused-command-line-argument -fsanitize=address -fsanitize-coverage=inline-8bit-counters,pc-table,trace-cmp
 SCRIPT
 chmod +x "$links/$bin/clang"
-for folder in . on "on/$(uname -m)" "on/$(uname -m)/toolchain" "$bin"; do
+for folder in . bin toolchain "$bin"; do
     for there in "$kit/$folder"/*; do [ -e "$links/$folder/${there##*/}" ] || ln -s "$there" "$links/$folder/"; done
 done
-plain=target/staticlib/libexports.a
-[ ! -f "$plain" ] || mv "$plain" target/fuzz/plain.a
-RATTLE_HOME=$links rt staticlib exports >target/log/checked-exports.txt 2>&1 || { tail -n 20 target/log/checked-exports.txt; exit 1; }
-mv "$plain" target/fuzz/libwagonplan.a
-[ ! -f target/fuzz/plain.a ] || mv target/fuzz/plain.a "$plain"
+made=crates/exports/out/libexports.a
+[ ! -f "$made" ] || mv "$made" target/fuzz/plain.a
+(cd crates/exports && "$links/bin/rt" lib) >target/log/checked-exports.txt 2>&1 || { tail -n 20 target/log/checked-exports.txt; exit 1; }
+grep -h '^checked: ' target/log/checked-exports.txt || true
+mv "$made" target/fuzz/libwagonplan.a
+[ ! -f target/fuzz/plain.a ] || mv target/fuzz/plain.a "$made"

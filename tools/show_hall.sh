@@ -5,7 +5,7 @@ set -euo pipefail
 hall=${1:+$(realpath "$1")}
 cd "$(dirname "$0")/.."
 hall=${hall:-examples/halls/stalls.txt}
-log=target/log/show_hall.txt
+log=target/log/program.txt
 
 # The crates of crates.txt that wagonplan needs, itself among them.
 crates_needed() {
@@ -24,14 +24,15 @@ clock() { printf '%d:%02d' $((SECONDS / 60)) $((SECONDS % 60)); }
 
 # Reads what rt says: a line for each crate that is proved, with a count and the time so far; on a terminal the time runs on between them.
 progress() {
-    local total=$1 proved=0 line part=
+    local total=$1 proved=0 line part='' name=''
     while true; do
         if IFS= read -r -t 1 line; then
-            line=$part$line part=
-            [[ $line =~ ^rt:\ ([a-z_]+)\ proved\ \((.*)\)$ ]] || continue
+            line=$part$line part=''
+            [[ ! $line =~ ^crate\ ([a-z_]+):\ modules ]] || name=${BASH_REMATCH[1]}
+            [[ $line == logic=proved* ]] || continue
             proved=$((proved + 1))
             [ ! -t 1 ] || printf '\r\e[K'
-            printf '[%2d of %d] %6s  %s (%s)\n' "$proved" "$total" "$(clock)" "${BASH_REMATCH[1]}" "${BASH_REMATCH[2]}"
+            printf '[%2d of %d] %6s  %s\n' "$proved" "$total" "$(clock)" "$name"
         elif [ $? -gt 128 ]; then # a second without a line
             part+=$line
             [ ! -t 1 ] || printf '\r\e[K[%2d of %d] %6s  proving ..' "$proved" "$total" "$(clock)"
@@ -45,10 +46,9 @@ build() {
     command -v rt >/dev/null || { echo "rt isn't installed: proving takes the Rattle kit that .ci/kit names." >&2; exit 2; }
     local total
     total=$(crates_needed)
-    echo "The program wagonplan isn't built yet. Its $total crates are proved now, in order, and it is built from them. This is done once and takes"
-    echo "about 9 minutes on two processors that have nothing else to do, up to 25 where they have. Then $hall is solved."
-    mkdir -p target/log
-    if ! rt check wagonplan 2>&1 | tee "$log" | progress "$total"; then
+    echo "The program wagonplan isn't built yet. Its $total crates are proved now, in order, as far as that isn't kept, and it is built from them. This is done"
+    echo "once, and takes MINUTES minutes on four processors that have nothing else to do. Then $hall is solved."
+    if ! tools/program.sh --show 2>&1 >/dev/null | progress "$total"; then
         tail -n 20 "$log"
         exit 2
     fi
