@@ -21,7 +21,7 @@ DOCS = README.md CHANGELOG.md CONTRIBUTING.md LICENSE NOTICE docs/buyer.html doc
 .PHONY: all install uninstall page check
 all: $(WAGONPLAN_ARCHIVE) $(WAGONPLAN)
 
-SOURCES := $(shell find crates -name '*.rt' -o -name '*.antt')
+SOURCES := $(shell find crates -name out -prune -o -name '*.rt' -print -o -name '*.antt' -print)
 target/libwagonplan.a: $(SOURCES)
 	env -u WAGONPLAN_ARCHIVE tools/archive.sh
 

@@ -35,11 +35,6 @@ def named(path, form):
     return found
 
 
-def camel(name):
-    first, *rest = name.lower().split("_")
-    return first + "".join(part.capitalize() for part in rest)
-
-
 def literals(line):
     """The numbers that a line of code or proof has, powers of two among them."""
     line = re.sub(r"(?<=\d)_(?=\d)", "", line)
@@ -60,13 +55,14 @@ def lines(path):
 def main():
     code = named("crates/limits/src/lib.rt", r"^pub const (\w+): \w+ = (.*);$")
     specs = named("crates/limits/specs/Limits.antt", r"^(\w+) = (.*)$")
-    said = [f"crates/limits: {name} is {n} in code and {specs.get(camel(name))} in specs" for name, n in code.items() if specs.get(camel(name)) != n]
-    said += [f"crates/limits: {name} is in specs and not in code" for name in specs if name not in map(camel, code)]
+    said = [f"crates/limits: {name} is {n} in code and {specs.get(name.lower())} in specs" for name, n in code.items() if specs.get(name.lower()) != n]
+    said += [f"crates/limits: {name} is in specs and not in code" for name in specs if name not in map(str.lower, code)]
     limits = set(code.values())
     for n in limits - NOWHERE:
         if not faults(f"    few : count ≤ {n}", "tables", limits):
             said.append(f"{n} would not be found")
-    for path in sorted(glob.glob(os.path.join(TOP, "crates/*/**/*.rt"), recursive=True) + glob.glob(os.path.join(TOP, "crates/*/**/*.antt"), recursive=True)):
+    texts = [path for part, form in (("src", "rt"), ("specs", "antt"), ("proofs", "antt")) for path in glob.glob(os.path.join(TOP, f"crates/*/{part}/**/*.{form}"), recursive=True)]
+    for path in sorted(texts):
         short = os.path.relpath(path, TOP)
         crate = short.split(os.sep)[1]
         if crate == "limits" or short.endswith(EXAMPLES):

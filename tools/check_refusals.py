@@ -24,6 +24,7 @@ TOP = sys.argv[1] if len(sys.argv) > 1 else os.path.join(os.path.dirname(os.path
 KNOWN = {"open", "sweep_run", "sweep", "turn", "finish", "finish_ranged", "dual_variables", "lift_solution"}
 TAMPERED = ["{0}[0] = {0}[0];", "clear(&mut *{0});", "clear(&mut {0}[..1]);", "let other = {0};", "clear({0});"]
 LENT = "&mut [f64]"
+CLAUSE = r"\b(requires|ensures)(?: ?\*)?(?: \w+)?"
 
 
 @dataclasses.dataclass
@@ -77,17 +78,23 @@ def split_list(text):
     return [p.strip() for p in [*parts, text[start:]] if p.strip()]
 
 
+def paths_of(line):
+    """The paths of a `use`, those in braces each."""
+    before, brace, inside = re.sub(r"\s+", "", line).partition("{")
+    return [before + part for part in inside.rpartition("}")[0].split(",") if part] if brace else [before]
+
+
 def functions_of(file, text):
-    """Comments and ghost text are passed over."""
-    text = re.sub(r"//[^\n]*|⌜.*?⌝", blank, text, flags=re.S)
-    uses = {path.split("::")[-1]: path for path in re.findall(r"(?m)^use ([\w:]+);", text)}
+    """Comments and ghost imports are passed over."""
+    text = re.sub(r"//[^\n]*|^ghost use [^;]*;", blank, text, flags=re.M)
+    uses = {path.split("::")[-1]: path for line in re.findall(r"(?m)^(?:pub )?use ([^;]+);", text) for path in paths_of(line)}
     crate, module = re.search(r"crates/(\w+)/src/(\w+)\.rt$", file).groups()
     for head in re.finditer(r"(?m)^[ \t]*(?:pub )?(?:extern \"C\" )?fn (\w+)\s*(?=\()", text):
         end = closing(text, head.end())
         parameters = [tuple(re.sub(r"^mut ", "", p).split(": ", 1)) for p in split_list(text[head.end() + 1 : end - 1])]
         clauses, start = [], text.index("{", end)
-        result = re.match(r"\s*(?:-> *)?([^{]*?)\s*(?:requires|ensures)?\s*$", text[end:start])[1]
-        while clause := re.search(r"(requires|ensures)\s*$", text[end:start]):
+        result = re.match(rf"\s*(?:-> *)?([^{{]*?)\s*(?:{CLAUSE})?\s*$", text[end:start])[1]
+        while clause := re.search(rf"{CLAUSE}\s*$", text[end:start]):
             clauses.append(clause[1])
             end = closing(text, start)
             start = text.index("{", end)

@@ -5,7 +5,7 @@
                              docs/crates.svg is not the picture
   tools/edges.py --write     rewrites the lists of crates.txt, and the picture
 
-A crate names another by `Rattle·NAME.` in its specs, proofs and contracts, or by `NAME::` in its code. The kit's libraries stay as they are listed.
+A crate names another by `Rattle.NAME.` in its specs, proofs and contracts, or by `NAME::` in its code. The kit's libraries stay as they are listed.
 """
 import os
 import re
@@ -14,36 +14,38 @@ import sys
 TOP = os.path.dirname(os.path.dirname(os.path.abspath(__file__)))
 LIST = os.path.join(TOP, "crates.txt")
 PICTURE = os.path.join(TOP, "docs", "crates.svg")
+HEAD = re.compile(r"(\w+)( staticlib)?:(.*)")
 
 
 def listed():
     """{crate: [what it stands on]} in the order of crates.txt."""
     with open(LIST, encoding="utf-8") as lines:
-        pairs = [line.split(":", 1) for line in lines if re.match(r"\w+:", line)]
-    return {name: rest.split() for name, rest in pairs}
+        pairs = [found.groups() for found in map(HEAD.match, lines) if found]
+    return {name: rest.split() for name, _, rest in pairs}
 
 
 def text_of(name):
     """The crate's text, comments left out."""
     found = []
-    for folder, _, files in os.walk(os.path.join(TOP, "crates", name)):
-        for file in files:
-            if file.endswith((".rt", ".antt")):
-                with open(os.path.join(folder, file), encoding="utf-8") as text:
-                    found += [re.sub(r"(//|--).*", "", line) for line in text]
+    for part in ("src", "specs", "proofs"):
+        for folder, _, files in os.walk(os.path.join(TOP, "crates", name, part)):
+            for file in files:
+                if file.endswith((".rt", ".antt")):
+                    with open(os.path.join(folder, file), encoding="utf-8") as text:
+                        found += [re.sub(r"(//|--).*", "", line) for line in text]
     return "".join(found)
 
 
 def named(name, crates):
     """What the crate's text names, in reading order, then the kit's libraries."""
     text = text_of(name)
-    used = set(re.findall(r"Rattle·(\w+)\.", text)) | set(re.findall(r"(?<![\w:])(\w+)::", text))
+    used = set(re.findall(r"\bRattle\.(\w+)\.", text)) | set(re.findall(r"(?<![\w:])(\w+)::", text))
     return [other for other in crates if other in used and other != name] + [other for other in crates[name] if other not in crates]
 
 
 def write_list(uses):
     with open(LIST, encoding="utf-8") as lines:
-        text = [re.sub(r"^(\w+):.*", lambda m: f"{m[1]}: {' '.join(uses[m[1]])}".rstrip(), line) for line in lines]
+        text = [HEAD.sub(lambda m: f"{m[1]}{m[2] or ''}: {' '.join(uses[m[1]])}".rstrip(), line) if HEAD.match(line) else line for line in lines]
     with open(LIST, "w", encoding="utf-8") as out:
         out.writelines(text)
 

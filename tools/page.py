@@ -26,8 +26,8 @@ TOP = os.path.dirname(os.path.dirname(os.path.abspath(__file__)))
 PARTS = os.path.join(TOP, "docs", "page")
 PAGE = os.path.join(TOP, "docs", "buyer.html")
 README = os.path.join(TOP, "README.md")
-COUNTS = re.compile(r"(`tools/believe answer_record plain-run` prints )[\d,]+( lines, )[\d,]+( definitions)")
-MAIN = ["answer_record", "plain-run"]  # the record call, the theorem on lists
+COUNTS = re.compile(r"(`tools/believe answer_record plain_run` prints )[\d,]+( lines, )[\d,]+( definitions)")
+MAIN = ["answer_record", "plain_run"]  # the record call, the theorem on lists
 LONG = 30  # a statement of more lines may be cut by the end of a printed page
 KINDS = {"specs": "definition", "proofs": "theorem", "src": "contract of the code", "declared": "type of the code"}
 
@@ -385,7 +385,7 @@ def hall_html():
 
 
 def counts(shown):
-    """How many lines `tools/believe answer_record plain-run` prints, and of how many definitions."""
+    """How many lines `tools/believe answer_record plain_run` prints, and of how many definitions."""
     import runpy
 
     believe = runpy.run_path(os.path.join(TOP, "tools", "believe"), run_name="believe")

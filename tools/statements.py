@@ -29,7 +29,8 @@ TYPED = re.compile(r"^(?:(?:abbrev|unfoldable|pub|private) )*(?:record|data) ([^
 MODULE = re.compile(r"^(?:pub )?module ")
 PASSED = re.compile(r"^(?:(?:unfoldable|pub|ghost) )*(?:use|mod|infix[lr]?)\b")
 USE = re.compile(r"^(?:(?:unfoldable|pub|ghost) )*use ([^\s{;]+?)(?:\.\{([^}]*)\})?(?: as ([^\s;]+))?;?[ \t]*$", re.M)
-OURS = re.compile(r"Rattle·(\w+?)(?:·\w+)?\.(specs|proofs)\.(.+)")
+OURS = re.compile(rf"Rattle\.({'|'.join(sorted(os.listdir(TOP)))})\.(specs|proofs)\.(.+)")
+CLAUSE = re.compile(r"(?:requires|ensures)(?: ?\*)?(?: \w+)? \{$")
 BINDER = re.compile(r"[({]([^(){}:]+) : |λ ([^.()]+)\.")
 WORD = re.compile(r"[^\s(){}\[\],;.|«»]+(?:\.[^\s(){}\[\],;.|«»]+)*")
 
@@ -111,11 +112,16 @@ def functions(text):
             note.append(bare)
             at += 1
             continue
+        if bare.startswith("#["):
+            while not lines[at].rstrip().endswith("]"):
+                at += 1
+            at += 1
+            continue
         function = re.match(r'(?:pub )?(?:extern "C" )?fn (\w+)', bare)
         typed = re.match(r"(?:pub )?(?:struct|enum) (\w+)", bare)
         end = at + 1
         if function:
-            while end < len(lines) and lines[end - 1].strip() != "{" and not (lines[end - 1].rstrip().endswith(" {") and "ensures {" not in lines[end - 1] and "requires {" not in lines[end - 1]):
+            while end < len(lines) and lines[end - 1].strip() != "{" and not (lines[end - 1].rstrip().endswith(" {") and not CLAUSE.search(lines[end - 1].rstrip())):
                 end += 1
             yield "src", function[1], Text("\n".join(note), [], shifted(lines[at:end - 1]), shifted(lines[at:end - 1]))
             at = end
@@ -126,8 +132,7 @@ def functions(text):
             at = end
         else:
             at += 1
-        if not bare.startswith("#["):
-            note = []
+        note = []
 
 
 class Crates:
@@ -139,11 +144,11 @@ class Crates:
                 place = (crate, part, os.path.splitext(inner)[0].replace(os.sep, "."))
                 with open(path, encoding="utf-8") as file:
                     self.read(place, file.read())
-        # the parts of names like _if_
+        # the parts of names like ◌if◌
         self.mixed = {}
         for place, name in [*((place, name) for place, names in self.names.items() for name in names), *((key[:3], key[3]) for key in self.text)]:
-            if "_" in name and place[1] != "src":
-                self.mixed.setdefault(place, {}).update({part: name for part in name.split("_") if part})
+            if "◌" in name and place[1] != "src":
+                self.mixed.setdefault(place, {}).update({part: name for part in name.split("◌") if part})
 
     def read(self, place, text):
         names, aliases, kit = {}, {}, {}
@@ -159,8 +164,9 @@ class Crates:
                     kit[other or first] = f"{path}.{first}"
             if not listed:
                 (aliases if ours else kit)[alias or path.rpartition(".")[2]] = (ours[1], ours[2], ours[3]) if ours else path
-        for module, name in re.findall(r"^use ((?:\w+::)+)(\w+);", text, re.M):
-            names.setdefault(name, (module.split("::")[0], "specs", f"declared.{name}", name))
+        for module, listed in re.findall(r"^use (\w+)::([^;]+);", text, re.M):
+            for name in re.findall(r"\w+(?=[\s,}]|$)", listed):
+                names.setdefault(name, (place[0] if module == "crate" else module, "specs", f"declared.{name}", name))
         self.names[place], self.aliases[place], self.kit[place] = names, aliases, kit
         found = functions(text) if place[1] == "src" else ((place[1], *pair) for pair in definitions(text))
         for part, name, what in found:
@@ -176,7 +182,7 @@ class Crates:
         for _ in range(8):
             crate, part, file = place
             if file.startswith("declared."):
-                own = (crate, "declared", "", [x for x in file.split(".") if x != "the-variants"][-1])
+                own = (crate, "declared", "", [x for x in file.split(".") if x != "TheVariants"][-1])
                 return own if own in self.text else None
             if (*place, name) in self.text:
                 return (*place, name)
@@ -246,7 +252,7 @@ class Crates:
             place, what = self.place(key), self.text[key]
             text = re.sub(r"(--|//).*", "", "\n".join([*(header for _, header in what.modules), self.shown(key)]))
             kit = self.kit.get(place, {})
-            parts = {part: name for name in kit if "_" in name for part in name.split("_") if part}
+            parts = {part: name for name in kit if "◌" in name for part in name.split("◌") if part}
             for word in {w for m in WORD.finditer(text) for w in m[0].split(".")}:
                 if word in kit or word in parts:
                     found.add(kit.get(word) or kit[parts[word]])
