@@ -17,7 +17,7 @@ use Rattle.run_contract.specs.declared.Finished.{Finished}
 use Rattle.run_contract.specs.declared.Finished.TheVariants as F
 use Rattle.run_contract.specs.Calls.{Opens, Sweeps, Finishes, finish_result}
 use Rattle.exports.specs.Words.{run_words, setting_words, result_words, run_in, words_of, settings_in, result_words_of}
-use Rattle.exports.specs.Answers.{opened_by, finished_by, OpensWords, SweepsWords, FinishesWords}
+use Rattle.exports.specs.Answers.{OpensWords, SweepsWords, FinishesWords}
 
 -- ---- open
 

@@ -16,7 +16,6 @@ use Rattle.limited_search.specs.declared.Limited.{Limited}
 use Rattle.limited_search.specs.declared.Limited.TheVariants as L
 use Rattle.reduced.specs.declared.from_principal_submatrix.Reduced.{Reduced}
 use Rattle.reduced.specs.declared.from_principal_submatrix.Reduced.TheVariants as R
-use Rattle.exhaustive.specs.declared.Least.{Least}
 use Rattle.exhaustive.specs.declared.Walked.{Walked}
 use Rattle.exhaustive.specs.declared.Walked.TheVariants as W
 use Rattle.run_record.specs.declared.Run.{Run}

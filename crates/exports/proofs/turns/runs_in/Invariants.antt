@@ -1,0 +1,15 @@
+-- `exports::turns::runs_in` meets its contract. Assumes nothing.
+use Prim.Native.Nat.{◌≤◌, ◌-◌}
+use mathlib.Core.Path.{◌≡◌}
+use lib.ListN.{replicate}
+use Rattle.laws.specs.Lists.{fill}
+use Rattle.limits.specs.Limits.{most_runs}
+use Rattle.several_runs.specs.Turn.{blank}
+use Rattle.exports.specs.TurnWords.{record_at}
+use Rattle.exports.proofs.turns.runs_in.Given as goal
+
+abbrev pub invariant-loop-i : goal.invariant-loop-i
+invariant-loop-i l = (l.i ≤ l.run_count) × (l.runs ≡ fill (record_at l.words) l.i (replicate most_runs blank))
+
+abbrev pub decreases-loop-i : goal.decreases-loop-i
+decreases-loop-i l = l.run_count - l.i
