@@ -821,19 +821,19 @@ class Commands(Case):
 
     def test_first_command(self):
         """From a tree in which nothing is built, with an rt that only says what the real one says."""
-        for name in ("tools", HALLS, answer.HEADER, "crates.txt"):
+        for name in ("tools", HALLS, answer.HEADER, "crates.txt", "crates/wagonplan/stdin", "crates/wagonplan/stdout"):
             source, to = os.path.join(TOP, name), os.path.join(self.folder, name)
             if os.path.exists(source):
                 os.makedirs(os.path.dirname(to), exist_ok=True)
                 (shutil.copytree if os.path.isdir(source) else shutil.copy)(source, to)
-        says = "echo 'fn laws::a: proved'; echo 'rt: laws proved (1 s)'; echo 'rt: wagonplan proved (21 s)'"
-        shutil.move(self.script(f"{says}; mkdir -p target/bin; ln -s '{PROGRAM}' target/bin/wagonplan"), os.path.join(self.folder, "rt"))
+        says = "".join(f"echo 'fn {name}::a: proved'; echo 'crate {name}: modules loaded=0 checked=9'; echo 'logic=proved functions=1 sum=1'; " for name in ("laws", "wagonplan"))
+        shutil.move(self.script(f"{{ {says} }} >&2; mkdir out; ln -s '{PROGRAM}' out/wagonplan; exec out/wagonplan"), os.path.join(self.folder, "rt"))
         command = [os.path.join(self.folder, "tools", "show_hall.sh")]
         done = subprocess.run(command, capture_output=True, env={**os.environ, "PATH": self.folder + ":" + os.environ["PATH"], "WAGONPLAN": ""}, check=False)
         self.ends(done, 0)
         total = len(needed("wagonplan"))
         self.assertRegex(done.stdout.decode(), rf"^The program wagonplan isn't built yet. Its {total} crates are proved now(.|\n)*minutes(.|\n)*"
-                         rf"\[ 1 of {total}\]   0:0\d  laws \(1 s\)\n\[ 2 of {total}\]   0:0\d  wagonplan \(21 s\)\n(.|\n)*took 4 rounds(.|\n)*target/plan.svg")
+                         rf"\[ 1 of {total}\]   0:0\d  laws\n\[ 2 of {total}\]   0:0\d  wagonplan\n(.|\n)*took 4 rounds(.|\n)*target/plan.svg")
         xml.etree.ElementTree.parse(os.path.join(self.folder, "target", "plan.svg"))
 
 
