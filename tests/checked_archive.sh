@@ -15,7 +15,8 @@ words=()
 for word; do
     if [[ \$word == *.bc ]]; then
         "$kit/$bin/clang" -O0 -Xclang -disable-llvm-passes -S -emit-llvm -x ir "\$word" -o "\$word.ll"
-        "$PWD/tools/checked_module.py" <"\$word.ll" >"\$word.checked.ll"
+        "$PWD/tools/checked_module.py" "$PWD"/crates/*/out/rlib/*.rlib/toolchain/mir.json "$kit/rlibs/core.rlib/toolchain/mir.json" <"\$word.ll" >"\$word.checked.ll" 2>"$PWD/target/log/checked-module.txt" ||
+            { cat "$PWD/target/log/checked-module.txt" >&2; exit 1; }
         word=\$word.checked.ll
     fi
     words+=("\$word")
@@ -26,9 +27,10 @@ chmod +x "$links/$bin/clang"
 for folder in . bin toolchain "$bin"; do
     for there in "$kit/$folder"/*; do [ -e "$links/$folder/${there##*/}" ] || ln -s "$there" "$links/$folder/"; done
 done
+rm -f target/log/checked-module.txt
 made=crates/exports/out/libexports.a
 [ ! -f "$made" ] || mv "$made" target/fuzz/plain.a
 (cd crates/exports && "$links/bin/rt" lib) >target/log/checked-exports.txt 2>&1 || { tail -n 20 target/log/checked-exports.txt; exit 1; }
-grep -h '^checked: ' target/log/checked-exports.txt || true
+grep '^checked: ' target/log/checked-module.txt
 mv "$made" target/fuzz/libwagonplan.a
 [ ! -f target/fuzz/plain.a ] || mv target/fuzz/plain.a "$made"
