@@ -5,10 +5,9 @@
 
 An edit changes one place in the body of a function or in the value of a constant, never a contract or a comment: a comparison, an
 arithmetic operator, && or ||, a number by 1, true or false, the operands of - or <, or two arguments next to each other whose types are the
-same. Each crate gets EACH of them; the kind of an edit is drawn first, then its place. Run after `rt check`: edits are tried by `rt dev` on a temporary
-copy, over what was checked of the crate, those inside different functions in one run, as tools/try_edits.py does; one that such a run doesn't show to
-be refused because a fact of its own function fails is tried by itself. Where + becomes - or *, the proof's name for that step is changed with it, if
-that is enough. --list prints the edits alone.
+same. Each crate gets EACH of them; the kind of an edit is drawn first, then its place. Each is tried by itself, by `rt check` in a copy of the tree, over what
+was checked of the crate. Where + becomes - or *, the proof's name for that step is changed with it, if that is enough. --list prints the edits alone.
+(`rt plant` tries wrong bodies of another kind, whole ones.)
 """
 import argparse
 import collections
@@ -16,11 +15,9 @@ import os
 import random
 import re
 import shutil
+import subprocess
 import sys
 import tempfile
-
-sys.dont_write_bytecode = True
-import try_edits
 
 TOP = os.path.dirname(os.path.dirname(os.path.abspath(__file__)))
 COMPARISONS = ["<", "<=", ">", ">=", "==", "!="]
@@ -30,7 +27,8 @@ KEYWORDS = {"return", "if", "else", "while", "match", "let", "mut", "in", "as"}
 Token = collections.namedtuple("Token", "text start end")
 Edit = collections.namedtuple("Edit", "crate file line kind old new start end put function")
 STEPS = {"+": "add", "-": "sub", "*": "mul"}
-OTHER_SHAPE = r"`tie\.Need-\S+: module|: record `"
+# What the prover says where a proof names what the edit took away.
+OTHER_SHAPE = r"proofs/.*(has no field|is not in scope|has no `|was not admitted)"
 
 
 def blanked(text):
@@ -54,7 +52,7 @@ def bodies(text):
         at = found.end()
         while True:
             brace = text.index("{", at)
-            if not re.search(r"\b(requires|ensures)\s*$", text[at:brace]):
+            if not re.search(r"\b(requires|ensures)(?: ?\*)?(?: \w+)?\s*$", text[at:brace]):
                 break
             at = closing(text, brace) + 1
         yield brace + 1, closing(text, brace), found.group(1)
@@ -243,61 +241,59 @@ def chosen(crate, types, each, seed):
     return out
 
 
-class Trials(try_edits.Trial):
-    """The edits of one crate, over a folder of what was checked of it."""
+def text_of(path):
+    with open(path, encoding="utf-8") as file:
+        return file.read()
 
-    def put(self, batch):
-        """The crate with these edits, checked: status and what was said."""
-        self.room.restore(self.name)
-        self.fresh()
-        for file in {e.file for e in batch}:
-            path = os.path.join(self.room.root, file)
-            text = try_edits.text_of(path)
-            for e in sorted((e for e in batch if e.file == file), key=lambda e: -e.start):
-                text = text[: e.start] + e.put + text[e.end :]
-            with open(path, "w", encoding="utf-8") as f:
-                f.write(text)
-        return self.room.dev(self.name)[:2]
 
-    def together(self, batch):
-        """Those edits of different functions that one run shows to be refused, with the first fact that fails."""
-        status, said = self.put(batch)
-        own = {e: status == 1 and try_edits.said_of(self.name, e.function, said) for e in batch}
-        return {e: ("refused", own[e].split("\n")[0]) for e in own if own[e] and not re.search(OTHER_SHAPE, own[e].split("\n")[0])}
+class Trials:
+    """The edits of one crate, in a copy of the tree."""
+
+    def __init__(self, room, name):
+        self.room, self.name, self.folder = room, name, os.path.join(room, "crates", name)
+
+    def restore(self):
+        for part in ("src", "proofs"):
+            shutil.rmtree(os.path.join(self.folder, part), ignore_errors=True)
+            if os.path.isdir(os.path.join(TOP, "crates", self.name, part)):
+                shutil.copytree(os.path.join(TOP, "crates", self.name, part), os.path.join(self.folder, part))
+
+    def check(self):
+        """Status and words of `rt check`."""
+        done = subprocess.run(["rt", "check"], cwd=self.folder, stdin=subprocess.DEVNULL, stdout=subprocess.PIPE, stderr=subprocess.STDOUT)
+        return done.returncode, done.stdout.decode(errors="replace")
+
+    def unedited(self):
+        """What is wrong with the crate as it is, or nothing."""
+        status, said = self.check()
+        return None if status == 0 and re.search(r"^logic=proved", said, re.M) else f"{self.name}: unedited it is not proved (exit {status}): {said[-500:]}"
 
     def judged(self, status, said):
         """What the prover says of the crate, and its first complaint."""
-        first = next((line for line in said.split("\n") if "error" in line or line.startswith("note: ")), "")
+        told = [line for line in said.split("\n") if re.match(r"(?:note: )?\S+:\d+:\d+: ", line) and ("error" in line or line.startswith("note: "))]
+        first = next((line for line in told if not re.search(OTHER_SHAPE, line)), "")
         if status == 0 and re.search(r"^logic=proved", said, re.M):
             return "survived", ""
         if status == 1 and re.search(r"^logic=not-proved", said, re.M):
-            return ("other shape" if re.search(OTHER_SHAPE, first) else "refused"), first
+            return ("other shape", told[0]) if told and not first else ("refused", first)
         return ("no verdict" if status == 3 else "not compiling"), first
 
-    def alone(self, e):
+    def verdict(self, e):
         """The verdict on an edit: on the proof as it stands or, where an operator's step has another name now, with that name in the proof."""
-        said, why = self.judged(*self.put([e]))
-        step = re.match(r"(\S+?Proof\.antt):\S+ error: `((?:add|sub|mul)(-[a-z0-9-]*?)(?:-\d+)?)`", why)
+        self.restore()
+        path = os.path.join(self.room, e.file)
+        text = text_of(path)
+        with open(path, "w", encoding="utf-8") as file:
+            file.write(text[: e.start] + e.put + text[e.end :])
+        said, why = self.judged(*self.check())
+        step = re.match(r"\./(proofs/\S+?\.antt):\S+ error: .*?`(?:goal\.)?((overflow_|)(?:add|sub|mul)(-[\w-]*))`", why)
         if said == "other shape" and e.kind == "arithmetic" and step:
-            proof = try_edits.text_of(step.group(1))
-            names = [STEPS[e.put[0]] + step.group(3) + number for number in ("", "-2", "-3", "-4")]
-            word = lambda name: r"(?<![\w-])(Need-)?" + re.escape(name) + r"(?![\w-])"
-            new = next((name for name in names if not re.search(word(name), proof)), names[0])
-            with open(step.group(1), "w", encoding="utf-8") as f:
-                f.write(re.sub(word(step.group(2)), lambda m: (m.group(1) or "") + new, proof))
-            said, why = self.judged(*self.room.dev(self.name)[:2])
+            proof = os.path.join(self.folder, step[1])
+            text, word = text_of(proof), lambda name: r"(?<![\w-])" + re.escape(name) + r"(?![\w-])"
+            with open(proof, "w", encoding="utf-8") as file:
+                file.write(re.sub(word(step[2]), step[3] + STEPS[e.put[0]] + step[4], text))
+            said, why = self.judged(*self.check())
         return said, why
-
-    def verdicts(self, batch):
-        """{edit: (verdict, why)}."""
-        decided, lists = {}, collections.defaultdict(list)
-        for e in batch:
-            lists[e.function].append(e)
-        lists.pop(None, None)
-        for k in range(max(map(len, lists.values()), default=0)):
-            run = [of[k] for of in lists.values() if k < len(of)]
-            decided.update(self.together(run) if len(run) > 1 else {})
-        return {e: decided.get(e) or self.alone(e) for e in batch}
 
 
 def with_code():
@@ -317,22 +313,25 @@ def main():
     describe = lambda e: f"{e.file}:{e.line}: {e.kind}: {e.old}  =>  {e.new}"
     tally, survivors, base = collections.defaultdict(collections.Counter), [], tempfile.mkdtemp()
     try:
-        room = None if given.list else try_edits.Room(base)
-        inner = None if given.list else try_edits.folder_name(room, None)
+        for part in () if given.list else ("crates.txt", "HANDLES"):
+            if os.path.exists(os.path.join(TOP, part)):
+                shutil.copy(os.path.join(TOP, part), base)
+        if not given.list:
+            shutil.copytree(os.path.join(TOP, "crates"), os.path.join(base, "crates"), ignore=shutil.ignore_patterns("out", "must-fail", "edits", "more"))
         for crate in crates:
             batch = chosen(crate, types, given.each, given.seed)
             if given.list:
                 print("\n".join(map(describe, batch)))
                 continue
-            trials = Trials(room, crate, inner)
+            trials = Trials(base, crate)
             wrong = trials.unedited()
             if wrong:
                 sys.exit(wrong)
-            for e, (said, why) in trials.verdicts(batch).items():
+            for e in batch:
+                said, why = trials.verdict(e)
                 tally[crate][said] += 1
                 survivors += [e] if said == "survived" else []
                 print(f"{said}: {describe(e)}" + (f"\n    {why[:300]}" if given.verbose and why else ""), flush=True)
-            trials.done()
     finally:
         shutil.rmtree(base, ignore_errors=True)
     if given.list:
