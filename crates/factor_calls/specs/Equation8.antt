@@ -1,5 +1,5 @@
 -- Equation 8 of arXiv 0807.4423 with its denominator: multiplier i is tr(Vᵀ·Eᵢᵢ·Q·V) / tr(Vᵀ·Eᵢᵢ·Eᵢᵢ·V), Q the whole table, V the factor, Eᵢᵢ all
--- zeros but a 1 at (i, i). So above the line row i of Q-as-V times row i of V, below it row i of V times itself. Definitions only.
+-- zeros but a 1 at (i, i). So above the line row i of Q·V times row i of V, below it row i of V times itself. Definitions only.
 use Rattle.std.specs.Prelude.{ℕ, Bool, true, false, List, Float}
 use Rattle.laws.specs.Lists.{tabulate}
 use Rattle.laws.specs.Rows.{row_of}
