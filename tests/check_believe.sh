@@ -82,7 +82,8 @@ fail() { echo "$1" >&2; exit 1; }
 names() { "$away/tools/believe" --names "$1" | sed 's/.*: //; s/, /\n/g' | LC_ALL=C sort | tr '\n' ' '; }
 [ "$(names small)" = "Pair Small limit most small ◌at_most◌ " ] || fail "small: $(names small)"
 [ "$(names good)" = "Pair Small good limit most ◌at_most◌ " ] || fail "good: $(names good)"
-"$away/tools/believe" small | grep -qF '    ensures { Small p result }' || fail "a clause is lost"
+"$away/tools/believe" small >"$away/said"
+grep -qF "    ensures { Small p result }" "$away/said" || fail "a clause is lost"
 "$away/tools/believe" good >"$away/said"
 [ "$(grep -c '^-- ====' "$away/said")" = 2 ] || fail "not by sections"
 grep -q '^-- a theorem$' "$away/said" || fail "a comment is lost"
