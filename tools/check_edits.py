@@ -19,7 +19,7 @@ TOP = os.path.dirname(os.path.dirname(os.path.abspath(__file__)))
 LOGS = {"must-fail": "target/log/ci.txt", "edits": "target/edits/edits.log", "more": "target/edits/more.log"}
 # The prover's words of a goal that isn't reached, by what was tried on it.
 FACTS = {
-    "two sides of an equation or two types differ": r"the two (?:types|sides|indices)|≟|expected type|does not have the type|the types differ|is not the type",
+    "two sides of an equation or two types differ": r"the two (?:types|sides|indices)|one side reads|≟|expected type|does not have the type|the types differ|is not the type",
     "no arithmetic proof": r"`omega`|`simp`|`ring`",
     "no proof found": r"`search`: no proof|`cc`|no proof of|`grind`",
     "a rewriting that leaves something to prove": r"give a proof of that as the last argument|write the equation.s arguments|`rw`",
@@ -30,7 +30,7 @@ PLACES = [
     ("what the function promises", r"`(?:returns|ensures|\S*-spec)\S*`|it is not proved that what the function ensures"),
     ("an invariant or a measure of a loop", r"`loop\S*`"),
     ("what a called function asks", r"`\S*-requires\S*`|it is not proved that what `\S+` requires"),
-    ("that a number or a part of a slice fits", r"`(?:add|sub|mul|div|rem|cast|index|part|neg|narrow|slice)\S*`"),
+    ("that a number or a part of a slice fits", r"`(?:overflow|bounds|add|sub|mul|div|rem|cast|index|part|neg|narrow|slice)\S*`|it is not proved that (?!what)"),
     ("a lemma or a theorem", r""),
 ]
 
