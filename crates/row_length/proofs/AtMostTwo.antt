@@ -18,10 +18,7 @@ use Rattle.laws.proofs.Made.{below_or_not}
 use Rattle.ieee.specs.Floats.{bits_of, double_of}
 use Rattle.ieee.specs.Scale.{in_units, units_of_bits}
 use Rattle.row_length.specs.Length.{AtMostTwo}
-
--- the bits of 2.0
-abbrev pub two_bits : ℕ
-two_bits = 0x4000_0000_0000_0000
+pub use Rattle.row_length.proofs.TwoBits.{two_bits}
 
 -- ---- in units
 

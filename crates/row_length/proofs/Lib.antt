@@ -7,4 +7,5 @@ pub mod Rows
 pub mod Sweep
 pub mod Theorem
 pub mod OfTable
+pub mod TwoBits
 pub mod AtMostTwo
