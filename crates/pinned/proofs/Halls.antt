@@ -268,10 +268,9 @@ module _ (n : ℕ) (h : Table) (c : ℕ → ℤ) (states : List ℕ) where
         total_mono n _ (λ i. hd n states i (nat_abs (c i))) (λ i b. held_le i (c i)),
       )
 
-  -- the theorem: the reduced magnitude four times, and the constant, are within four times the full one
-  pub reduce_magnitude : InRange n h → Symmetric n (value_at h)
-      → 4 * hall_magnitude (length (free_of n states)) (free_table n h states) (free_cost n h c states) + nat_abs (held_cost n h c states) ≤ 4 * hall_magnitude n h c
-  reduce_magnitude r sy =
+  magnitude_left : InRange n h → Symmetric n (value_at h)
+      → nat_abs (held_cost n h c states) + 4 * hall_magnitude (length (free_of n states)) (free_table n h states) (free_cost n h c states) ≤ 4 * hall_magnitude n h c
+  magnitude_left r sy =
       omega (
         arith,
         table_le,
@@ -282,6 +281,11 @@ module _ (n : ℕ) (h : Table) (c : ℕ → ℤ) (states : List ℕ) where
         square_le r,
         total_parted n states (λ i. nat_abs (c i)),
       )
+
+  -- the theorem: the reduced magnitude four times, and the constant, are within four times the full one
+  pub reduce_magnitude : InRange n h → Symmetric n (value_at h)
+      → 4 * hall_magnitude (length (free_of n states)) (free_table n h states) (free_cost n h c states) + nat_abs (held_cost n h c states) ≤ 4 * hall_magnitude n h c
+  reduce_magnitude r sy = omega (arith, magnitude_left r sy)
 
 -- ---- the theorem: the reduced (H, c) is accepted within the same limits
 
@@ -308,5 +312,5 @@ module _ {most capacity limit n : ℕ} {h : Table} {c : ℕ → ℤ} (ok : Hall 
         mirrored = places_mirrored (kept_in h (free_of n states)) (value_in h (free_of n states)) (length (free_of n states))
             (λ i j a b e. stored_mirror ok.mirrored (elem (free_of n states) i) (elem (free_of n states) j) e)
             (record { mirror = λ i j a b. sy.mirror _ _ ((free_map n states).below i a) ((free_map n states).below j b) });
-        magnitude = omega (arith, reduce_magnitude n h c states ok.in_range sy, ok.magnitude);
+        magnitude = omega (arith, magnitude_left n h c states ok.in_range sy, ok.magnitude);
       }

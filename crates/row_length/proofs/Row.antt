@@ -106,18 +106,27 @@ pub record Done (row : List Float) : Type 0 where
   pub held : (j : ℕ) → j < length row → T (fits binary64 (at row j))
   pub in_reach : (j : ℕ) → j < length row → T (finite (at row j))
 
-module _ (Q : ℕ) (fine : Q ≤ 2 ^ 1200 * 2 ^ 1074) (g : List Float) (all : (j : ℕ) → j < length g → Entry Q (at g j)) (short : length g ≤ most_rank) (w : T (wrote (sqrt_of (squared_norm g)))) where
-  n : NormOf (squared_norm g) (total (length g) (square_at g))
+-- what the guard gives: the norm isn't 0, and its root isn't small
+module _ (Q : ℕ) (fine : Q ≤ 2 ^ 1200 * 2 ^ 1074) (g : List Float) (all : (j : ℕ) → j < length g → Entry Q (at g j)) (short : length g ≤ most_rank) (given : T (wrote (sqrt_of (squared_norm g)))) where
+  some_norm : 0 < (norm_near Q fine g all short).r
+  some_norm =
+      let n = norm_near Q fine g all short in
+      ⊎_elim (λ e. absurd (none (squared_norm g) (subst (λ (r : ℕ). HasValue (squared_norm g) false r (2 ^ 1074)) e n.worth.is) given)) (λ h. h) (eq-zero-or-pos n.r)
+
+  large_root : 2 ^ 900 ≤ (root_near (norm_fits g) (norm_near Q fine g all short).worth some_norm (norm_near Q fine g all short).low).N
+  large_root =
+      let n = norm_near Q fine g all short in
+      let m = root_near (norm_fits g) n.worth some_norm n.low in
+      guarded (sqrt_of (squared_norm g)) m.N m.worth.is m.some given
+
+-- from these two alone
+module _ (Q : ℕ) (fine : Q ≤ 2 ^ 1200 * 2 ^ 1074) (g : List Float) (all : (j : ℕ) → j < length g → Entry Q (at g j)) (short : length g ≤ most_rank)
+    (some : 0 < (norm_near Q fine g all short).r) (large : 2 ^ 900 ≤ (root_near (norm_fits g) (norm_near Q fine g all short).worth some (norm_near Q fine g all short).low).N) where
+  abbrev n : NormOf (squared_norm g) (total (length g) (square_at g))
   n = norm_near Q fine g all short
 
-  some : 0 < n.r
-  some = ⊎_elim (λ e. absurd (none (squared_norm g) (subst (λ (r : ℕ). HasValue (squared_norm g) false r (2 ^ 1074)) e n.worth.is) w)) (λ h. h) (eq-zero-or-pos n.r)
-
-  m : RootOf (sqrt_of (squared_norm g)) n.r
+  abbrev m : RootOf (sqrt_of (squared_norm g)) n.r
   m = root_near (norm_fits g) n.worth some n.low
-
-  large : 2 ^ 900 ≤ m.N
-  large = guarded (sqrt_of (squared_norm g)) m.N m.worth.is m.some w
 
   d : Quotient (one64 /ᶠ sqrt_of (squared_norm g)) (2 ^ 1074) m.N
   d = div_near worth_one m.worth m.some (le_trans (lit≤ tt) (mul-le-mul_left (2 ^ 1000) large))
@@ -166,8 +175,8 @@ module _ (Q : ℕ) (fine : Q ≤ 2 ^ 1200 * 2 ^ 1074) (g : List Float) (all : (j
         (chain (2 ^ 1074) n.r (total (length g) (square_at g)) m.N d.r (length g) (λ j. units_of (at g j)) (λ j. units_of (at g j *ᶠ inv)) given))
 
     -- an element is at most 2
-    pub row_low : (j : ℕ) → j < length g → AtMost (2 * 2 ^ 1074) (at (exact_row g (one64 /ᶠ sqrt_of (squared_norm g)) row) j)
-    row_low j h =
+    element_low : (j : ℕ) → j < length g → AtMost (2 * 2 ^ 1074) (at (exact_row g (one64 /ᶠ sqrt_of (squared_norm g)) row) j)
+    element_low j h =
         let made = exact_row g (one64 /ᶠ sqrt_of (squared_norm g)) row in
         let one : square_at made j ≤ total (length made) (square_at made) = total_at (length made) j (square_at made) (rw new_length h) in
         let worth : Worth (at made j) (unlike (all j h).sign false) (p j h).r = subst (λ (x : Float). Worth x (unlike (all j h).sign false) (p j h).r) (sym (new_at j h)) (p j h).worth in
@@ -179,9 +188,18 @@ module _ (Q : ℕ) (fine : Q ≤ 2 ^ 1200 * 2 ^ 1074) (g : List Float) (all : (j
             let twice : z ≤ 2 * (u * u) = le_of_mul-le-mul_left {k = 2 ^ 40} (omega arith) (lit< tt) in
             omega (arith, twice, mul-pos p p)
 
-    pub row_done : Done (exact_row g (one64 /ᶠ sqrt_of (squared_norm g)) row)
-    row_done = record {
+    all_done : Done (exact_row g (one64 /ᶠ sqrt_of (squared_norm g)) row)
+    all_done = record {
       unit = row_unit;
       held = λ j h. let k : j < length g = rw new_length at h in subst (λ (x : Float). T (fits binary64 x)) (sym (new_at j k)) (mul-fits binary64 (at g j) (one64 /ᶠ sqrt_of (squared_norm g)));
-      in_reach = λ j h. let k : j < length g = rw new_length at h in is_finite (row_low j k).worth;
+      in_reach = λ j h. let k : j < length g = rw new_length at h in is_finite (element_low j k).worth;
     }
+
+module _ (Q : ℕ) (fine : Q ≤ 2 ^ 1200 * 2 ^ 1074) (g : List Float) (all : (j : ℕ) → j < length g → Entry Q (at g j)) (short : length g ≤ most_rank) (w : T (wrote (sqrt_of (squared_norm g)))) where
+  module _ (row : List Float) (same : length row ≡ length g) where
+    -- an element is at most 2
+    pub row_low : (j : ℕ) → j < length g → AtMost (2 * 2 ^ 1074) (at (exact_row g (one64 /ᶠ sqrt_of (squared_norm g)) row) j)
+    row_low = element_low Q fine g all short (some_norm Q fine g all short w) (large_root Q fine g all short w) row same
+
+    pub row_done : Done (exact_row g (one64 /ᶠ sqrt_of (squared_norm g)) row)
+    row_done = all_done Q fine g all short (some_norm Q fine g all short w) (large_root Q fine g all short w) row same

@@ -407,7 +407,9 @@ module _ (o : Settings) (factor factor' : List Float) (run : Run) (calls : List 
 
   pub seen_kept : (get_or seen k d).run.standing ≤ (get_or seen k d).run.size * (get_or seen k d).run.sweeps
   unfolding record_of
-  seen_kept = subst (λ (r : Run). r.standing ≤ r.size * r.sweeps) (sym seen_run) (standing_kept o (take (suc k) calls))
+  seen_kept =
+      subst (λ (r : Run). r.standing ≤ r.size * r.sweeps) (sym seen_run)
+      ((grown_list (plain_open o) (take (suc k) calls)).few_stay (let z = (open_none o).0 in omega (arith, z)))
 
 -- finish's result holds the total
 pub given_standing : (p : Plain) (f : FinishCall) → (finish_of p f).result.standing ≡ p.standing

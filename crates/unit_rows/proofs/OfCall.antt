@@ -372,16 +372,13 @@ ever_first k w run rows i o e = open_true run.stage (rewritten_by w run rows i) 
 
 module _ (run : Run) (t : CostTable) (k : ℕ) (factor : List Float) (number : ℕ) (run' : Run) (factor' : List Float) (call : Sweeps run t (suc k) factor number run' factor') (ok : number ≡ 0)
     (rule : run.rule ≡ CoordNoStep) (tame : Tame run factor) (same : run'.standing ≡ run.standing) where
-  none_left : length (kept (λ i. not (rewritten run t factor i)) (λ i. i) run.size) ≡ 0
-  none_left =
+  pub all_rows : (i : ℕ) → i < run.size → UnitLength (row_of run.rank factor' i)
+  all_rows i l =
       let opened_then = open_run_lem run t (length factor) (sym call.numbered ∙ ok) in
       let grew = first_left k (call_work t) run (take (used run) factor) opened_then in
       let ended_so = ap (λ (r : Run). r.standing) (call.accepted ok).0 in
       let count = once_counted (call_work t) run (take (used run) factor) rule in
-      omega (arith, grew, ended_so, same, count)
-
-  pub all_rows : (i : ℕ) → i < run.size → UnitLength (row_of run.rank factor' i)
-  all_rows i l =
+      let none_left : length (kept (λ j. not (rewritten run t factor j)) (λ j. j) run.size) ≡ 0 = omega (arith, grew, ended_so, same, count) in
       (call_lengths run t (suc k) factor number run' factor' call ok rule tame).rewritten_rows i l
-      (ever_first k (call_work t) run (take (used run) factor) i (open_run_lem run t (length factor) (sym call.numbered ∙ ok))
+      (ever_first k (call_work t) run (take (used run) factor) i opened_then
       (not_not (rewritten run t factor i) (none_kept (λ j. not (rewritten run t factor j)) run.size i none_left l)))
