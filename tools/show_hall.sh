@@ -47,7 +47,7 @@ build() {
     local total
     total=$(crates_needed)
     echo "The program wagonplan isn't built yet. Its $total crates are proved now, in order, as far as that isn't kept, and it is built from them. This is done"
-    echo "once, and takes MINUTES minutes on four processors that have nothing else to do. Then $hall is solved."
+    echo "once, and takes about 12 minutes on two processors beside other work. Then $hall is solved."
     if ! tools/program.sh --show 2>&1 >/dev/null | progress "$total"; then
         tail -n 20 "$log"
         exit 2
