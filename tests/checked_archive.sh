@@ -4,9 +4,9 @@
 # its compiler is a script that adds these. (bin/rt finds the kit by its own place, so it and what it reads there are copied.)
 set -eu
 cd "$(dirname "$0")/.."
-kit=$(dirname "$(rt doc)") links=$PWD/target/fuzz/kit bin=toolchain/bin
-rm -rf "$links"
-mkdir -p "$links/$bin" "$links/bin" target/log
+kit=$(dirname "$(rt doc)") links=$(mktemp -d) bin=toolchain/bin
+trap 'rm -rf "$links"' EXIT # outside the tree, in which rt refuses links
+mkdir -p "$links/$bin" "$links/bin" target/log target/fuzz
 cp "$kit/bin/rt" "$kit/bin/rtlib.py" "$links/bin/"
 cat >"$links/$bin/clang" <<SCRIPT
 #!/usr/bin/env bash
