@@ -22,9 +22,7 @@ pub fn put_bytes(out: &mut [u8], at: usize, bytes: &[u8], count: usize)
     requires { (at + count ≤ length out.old) × (count ≤ length bytes.now) }
     ensures { out.new ≡ put out.old at (take count bytes.now) }
 {
-    let mut i = 0;
-    while i < count {
+    for i in 0..count {
         out[at + i] = bytes[i];
-        i += 1;
     }
 }

@@ -17,12 +17,10 @@ use tables::check::wide;
 fn names(list: &[u16], i: usize) -> bool
     ensures { result ≡ named list.now i }
 {
-    let mut k = 0;
-    while k < list.len() {
+    for k in 0..list.len() {
         if wide(list[k]) == i {
             return true;
         }
-        k += 1;
     }
     false
 }
@@ -56,10 +54,8 @@ fn hold(n: usize, pinned: &[u16], whole: bool, list: &[u16], b: &[u8], states: &
     requires { (n ≤ length b.now) × (n ≤ length states.old) }
     ensures { states.new ≡ over (held n (moved_by pinned.now whole list.now) b.now) states.old }
 {
-    let mut i = 0;
-    while i < n {
+    for i in 0..n {
         states[i] = state_of(pinned, whole, list, b, i);
-        i += 1;
     }
 }
 
@@ -120,9 +116,8 @@ fn search_blocks(
         × (falls.new ≡ over (tabulate (block_fall n (table_of count rows.now cols.now values.now) (elem_z c.now) width (block_moves pinned.now sizes.now wagons.now) b.old) (length sizes.now))
         falls.old) }
 {
-    let mut k = 0;
     let mut at = 0;
-    while k < sizes.len() {
+    for k in 0..sizes.len() {
         let end = at + wide(sizes[k]);
         falls[k] = search_moving(
             n,
@@ -139,7 +134,6 @@ fn search_blocks(
             workspace,
         );
         at = end;
-        k += 1;
     }
 }
 

@@ -16,12 +16,10 @@ pub fn any_above(count: usize, bytes: &[u8]) -> bool
     requires { count ≤ length bytes.now }
     ensures { result ≡ above_one count bytes.now }
 {
-    let mut i = 0;
-    while i < count {
+    for i in 0..count {
         if 1 < bytes[i] {
             return true;
         }
-        i += 1;
     }
     false
 }
@@ -53,15 +51,13 @@ fn bad_block(n: usize, sizes: &[u16], wagons: &[u16]) -> bool
     requires { (n ≤ most_wagons) × (total (length sizes.now) (elem sizes.now) ≤ length wagons.now) }
     ensures { result ≡ bad_block n sizes.now wagons.now }
 {
-    let mut k = 0;
     let mut at = 0;
-    while k < sizes.len() {
+    for k in 0..sizes.len() {
         let end = at + wide(sizes[k]);
         if bad_list(n, &wagons[at..end]) {
             return true;
         }
         at = end;
-        k += 1;
     }
     false
 }
@@ -142,10 +138,8 @@ fn wagons_named(sizes: &[u16]) -> usize
     ensures { result ≡ total (length sizes.now) (elem sizes.now) }
 {
     let mut sum = 0;
-    let mut k = 0;
-    while k < sizes.len() {
+    for k in 0..sizes.len() {
         sum += block_size(sizes[k]);
-        k += 1;
     }
     sum
 }

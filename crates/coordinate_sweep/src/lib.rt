@@ -43,10 +43,8 @@ fn set_exact(row: &mut [f64], g: &[f64], inv: f64)
     requires { length row.old ≡ length g.now }
     ensures { row.new ≡ exact_row g.now inv row.old }
 {
-    let mut j = 0;
-    while j < row.len() {
+    for j in 0..row.len() {
         row[j] = g[j] * inv;
-        j += 1;
     }
 }
 
@@ -55,10 +53,8 @@ fn set_momentum(row: &mut [f64], g: &[f64], inv: f64, beta: f64)
     requires { length row.old ≡ length g.now }
     ensures { row.new ≡ momentum_row g.now inv beta row.old }
 {
-    let mut j = 0;
-    while j < row.len() {
+    for j in 0..row.len() {
         row[j] = (1.0 + beta) * (g[j] * inv) - beta * row[j];
-        j += 1;
     }
 }
 

@@ -115,10 +115,8 @@ fn meets(cols: &[u16], i: u16) -> bool
     ensures { result ≡ any_below (length cols.now) (λ e. eqb (get_or cols.now e 0) i) }
 {
     let mut found = false;
-    let mut e = 0;
-    while e < cols.len() {
+    for e in 0..cols.len() {
         found = found_by(found, cols[e], i);
-        e += 1;
     }
     found
 }

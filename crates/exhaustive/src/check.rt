@@ -54,10 +54,8 @@ fn costs_there(c: &[i64], there: &mut [i64; MOST_WAGONS])
     ensures long { most_wagons ≡ length there.new }
     ensures by_index { (i : ℕ) → i < most_wagons → elem_z there.new i ≡ elem_z c.now i }
 {
-    let mut i = 0;
-    while i < MOST_WAGONS {
+    for i in 0..MOST_WAGONS {
         there[i] = cost_at(c, i);
-        i += 1;
     }
 }
 

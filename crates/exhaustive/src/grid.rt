@@ -28,12 +28,10 @@ pub fn lay_out(count: usize, rows: &[u16], cols: &[u16], values: &[i64], grid: &
         × (magnitude_of (table_of count rows.now cols.now values.now) ≤ most_magnitude) × (grid.old ≡ replicate (most_walked * most_walked) (pos 0)) }
     ensures { LaidOut (table_of count rows.now cols.now values.now) grid.new }
 {
-    let mut k = 0;
-    while k < count {
+    for k in 0..count {
         let i = wide(rows[k]);
         let j = wide(cols[k]);
         add_at(i, j, values[k], grid);
-        k += 1;
     }
 }
 
@@ -52,10 +50,8 @@ pub fn start_fields(n: usize, grid: &[i64; PLACES], c: &[i64], fields: &mut [i64
         × (most_walked ≡ length fields.old) }
     ensures { Starts n grid.now c.now fields.new }
 {
-    let mut j = 0;
-    while j < n {
+    for j in 0..n {
         fields[j] = start_field(j, grid, c);
-        j += 1;
     }
 }
 
@@ -78,9 +74,7 @@ pub fn raise(
     requires { Raisable j fields.now grid.now × (most_walked ≡ length up.old) }
     ensures { Raised j fields.now grid.now up.new }
 {
-    let mut i = 0;
-    while i < j {
+    for i in 0..j {
         up[i] = raised_field(i, j, fields, grid);
-        i += 1;
     }
 }

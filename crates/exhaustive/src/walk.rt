@@ -81,11 +81,9 @@ fn put_digits(n: usize, k: u64, b: &mut [u8])
     ensures { b.new ≡ over (digits_of n k) b.old }
 {
     let mut x = k;
-    let mut i = 0;
-    while i < n {
+    for i in 0..n {
         b[i] = (x % 2) as u8;
         x = x / 2;
-        i += 1;
     }
 }
 

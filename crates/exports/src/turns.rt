@@ -62,11 +62,9 @@ fn runs_in(run_count: usize, words: &[u64]) -> [Run; MOST_RUNS]
     ensures { result ≡ runs_in run_count words.now }
 {
     let mut runs = [no_run(); MOST_RUNS];
-    let mut i: usize = 0;
-    while i < run_count {
+    for i in 0usize..run_count {
         let at = RUN_WORDS * i;
         runs[i] = run_in(&words[at..]);
-        i += 1;
     }
     runs
 }
@@ -77,14 +75,12 @@ fn halls_in(run_count: usize, sizes: &[u64]) -> [HallSize; MOST_RUNS]
     ensures { result ≡ halls_in run_count sizes.now }
 {
     let mut halls = [HallSize { n: 0, count: 0 }; MOST_RUNS];
-    let mut i: usize = 0;
-    while i < run_count {
+    for i in 0usize..run_count {
         let at = HALL_WORDS * i;
         halls[i] = HallSize {
             n: sizes[at] as usize,
             count: sizes[at + 1] as usize,
         };
-        i += 1;
     }
     halls
 }
@@ -94,13 +90,11 @@ fn put_runs(run_count: usize, runs: [Run; MOST_RUNS], words: &mut [u64])
     requires { (run_count ≤ most_runs) × (run_words * run_count ≤ length words.old) }
     ensures { (words.new ≡ over (joined (λ i. words_of (run_at runs i)) run_count) words.old) × ((i : ℕ) → i < run_count → run_in (words_of (run_at runs i)) ≡ run_at runs i) }
 {
-    let mut i: usize = 0;
-    while i < run_count {
+    for i in 0usize..run_count {
         let run = runs[i];
         let at = RUN_WORDS * i;
         let end = at + RUN_WORDS;
         put_run(run, &mut words[at..end]);
-        i += 1;
     }
 }
 

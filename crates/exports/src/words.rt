@@ -159,10 +159,8 @@ pub fn put_words(to: &mut [u64], from: &[u64])
     requires { length from.now ≤ length to.old }
     ensures { to.new ≡ over from.now to.old }
 {
-    let mut k = 0;
-    while k < from.len() {
+    for k in 0..from.len() {
         to[k] = from[k];
-        k += 1;
     }
 }
 

@@ -11,12 +11,10 @@ pub fn column(cols: &[u16], values: &[f64], factor: &[f64], rank: usize, j: usiz
     ensures { result ≡ column_of cols.now values.now factor.now rank j }
 {
     let mut sum = 0.0;
-    let mut e = 0;
-    while e < cols.len() {
+    for e in 0..cols.len() {
         let k = cols[e] as usize;
         let place = k * rank + j;
         sum = sum + values[e] * factor[place];
-        e += 1;
     }
     sum
 }

@@ -22,10 +22,8 @@ pub fn row(s: &[f64], rank: usize, i: usize) -> &[f64]
 pub fn clear(g: &mut [f64])
     ensures { g.new ≡ replicate (length g.old) zero64 }
 {
-    let mut j = 0;
-    while j < g.len() {
+    for j in 0..g.len() {
         g[j] = 0.0;
-        j += 1;
     }
 }
 
@@ -34,10 +32,8 @@ pub fn copy(out: &mut [f64], source: &[f64])
     requires { length out.old ≡ length source.now }
     ensures { out.new ≡ source.now }
 {
-    let mut j = 0;
-    while j < out.len() {
+    for j in 0..out.len() {
         out[j] = source[j];
-        j += 1;
     }
 }
 
@@ -56,10 +52,8 @@ pub fn subtract_scaled(acc: &mut [f64], weight: f64, source: &[f64])
     requires { length acc.old ≡ length source.now }
     ensures { acc.new ≡ sub_scaled weight source.now acc.old }
 {
-    let mut j = 0;
-    while j < acc.len() {
+    for j in 0..acc.len() {
         acc[j] = acc[j] - weight * source[j];
-        j += 1;
     }
 }
 
@@ -67,10 +61,8 @@ pub fn subtract_scaled(acc: &mut [f64], weight: f64, source: &[f64])
 pub fn scale(row: &mut [f64], by: f64)
     ensures { row.new ≡ scaled by row.old }
 {
-    let mut j = 0;
-    while j < row.len() {
+    for j in 0..row.len() {
         row[j] = row[j] * by;
-        j += 1;
     }
 }
 
@@ -78,10 +70,8 @@ pub fn scale(row: &mut [f64], by: f64)
 pub fn multiply_by(xs: &mut [f64], by: f64)
     ensures { xs.new ≡ multiplied by xs.old }
 {
-    let mut j = 0;
-    while j < xs.len() {
+    for j in 0..xs.len() {
         xs[j] = by * xs[j];
-        j += 1;
     }
 }
 
@@ -99,10 +89,8 @@ pub fn add(acc: &mut [f64], source: &[f64])
     requires { length acc.old ≡ length source.now }
     ensures { acc.new ≡ added source.now acc.old }
 {
-    let mut j = 0;
-    while j < acc.len() {
+    for j in 0..acc.len() {
         acc[j] = acc[j] + source[j];
-        j += 1;
     }
 }
 

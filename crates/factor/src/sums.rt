@@ -9,10 +9,8 @@ pub fn dot(a: &[f64], b: &[f64]) -> f64
     ensures { result ≡ dot_of a.now b.now }
 {
     let mut sum = 0.0;
-    let mut i = 0;
-    while i < a.len() {
+    for i in 0..a.len() {
         sum = sum + a[i] * b[i];
-        i += 1;
     }
     sum
 }
@@ -35,14 +33,12 @@ pub fn dot_four(a: &[f64], b: &[f64], c: &[f64], d: &[f64], e: &[f64]) -> Four
     let mut second = 0.0;
     let mut third = 0.0;
     let mut fourth = 0.0;
-    let mut i = 0;
-    while i < a.len() {
+    for i in 0..a.len() {
         let x = a[i];
         first = first + x * b[i];
         second = second + x * c[i];
         third = third + x * d[i];
         fourth = fourth + x * e[i];
-        i += 1;
     }
     Four {
         first: first,
@@ -57,10 +53,8 @@ pub fn sum(a: &[f64]) -> f64
     ensures { result ≡ sum_of a.now }
 {
     let mut total = 0.0;
-    let mut i = 0;
-    while i < a.len() {
+    for i in 0..a.len() {
         total = total + a[i];
-        i += 1;
     }
     total
 }
@@ -74,8 +68,7 @@ fn sum_quads(values: &[f64], quads: usize) -> f64
     let mut s1 = 0.0;
     let mut s2 = 0.0;
     let mut s3 = 0.0;
-    let mut q = 0;
-    while q < quads {
+    for q in 0..quads {
         let v0 = values[4 * q];
         let v1 = values[4 * q + 1];
         let v2 = values[4 * q + 2];
@@ -84,7 +77,6 @@ fn sum_quads(values: &[f64], quads: usize) -> f64
         s1 = s1 + v1 * v1;
         s2 = s2 + v2 * v2;
         s3 = s3 + v3 * v3;
-        q += 1;
     }
     (s0 + s1) + (s2 + s3)
 }
@@ -95,11 +87,9 @@ fn add_squares(values: &[f64], start: usize, count: usize, sum: f64) -> f64
     ensures { result ≡ add_squares_to values.now start sum count }
 {
     let mut total = sum;
-    let mut i = 0;
-    while i < count {
+    for i in 0..count {
         let v = values[start + i];
         total = total + v * v;
-        i += 1;
     }
     total
 }

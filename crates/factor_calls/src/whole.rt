@@ -70,12 +70,10 @@ fn quotient(sums: &[f64], v: &[f64]) -> f64
 {
     let mut above = 0.0;
     let mut below = 0.0;
-    let mut i = 0;
-    while i < v.len() {
+    for i in 0..v.len() {
         let x = v[i];
         above = above + sums[i] * x;
         below = below + x * x;
-        i += 1;
     }
     above / below
 }
@@ -108,11 +106,9 @@ pub fn whole_multipliers(
     requires rank_in_bounds { (m * rank ≤ length factor.now) × (length sums.old ≡ rank) × (length dual.old ≡ m) }
     ensures { dual.new ≡ multipliers_by divided (table_of count rows.now cols.now values.now) m rank factor.now }
 {
-    let mut i = 0;
     let mut from = 0;
-    while i < m {
+    for i in 0..m {
         from = whole_row(m, count, rows, cols, values, rank, factor, i, from, sums);
         dual[i] = value_of(divided, sums, row(factor, rank, i));
-        i += 1;
     }
 }

@@ -34,11 +34,9 @@ fn set_signs(signs: &[f64], rank: usize, m: usize, factor: &mut [f64])
     requires { (m ≤ length signs.now) × (length factor.old ≡ m * rank) × (1 ≤ rank) }
     ensures { factor.new ≡ with_signs rank m signs.now factor.old }
 {
-    let mut i = 0;
-    while i < m {
+    for i in 0..m {
         let at = i * rank;
         factor[at] = sign(signs[i]);
-        i += 1;
     }
 }
 

@@ -34,10 +34,8 @@ pub fn big_endian(bytes: &[u8], at: usize, width: usize) -> u64
     ensures { (result ≡ big_endian bytes.now at width) × (result < 256 ^ width) }
 {
     let mut value: u64 = 0;
-    let mut i = 0;
-    while i < width {
+    for i in 0..width {
         value = value * 256 + wide(bytes[at + i]);
-        i += 1;
     }
     value
 }

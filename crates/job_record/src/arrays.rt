@@ -19,13 +19,11 @@ pub fn read_entries(
     ensures cols_after { cols.new ≡ fill (column job.now) count cols.old }
     ensures values_after { values.new ≡ fill (value job.now) count values.old }
 {
-    let mut i = 0;
-    while i < count {
+    for i in 0..count {
         let at = entry_at(i);
         rows[i] = u8_at(job, at) as u16;
         cols[i] = u8_at(job, at + 1) as u16;
         values[i] = i64_at(job, at + 2);
-        i += 1;
     }
 }
 
@@ -34,10 +32,8 @@ pub fn read_signed(job: &[u8], at: usize, count: usize, out: &mut [i64])
     requires { (at + count * 8 ≤ length job.now) × (count ≤ length out.old) }
     ensures { out.new ≡ fill (signed_from job.now at) count out.old }
 {
-    let mut i = 0;
-    while i < count {
+    for i in 0..count {
         out[i] = i64_at(job, at + i * 8);
-        i += 1;
     }
 }
 
@@ -46,9 +42,7 @@ pub fn read_doubles(job: &[u8], at: usize, count: usize, out: &mut [f64])
     requires { (at + count * 8 ≤ length job.now) × (count ≤ length out.old) }
     ensures { out.new ≡ fill (double_from job.now at) count out.old }
 {
-    let mut i = 0;
-    while i < count {
+    for i in 0..count {
         out[i] = f64_at(job, at + i * 8);
-        i += 1;
     }
 }

@@ -72,8 +72,7 @@ fn each_pin(job: &[u8], n: usize, at: usize, count: usize, states: &mut [u8]) ->
     ensures { (result ≡ first_of (pin_number job.now n at) count) × (result ≡ 0 → states.new ≡ states_of job.now n at count) }
 {
     let mut place = at;
-    let mut k: usize = 0;
-    while k < count {
+    for k in 0usize..count {
         let pin = read_pin(job, place);
         let number = judged_pin(pin, n, states);
         if number != 0 {
@@ -81,7 +80,6 @@ fn each_pin(job: &[u8], n: usize, at: usize, count: usize, states: &mut [u8]) ->
         }
         put_pin(pin, states);
         place = pin.next;
-        k += 1;
     }
     0
 }
@@ -146,9 +144,7 @@ pub fn set_free(n: usize, states: &mut [u8])
     requires { n ≤ length states.old }
     ensures { states.new ≡ fill (λ _. free_state) n states.old }
 {
-    let mut i = 0;
-    while i < n {
+    for i in 0..n {
         states[i] = FREE;
-        i += 1;
     }
 }

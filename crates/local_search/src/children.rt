@@ -135,10 +135,8 @@ pub fn first_level(
         (level_of (length start.now) result objectives.new signs.new) result m }
 {
     let mut count = 0;
-    let mut i = 0;
-    while i < m {
+    for i in 0..m {
         count = append_child(changes, objective, start, i, objectives, signs, count);
-        i += 1;
     }
     count
 }

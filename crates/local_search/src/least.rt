@@ -44,13 +44,11 @@ pub fn keep_least(
 {
     let m = kept.len();
     let mut low = least;
-    let mut k = 0;
-    while k < count {
+    for k in 0..count {
         let at = k * m;
         let end = at + m;
         let objective = objectives[k];
         low = keep_words(low, kept, objective, &signs[at..end]);
-        k += 1;
     }
     low
 }

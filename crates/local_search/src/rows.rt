@@ -19,10 +19,8 @@ pub fn copy_row(row: &mut [u8], parent: &[u8])
     requires { length row.old ≡ length parent.now }
     ensures { row.new ≡ parent.now }
 {
-    let mut k = 0;
-    while k < parent.len() {
+    for k in 0..parent.len() {
         row[k] = parent[k];
-        k += 1;
     }
 }
 

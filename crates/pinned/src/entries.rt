@@ -42,12 +42,10 @@ pub fn free_places(n: usize, states: &[u8]) -> [u16; MOST_WAGONS]
 {
     let mut places = [HELD; MOST_WAGONS];
     let mut at = 0;
-    let mut i = 0;
-    while i < n {
+    for i in 0..n {
         let place = place_of(states, i, at);
         places[i] = place;
         at = after(at, place);
-        i += 1;
     }
     places
 }
@@ -132,12 +130,10 @@ pub fn free_entries(
 {
     let end = free_end(count, rows, cols, places);
     let mut at = 0;
-    let mut l = 0;
-    while l < end {
+    for l in 0..end {
         at = put_entry(
             rows, cols, values, places, l, to_rows, to_cols, to_values, at,
         );
-        l += 1;
     }
     at
 }

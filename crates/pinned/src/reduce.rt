@@ -47,10 +47,8 @@ pub fn free_wagons(n: usize, states: &[u8], free: &mut [u16]) -> usize
     ensures { (free.new ≡ over (free_of n states.now) free.old) × (result ≡ length (free_of n states.now)) }
 {
     let mut at = 0;
-    let mut i = 0;
-    while i < n {
+    for i in 0..n {
         at = put_free(states, i, at, free);
-        i += 1;
     }
     at
 }
@@ -72,10 +70,8 @@ fn held_choice(n: usize, states: &[u8]) -> [u8; MOST_WAGONS]
     ensures { result ≡ fill (held_byte states.now) n (replicate most_wagons 0) }
 {
     let mut held = [0u8; MOST_WAGONS];
-    let mut i = 0;
-    while i < n {
+    for i in 0..n {
         held[i] = held_byte(states, i);
-        i += 1;
     }
     held
 }
@@ -112,11 +108,9 @@ fn beside_sums(
     ensures { result ≡ tabulate (λ i. sum count (beside_term (table_of count rows.now cols.now values.now) (choice_at held.now) i)) most_wagons }
 {
     let mut sums = [0i64; MOST_WAGONS];
-    let mut l = 0;
-    while l < count {
+    for l in 0..count {
         let i = wide(rows[l]);
         sums[i] += entry_term(cols, values, held, l);
-        l += 1;
     }
     sums
 }
@@ -136,11 +130,9 @@ fn put_costs(c: &[i64], sums: &[i64; MOST_WAGONS], free: &[u16], to_c: &mut [i64
         (λ k. elem_z c.now (elem free.now k) +ℤ elem_z sums.now (elem free.now k)) (length free.now))
         to_c.old }
 {
-    let mut k = 0;
-    while k < free.len() {
+    for k in 0..free.len() {
         let i = wide(free[k]);
         to_c[k] = beside_held(c, sums, i);
-        k += 1;
     }
 }
 
@@ -159,10 +151,8 @@ fn held_cost(n: usize, c: &[i64], sums: &[i64; MOST_WAGONS], held: &[u8; MOST_WA
     ensures { result ≡ sum n (held_term (elem_z c.now) (elem_z sums.now) (choice_at held.now)) }
 {
     let mut cost: i64 = 0;
-    let mut i = 0;
-    while i < n {
+    for i in 0..n {
         cost += held_term(c, sums, held, i);
-        i += 1;
     }
     cost
 }

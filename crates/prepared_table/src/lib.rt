@@ -32,10 +32,8 @@ fn sets_aside(count: usize, rows: &[u16], cols: &[u16], values: &[i64]) -> bool
     ensures { result ≡ sets_aside (table_of count rows.now cols.now values.now) }
 {
     let mut found = false;
-    let mut e = 0;
-    while e < count {
+    for e in 0..count {
         found = found_by(found, rows[e], cols[e], values[e]);
-        e += 1;
     }
     found
 }
@@ -79,10 +77,8 @@ fn keep_indices(
     ensures out_after { out.new ≡ over (kept (stays aside (elem rows.now) (elem cols.now)) (elem source.now) count) out.old }
 {
     let mut at = 0;
-    let mut e = 0;
-    while e < count {
+    for e in 0..count {
         at = put_index(out, at, source[e], stays(aside, rows[e], cols[e]));
-        e += 1;
     }
     at
 }
@@ -113,15 +109,13 @@ fn keep_values(
     ensures { out.new ≡ over (kept (stays aside (elem rows.now) (elem cols.now)) (λ e. eighth_of (elem_z values.now e)) count) out.old }
 {
     let mut at = 0;
-    let mut e = 0;
-    while e < count {
+    for e in 0..count {
         at = put_value(
             out,
             at,
             ieee::eighth(values[e]),
             stays(aside, rows[e], cols[e]),
         );
-        e += 1;
     }
 }
 
@@ -200,10 +194,8 @@ fn set_diagonal(count: usize, rows: &[u16], cols: &[u16], values: &[i64], out: &
     ensures { out.new ≡ diagonal_of (table_of count rows.now cols.now values.now) (length out.old) }
 {
     clear(out);
-    let mut e = 0;
-    while e < count {
+    for e in 0..count {
         put_diagonal(out, rows[e], cols[e], values[e]);
-        e += 1;
     }
 }
 

@@ -25,12 +25,10 @@ fn above(count: usize, low: &[i64], high: &[i64]) -> bool
     requires { (count ≤ length low.now) × (count ≤ length high.now) }
     ensures { result ≡ above count (elem_z low.now) (elem_z high.now) }
 {
-    let mut k = 0;
-    while k < count {
+    for k in 0..count {
         if turned(low[k], high[k]) {
             return true;
         }
-        k += 1;
     }
     false
 }
@@ -65,10 +63,8 @@ fn ranges_capped(cap: u64, count: usize, low: &[i64], high: &[i64]) -> u64
     ensures { result ≡ min (total count (λ k. larger (elem_z low.now k) (elem_z high.now k))) cap }
 {
     let mut sum: u64 = 0;
-    let mut k = 0;
-    while k < count {
+    for k in 0..count {
         sum = with_range(sum, low[k], high[k], cap);
-        k += 1;
     }
     sum
 }

@@ -22,10 +22,8 @@ fn greatest(indices: &[u16]) -> u16
     ensures { result ≡ greatest indices.now }
 {
     let mut most = 0;
-    let mut j = 0;
-    while j < indices.len() {
+    for j in 0..indices.len() {
         most = greater(most, indices[j]);
-        j += 1;
     }
     most
 }
@@ -57,12 +55,10 @@ fn any_twice(variable_map: &[u16]) -> bool
 {
     let mut seen = [0u8; MOST_SIZE];
     let mut found = false;
-    let mut j = 0;
-    while j < variable_map.len() {
+    for j in 0..variable_map.len() {
         let index = wide(variable_map[j]);
         found = twice_by(found, seen[index]);
         seen[index] = 1;
-        j += 1;
     }
     found
 }

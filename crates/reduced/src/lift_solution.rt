@@ -15,10 +15,8 @@ fn clear(size: usize, lifted: &mut [f64])
     requires { size ≤ length lifted.old }
     ensures { lifted.new ≡ fill (λ _. zero64) size lifted.old }
 {
-    let mut k = 0;
-    while k < size {
+    for k in 0..size {
         lifted[k] = 0.0;
-        k += 1;
     }
 }
 
@@ -27,11 +25,9 @@ fn put_each(indices: &[u16], values: &[f64], lifted: &mut [f64])
     requires { Within (length lifted.old) indices.now × (length indices.now ≤ length values.now) }
     ensures { lifted.new ≡ put_each (elem indices.now) (at values.now) (length indices.now) lifted.old }
 {
-    let mut j = 0;
-    while j < indices.len() {
+    for j in 0..indices.len() {
         let index = wide(indices[j]);
         lifted[index] = values[j];
-        j += 1;
     }
 }
 

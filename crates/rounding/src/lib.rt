@@ -31,10 +31,8 @@ fn set_signs(factor: &[f64], direction: &[f64], rank: usize, m: usize, signs: &m
     requires { (m * rank ≤ length factor.now) × (length direction.now ≡ rank) × (length signs.old ≡ m) }
     ensures { signs.new ≡ tabulate (rounded_sign factor.now rank direction.now) m }
 {
-    let mut i = 0;
-    while i < m {
+    for i in 0..m {
         signs[i] = sign_byte(dot(row(factor, rank, i), direction));
-        i += 1;
     }
 }
 
@@ -95,10 +93,8 @@ pub fn compute_rounded_sols(
     requires { (m * rank ≤ length factor.now) × (draw_count * rank ≤ length draws.now) × (length direction.old ≡ rank) × (draw_count * m ≤ length sols.old) }
     ensures { sols.new ≡ rounded_sols factor.now rank m draws.now draw_count ++ drop (draw_count * m) sols.old }
 {
-    let mut k = 0;
-    while k < draw_count {
+    for k in 0..draw_count {
         round_at(factor, rank, m, draws, k, direction, sols);
-        k += 1;
     }
 }
 

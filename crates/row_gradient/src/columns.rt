@@ -29,12 +29,10 @@ pub fn column(
     ensures { result ≡ column_of cols.now values.now factor.now vertex rank j }
 {
     let mut sum = 0.0;
-    let mut e = 0;
-    while e < cols.len() {
+    for e in 0..cols.len() {
         let k = cols[e] as usize;
         let place = k * rank + j;
         sum = less_entry(sum, vertex, k, values[e], factor[place]);
-        e += 1;
     }
     sum
 }
@@ -46,9 +44,7 @@ pub fn put_columns(cols: &[u16], values: &[f64], factor: &[f64], vertex: usize, 
     ensures { g.new ≡ gradient_of cols.now values.now factor.now vertex (length g.old) }
 {
     let rank = g.len();
-    let mut j = 0;
-    while j < rank {
+    for j in 0..rank {
         g[j] = column(cols, values, factor, vertex, rank, j);
-        j += 1;
     }
 }

@@ -33,12 +33,10 @@ fn subtract_rest(
     requires sums_value { sums.old ≡ block_to cols.now values.now factor.now vertex 4 0 4 first }
     ensures { sums.new ≡ block_to cols.now values.now factor.now vertex 4 0 4 (length cols.now) }
 {
-    let mut e = first;
-    while e < cols.len() {
+    for e in first..cols.len() {
         let k = cols[e] as usize;
         let start = k * 4;
         subtract_entry(sums, factor, vertex, k, values[e], start);
-        e += 1;
     }
 }
 

@@ -69,14 +69,12 @@ pub fn sweeps_up_to(
         × (factor.new ≡ (sweeps_up_to k (work rows.now cols.now values.now starts.now) run factor.old).factor) }
 {
     let mut at = run;
-    let mut made: u32 = 0;
-    while made < k {
+    for made in 0u32..k {
         let stage = at.stage;
         if is_stopped(stage) {
             return at;
         }
         at = sweep_on(at, rows, cols, values, starts, factor, product, moved, dual);
-        made += 1;
     }
     at
 }

@@ -19,10 +19,8 @@ fn read_signs(start: &[u8], kept: &mut [u8])
     requires { length kept.old ≤ length start.now }
     ensures { kept.new ≡ sign_bytes (length kept.old) start.now }
 {
-    let mut i = 0;
-    while i < kept.len() {
+    for i in 0..kept.len() {
         kept[i] = sign_byte(start[i]);
-        i += 1;
     }
 }
 

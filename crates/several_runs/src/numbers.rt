@@ -46,8 +46,7 @@ fn members_number(
     let mut entries: usize = 0;
     let mut costs: usize = 0;
     let mut at: usize = 0;
-    let mut i: usize = 0;
-    while i < run_count {
+    for i in 0usize..run_count {
         let run = runs[i];
         let hall = halls[i];
         let number = number_at(
@@ -59,7 +58,6 @@ fn members_number(
         entries += hall.count;
         costs += hall.n;
         at += run.size * run.rank;
-        i += 1;
     }
     0
 }

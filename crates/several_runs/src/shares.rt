@@ -22,12 +22,10 @@ pub fn open_below(runs: [Run; MOST_RUNS], end: usize) -> u32
     ensures { result ≡ open_below (run_at runs) end }
 {
     let mut found: u32 = 0;
-    let mut i: usize = 0;
-    while i < end {
+    for i in 0usize..end {
         let run = runs[i];
         let stage = run.stage;
         found += open_one(stage);
-        i += 1;
     }
     found
 }

@@ -32,8 +32,7 @@ pub fn turn_accepted(
     let mut costs: usize = 0;
     let mut at: usize = 0;
     let mut before: u32 = 0;
-    let mut i: usize = 0;
-    while i < run_count {
+    for i in 0usize..run_count {
         let run = runs[i];
         let hall = halls[i];
         let stage = run.stage;
@@ -45,7 +44,6 @@ pub fn turn_accepted(
         entries += hall.count;
         costs += hall.n;
         at += run.size * run.rank;
-        i += 1;
     }
     next
 }

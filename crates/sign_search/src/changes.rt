@@ -16,10 +16,8 @@ pub fn clear(changes: &mut [i64], m: usize)
     requires { m ≤ length changes.old }
     ensures { changes.new ≡ fill (λ i. pos 0) m changes.old }
 {
-    let mut i = 0;
-    while i < m {
+    for i in 0..m {
         changes[i] = 0;
-        i += 1;
     }
 }
 
@@ -93,13 +91,11 @@ fn sum_rows(
 {
     let mut row = wide(rows[0]);
     let mut held: i64 = 0;
-    let mut k = 0;
-    while k < entries {
+    for k in 0..entries {
         let i = wide(rows[k]);
         held = turn_row(changes, row, i, held);
         row = i;
         held += change_term(entries, rows, cols, values, signs, k);
-        k += 1;
     }
     changes[row] += held;
 }

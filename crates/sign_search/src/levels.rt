@@ -126,8 +126,7 @@ pub fn expand_level(
         → TidyLevel words (length current.old) result objectives.new signs.new }
 {
     let mut kept = 0;
-    let mut k = 0;
-    while k < from_count {
+    for k in 0..from_count {
         let at = k * words;
         let end = at + words;
         let objective = from_objectives[k];
@@ -149,7 +148,6 @@ pub fn expand_level(
             flips,
             most,
         );
-        k += 1;
     }
     kept
 }

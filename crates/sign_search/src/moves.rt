@@ -54,11 +54,9 @@ fn turn_entries(
     requires { Turns (table_of entries rows.now cols.now values.now) current.now i from to changes.old × Lent entries rows.now cols.now values.now }
     ensures { Turned (table_of entries rows.now cols.now values.now) current.now i entries changes.old changes.new }
 {
-    let mut k = from;
-    while k < to {
+    for k in from..to {
         let j = wide(cols[k]);
         changes[j] += turned_value(values[k], sign_at(current, i), sign_at(current, j));
-        k += 1;
     }
 }
 

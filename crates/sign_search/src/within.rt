@@ -47,10 +47,8 @@ fn places_apart(current: &[u8], parent: &[u64], origin: &[u64]) -> usize
     ensures { result ≡ places_apart current.now (unpacked (length current.now) origin.now) }
 {
     let mut sum: usize = 0;
-    let mut k = 0;
-    while k < parent.len() {
+    for k in 0..parent.len() {
         sum += bits_apart(parent[k], origin[k]);
-        k += 1;
     }
     sum
 }
@@ -103,12 +101,10 @@ fn expand_back(
         (level_of (length parent.now) result objectives.new signs.new) result }
 {
     let mut kept = count;
-    let mut i = 0;
-    while i < flips {
+    for i in 0..flips {
         kept = back_child(
             changes, objective, parent, i, objectives, signs, kept, width, current, origin,
         );
-        i += 1;
     }
     kept
 }

@@ -135,14 +135,12 @@ fn put_rows(
 {
     let mut k = 0;
     let mut at = 0;
-    let mut i = 0;
-    while i < n {
+    for i in 0..n {
         let end = put_whole_row(
             n, count, rows, cols, values, c, i, k, to_rows, to_cols, to_values, at,
         );
         k = end.next;
         at = end.len;
-        i += 1;
     }
     at
 }
@@ -174,14 +172,12 @@ fn put_last_row(
     let mut k = 0;
     let mut at = len;
     let mut total: i64 = 0;
-    let mut i = 0;
-    while i < n {
+    for i in 0..n {
         let s = row_sum(count, rows, values, c, i, k);
         let sum = s.sum;
         at = put_negated(to_rows, to_cols, to_values, at, n, i, sum);
         total += sum;
         k = s.next;
-        i += 1;
     }
     LastRow { len: at, total }
 }

@@ -25,10 +25,8 @@ pub fn distance(a: &[u64], b: &[u64]) -> u64
     ensures few { result ≤ 64 * length a.now }
 {
     let mut sum: u64 = 0;
-    let mut k = 0;
-    while k < a.len() {
+    for k in 0..a.len() {
         sum += bits_apart(a[k], b[k]);
-        k += 1;
     }
     sum
 }

@@ -39,10 +39,8 @@ pub fn pack(signs: &[u8], words: &mut [u64])
     ensures words_after { words.new ≡ packed (length words.old) signs.now }
     ensures packs { Packs (length signs.now) signs.now words.new }
 {
-    let mut k = 0;
-    while k < words.len() {
+    for k in 0..words.len() {
         words[k] = pack_word(signs, k);
-        k += 1;
     }
 }
 
@@ -52,9 +50,7 @@ pub fn unpack(words: &[u64], signs: &mut [u8])
     ensures signs_after { signs.new ≡ unpacked (length signs.old) words.now }
     ensures binary { Binary signs.new }
 {
-    let mut i = 0;
-    while i < signs.len() {
+    for i in 0..signs.len() {
         signs[i] = sign_in(words, i);
-        i += 1;
     }
 }

@@ -40,9 +40,7 @@ pub fn copy(words: &mut [u64], from: &[u64])
     requires { length words.old ≡ length from.now }
     ensures { words.new ≡ from.now }
 {
-    let mut k = 0;
-    while k < from.len() {
+    for k in 0..from.len() {
         words[k] = from[k];
-        k += 1;
     }
 }

@@ -74,12 +74,10 @@ pub fn bad_order(size: usize, count: usize, rows: &[u16], cols: &[u16]) -> bool
     requires { (count ≤ length rows.now) × (count ≤ length cols.now) }
     ensures { result ≡ bad_order size (elem rows.now) (elem cols.now) count }
 {
-    let mut k = 0;
-    while k < count {
+    for k in 0..count {
         if bad_entry(size, rows, cols, k) {
             return true;
         }
-        k += 1;
     }
     false
 }
@@ -111,10 +109,8 @@ pub fn magnitudes_capped(cap: u64, count: usize, values: &[i64]) -> u64
     ensures { result ≡ min (total count (λ k. nat_abs (elem_z values.now k))) cap }
 {
     let mut sum: u64 = 0;
-    let mut k = 0;
-    while k < count {
+    for k in 0..count {
         sum = at_most(sum + abs_of(values[k]), cap);
-        k += 1;
     }
     sum
 }
