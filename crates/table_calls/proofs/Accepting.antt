@@ -1,4 +1,5 @@
 -- What holds where a call is accepted, and how its answer is put together.
+use Rattle.std.specs.Prelude.{Ok, Err}
 use mathlib.Core.Path.{◌≡◌, refl, sym, ◌∙◌, ap}
 use mathlib.Core.Bool.{Bool, true, false}
 use mathlib.Core.List.{List, [], ◌∷◌, ◌++◌}
@@ -20,7 +21,6 @@ use Rattle.laws.specs.Lists.{elem_z, over}
 use Rattle.sign_table.specs.SignTable.{rows_of, cols_of, values_of, sign_places}
 use Rattle.sign_table.specs.Walk.{Room, Wrote, Convertible}
 use Rattle.sign_table.proofs.Sizes.{sign_count, hall_convertible}
-use Rattle.table_calls.specs.declared.Entries.TheVariants as T
 use Rattle.table_calls.specs.Answer.{answered}
 use Rattle.table_calls.specs.Convert.{Converts}
 use Rattle.table_calls.specs.Numbers.{bad_signs, sign_table_number, hall_number_in, floor_number, objective_short, objective_number, decode_short, decode_number, cost_short, cost_number, room_short, sign_short, sign_number}
@@ -174,20 +174,20 @@ over_sets : {A : Type 0} (xs l : List A) → length xs ≤ length l → sets l 0
 over_sets xs l h = sets-eq xs l 0 (omega arith) ∙ ap (λ k. xs ++ drop k l) (let none : 0 + length xs ≡ length xs = omega arith in none)
 
 module _ {value : ℕ → ℕ → ℤ} {ps : List (ℕ × ℕ)} {rows cols : List ℕ} {values : List ℤ} (number : ℕ) {r : ℕ} (is : r ≡ number) where
-  pub refused_converts : (r ≡ 0 → ⊥) → Converts number value ps rows cols values (T.Refused r) rows cols values
+  pub refused_converts : (r ≡ 0 → ⊥) → Converts number value ps rows cols values (Err r) rows cols values
   refused_converts n =
       record {
-        answers = refused_is number T.Refused (T.Count (length ps)) is n;
+        answers = refused_is number Err (Ok (length ps)) is n;
         rows_are = refused_is number (λ _. rows) (over (rows_of ps) rows) is n;
         cols_are = refused_is number (λ _. cols) (over (cols_of ps) cols) is n;
         values_are = refused_is number (λ _. values) (over (values_of value ps) values) is n;
       }
 
   pub accepted_converts : {rows' cols' : List ℕ} {values' : List ℤ} {count : ℕ} → r ≡ 0 → Wrote value ps 0 rows cols values rows' cols' values' → Room 0 (length ps) rows cols values → count ≡ length ps
-      → Converts number value ps rows cols values (T.Count count) rows' cols' values'
+      → Converts number value ps rows cols values (Ok count) rows' cols' values'
   accepted_converts z w room many =
       record {
-        answers = ap T.Count many ∙ accepted_is number T.Refused (T.Count (length ps)) is z;
+        answers = ap Ok many ∙ accepted_is number Err (Ok (length ps)) is z;
         rows_are = w.rows_are ∙ over_sets (rows_of ps) rows (omega (arith, length-map ps (λ p. p.0), room.rows_room)) ∙ accepted_is number (λ _. rows) (over (rows_of ps) rows) is z;
         cols_are = w.cols_are ∙ over_sets (cols_of ps) cols (omega (arith, length-map ps (λ p. p.1), room.cols_room)) ∙ accepted_is number (λ _. cols) (over (cols_of ps) cols) is z;
         values_are = w.values_are ∙ over_sets (values_of value ps) values (omega (arith, length-map ps (λ p. value p.0 p.1), room.values_room)) ∙ accepted_is number (λ _. values) (over (values_of value ps) values) is z;

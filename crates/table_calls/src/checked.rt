@@ -3,11 +3,13 @@ ghost use Rattle.std.specs.Prelude.{◌≡◌, false, [], ◌∷◌, ◌≤◌, 
 ghost use Rattle.laws.specs.Refusal.{◌if◌, first};
 ghost use Rattle.limits.specs.Limits.{most_wagons, most_entries, most_sign_entries};
 ghost use Rattle.tables.specs.Table.{Lent};
+ghost use Rattle.refusal.specs.Number.{numbered};
 ghost use Rattle.table_calls.specs.Numbers.{sign_table_number, hall_number_in};
 
 use limits::{
     MOST_ENTRIES, MOST_MAGNITUDE, MOST_SIGN_ENTRIES, MOST_SIGN_MAGNITUDE, MOST_SIGNS, MOST_WAGONS,
 };
+use refusal::Refusal;
 use tables::check::{hall_number, table_number};
 
 // The number of a call on a sign table.
@@ -18,12 +20,12 @@ pub fn checked_table(
     rows: &[u16],
     cols: &[u16],
     values: &[i64],
-) -> u8
+) -> Result<(), Refusal>
     requires { short ≡ false → count ≤ most_sign_entries → Lent count rows.now cols.now values.now }
-    ensures { result ≡ first (31 if short ∷ sign_table_number m count rows.now cols.now values.now ∷ []) }
+    ensures { numbered result ≡ first (31 if short ∷ sign_table_number m count rows.now cols.now values.now ∷ []) }
 {
     if short {
-        return 31;
+        return Err(Refusal::Slice);
     }
     table_number(
         MOST_SIGNS,
@@ -46,12 +48,12 @@ pub fn checked_hall(
     cols: &[u16],
     values: &[i64],
     c: &[i64],
-) -> u8
+) -> Result<(), Refusal>
     requires { short ≡ false → (count ≤ most_entries → Lent count rows.now cols.now values.now) × (n ≤ most_wagons → n ≤ length c.now) }
-    ensures { result ≡ first (31 if short ∷ hall_number_in n count rows.now cols.now values.now c.now ∷ []) }
+    ensures { numbered result ≡ first (31 if short ∷ hall_number_in n count rows.now cols.now values.now c.now ∷ []) }
 {
     if short {
-        return 31;
+        return Err(Refusal::Slice);
     }
     hall_number(
         MOST_WAGONS,

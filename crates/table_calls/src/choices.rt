@@ -2,9 +2,11 @@
 ghost use Rattle.std.specs.Prelude.{◌≡◌, ◌-◌};
 ghost use Rattle.laws.specs.Lists.{fill};
 ghost use Rattle.tables.specs.Cost.{decoded_byte};
+ghost use Rattle.refusal.specs.Number.{numbered};
 ghost use Rattle.table_calls.specs.Answer.{kept_if_refused};
 ghost use Rattle.table_calls.specs.Numbers.{decode_short, decode_number};
 
+use refusal::Refusal;
 use tables::check::{bad_signs, too_short};
 use tables::objective;
 
@@ -23,27 +25,24 @@ fn decode_short(m: usize, signs: &[u8], b: &[u8]) -> bool
 }
 
 // The number of `qubo_binary_from_sign_solution`.
-fn decode_number(m: usize, signs: &[u8], b: &[u8]) -> u8
-    ensures { result ≡ decode_number m signs.now b.now }
+fn decode_number(m: usize, signs: &[u8], b: &[u8]) -> Result<(), Refusal>
+    ensures { numbered result ≡ decode_number m signs.now b.now }
 {
     if decode_short(m, signs, b) {
-        return 31;
+        return Err(Refusal::Slice);
     }
     if bad_signs(m) {
-        return 13;
+        return Err(Refusal::Size);
     }
-    0
+    Ok(())
 }
 
-// Wagon i is 1 exactly where sign i differs from the anchor's, the last. Answers 0 or the number of the refusal.
-pub fn qubo_binary_from_sign_solution(m: usize, signs: &[u8], b: &mut [u8]) -> u8
-    ensures { (result ≡ decode_number m signs.now b.old)
+// Wagon i is 1 exactly where sign i differs from the anchor's, the last.
+pub fn qubo_binary_from_sign_solution(m: usize, signs: &[u8], b: &mut [u8]) -> Result<(), Refusal>
+    ensures { (numbered result ≡ decode_number m signs.now b.old)
         × (b.new ≡ kept_if_refused (decode_number m signs.now b.old) b.old (fill (decoded_byte (m - 1) signs.now) (m - 1) b.old)) }
 {
-    let number = decode_number(m, signs, b);
-    if number != 0 {
-        return number;
-    }
+    decode_number(m, signs, b)?;
     objective::qubo_binary_from_sign_solution(m - 1, signs, b);
-    0
+    Ok(())
 }

@@ -4,12 +4,13 @@ ghost use Rattle.laws.specs.Lists.{elem_z};
 ghost use Rattle.tables.specs.Table.{table_of, value_at};
 ghost use Rattle.tables.specs.Cost.{cost_eighths, choice_at};
 ghost use Rattle.sign_table.specs.SignTable.{sign_of, sign_places};
+ghost use Rattle.refusal.specs.Number.{in_numbers};
 ghost use Rattle.table_calls.specs.Answer.{eighths_answer};
 ghost use Rattle.table_calls.specs.Convert.{Converts};
 ghost use Rattle.table_calls.specs.Numbers.{cost_short, cost_number, room_short, sign_short, sign_number};
 
 use crate::checked::checked_hall;
-use crate::{Eighths, Entries};
+use refusal::Refusal;
 use limits::{MOST_ENTRIES, MOST_WAGONS};
 use sign_table::sign_matrix::sign_matrix;
 use tables::check::{bad_size, short_table, too_short};
@@ -45,16 +46,13 @@ pub fn eval_qubo_objective(
     values: &[i64],
     c: &[i64],
     b: &[u8],
-) -> Eighths
-    ensures { result ≡ eighths_answer (cost_number n count rows.now cols.now values.now c.now b.now)
+) -> Result<i64, Refusal>
+    ensures { in_numbers result ≡ eighths_answer (cost_number n count rows.now cols.now values.now c.now b.now)
         (cost_eighths n (value_at (table_of count rows.now cols.now values.now)) (elem_z c.now) (choice_at b.now)) }
 {
     let short = cost_short(n, count, rows, cols, values, c, b);
-    let number = checked_hall(short, n, count, rows, cols, values, c);
-    if number != 0 {
-        return Eighths::Refused(number);
-    }
-    Eighths::Value(objective::eval_qubo_objective(n, count, rows, cols, values, c, b))
+    checked_hall(short, n, count, rows, cols, values, c)?;
+    Ok(objective::eval_qubo_objective(n, count, rows, cols, values, c, b))
 }
 
 // 31 of the slices for the sign table, by their lengths.
@@ -109,16 +107,13 @@ pub fn qubo_sign_table(
     to_rows: &mut [u16],
     to_cols: &mut [u16],
     to_values: &mut [i64],
-) -> Entries
+) -> Result<usize, Refusal>
     ensures { Converts (sign_number n count rows.now cols.now values.now c.now to_rows.old to_cols.old to_values.old)
         (sign_of n (table_of count rows.now cols.now values.now) (elem_z c.now))
         (sign_places n (table_of count rows.now cols.now values.now) (elem_z c.now))
-        to_rows.old to_cols.old to_values.old result to_rows.new to_cols.new to_values.new }
+        to_rows.old to_cols.old to_values.old (in_numbers result) to_rows.new to_cols.new to_values.new }
 {
     let short = sign_short(n, count, rows, cols, values, c, to_rows, to_cols, to_values);
-    let number = checked_hall(short, n, count, rows, cols, values, c);
-    if number != 0 {
-        return Entries::Refused(number);
-    }
-    Entries::Count(sign_matrix(n, count, rows, cols, values, c, to_rows, to_cols, to_values))
+    checked_hall(short, n, count, rows, cols, values, c)?;
+    Ok(sign_matrix(n, count, rows, cols, values, c, to_rows, to_cols, to_values))
 }

@@ -2,11 +2,12 @@
 ghost use Rattle.std.specs.Prelude.{◌≡◌};
 ghost use Rattle.tables.specs.Table.{table_of, sign_at, objective_of, floor_of};
 ghost use Rattle.tables.specs.Bound.{entrywise};
+ghost use Rattle.refusal.specs.Number.{in_numbers};
 ghost use Rattle.table_calls.specs.Answer.{eighths_answer, bound_answer};
 ghost use Rattle.table_calls.specs.Numbers.{floor_number, objective_short, objective_number};
 
 use crate::checked::checked_table;
-use crate::{Bound, Eighths};
+use refusal::Refusal;
 use limits::MOST_SIGN_ENTRIES;
 use tables::check::{bad_signs, short_table, too_short};
 use tables::{bound, objective};
@@ -36,29 +37,23 @@ pub fn obj_rounded(
     cols: &[u16],
     values: &[i64],
     signs: &[u8],
-) -> Eighths
-    ensures { result ≡ eighths_answer (objective_number m count rows.now cols.now values.now signs.now)
+) -> Result<i64, Refusal>
+    ensures { in_numbers result ≡ eighths_answer (objective_number m count rows.now cols.now values.now signs.now)
         (objective_of (table_of count rows.now cols.now values.now) (sign_at signs.now)) }
 {
     let short = objective_short(m, count, rows, cols, values, signs);
-    let number = checked_table(short, m, count, rows, cols, values);
-    if number != 0 {
-        return Eighths::Refused(number);
-    }
-    Eighths::Value(objective::obj_rounded(count, rows, cols, values, signs))
+    checked_table(short, m, count, rows, cols, values)?;
+    Ok(objective::obj_rounded(count, rows, cols, values, signs))
 }
 
 // The floor under every objective, in eighths.
-pub fn floor_eighths(m: usize, count: usize, rows: &[u16], cols: &[u16], values: &[i64]) -> Eighths
-    ensures { result ≡ eighths_answer (floor_number m count rows.now cols.now values.now)
+pub fn floor_eighths(m: usize, count: usize, rows: &[u16], cols: &[u16], values: &[i64]) -> Result<i64, Refusal>
+    ensures { in_numbers result ≡ eighths_answer (floor_number m count rows.now cols.now values.now)
         (floor_of (table_of count rows.now cols.now values.now)) }
 {
     let short = short_table(MOST_SIGN_ENTRIES, count, rows, cols, values);
-    let number = checked_table(short, m, count, rows, cols, values);
-    if number != 0 {
-        return Eighths::Refused(number);
-    }
-    Eighths::Value(objective::floor_eighths(count, rows, cols, values))
+    checked_table(short, m, count, rows, cols, values)?;
+    Ok(objective::floor_eighths(count, rows, cols, values))
 }
 
 // The floor in doubles, less a margin.
@@ -68,14 +63,11 @@ pub fn entrywise_lower_bound(
     rows: &[u16],
     cols: &[u16],
     values: &[i64],
-) -> Bound
-    ensures { result ≡ bound_answer (floor_number m count rows.now cols.now values.now)
+) -> Result<f64, Refusal>
+    ensures { in_numbers result ≡ bound_answer (floor_number m count rows.now cols.now values.now)
         (entrywise (table_of count rows.now cols.now values.now)) }
 {
     let short = short_table(MOST_SIGN_ENTRIES, count, rows, cols, values);
-    let number = checked_table(short, m, count, rows, cols, values);
-    if number != 0 {
-        return Bound::Refused(number);
-    }
-    Bound::Value(bound::entrywise_lower_bound(count, rows, cols, values))
+    checked_table(short, m, count, rows, cols, values)?;
+    Ok(bound::entrywise_lower_bound(count, rows, cols, values))
 }

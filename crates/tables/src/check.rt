@@ -3,11 +3,13 @@ ghost use Rattle.std.specs.Prelude.{◌≡◌, ◌+◌, ◌*◌, ◌≤◌, ◌<
 ghost use Rattle.laws.specs.Sum.{total};
 ghost use Rattle.laws.specs.Lists.{elem, elem_z};
 ghost use Rattle.laws.specs.Refusal.{short};
+ghost use Rattle.refusal.specs.Number.{numbered};
 ghost use Rattle.tables.specs.Table.{table_of, Lent};
 ghost use Rattle.tables.specs.Check.{bad_size, bad_signs, before, bad_entry, bad_order, hall_number, table_number, short_table};
 
 use crate::mirror::unmirrored;
 use limits::MOST_SIGNS;
+use refusal::Refusal;
 
 // 13: a size or an entry count out of its limits.
 pub fn bad_size(least: usize, most: usize, capacity: usize, size: usize, count: usize) -> bool
@@ -133,7 +135,7 @@ pub fn hall_too_large(limit: u64, n: usize, count: usize, values: &[i64], c: &[i
     limit < entries + 2 * costs
 }
 
-// The first number of (H, c), or 0.
+// The first number of (H, c).
 pub fn hall_number(
     most: usize,
     capacity: usize,
@@ -144,26 +146,26 @@ pub fn hall_number(
     cols: &[u16],
     values: &[i64],
     c: &[i64],
-) -> u8
+) -> Result<(), Refusal>
     requires { (count ≤ capacity → Lent count rows.now cols.now values.now) × (n ≤ most → n ≤ length c.now) × (most ≤ 65536) × (limit < 2 ^ 60) }
-    ensures { result ≡ hall_number most capacity limit n (table_of count rows.now cols.now values.now) (elem_z c.now) }
+    ensures { numbered result ≡ hall_number most capacity limit n (table_of count rows.now cols.now values.now) (elem_z c.now) }
 {
     if bad_size(0, most, capacity, n, count) {
-        return 13;
+        return Err(Refusal::Size);
     }
     if bad_order(n, count, rows, cols) {
-        return 14;
+        return Err(Refusal::Entry);
     }
     if unmirrored(count, rows, cols, values) {
-        return 15;
+        return Err(Refusal::Mirror);
     }
     if hall_too_large(limit, n, count, values, c) {
-        return 16;
+        return Err(Refusal::Magnitude);
     }
-    0
+    Ok(())
 }
 
-// The first number of a sign table given directly, or 0.
+// The first number of a sign table given directly.
 pub fn table_number(
     most: usize,
     capacity: usize,
@@ -173,23 +175,23 @@ pub fn table_number(
     rows: &[u16],
     cols: &[u16],
     values: &[i64],
-) -> u8
+) -> Result<(), Refusal>
     requires { (count ≤ capacity → Lent count rows.now cols.now values.now) × (most ≤ 65536) × (limit < 2 ^ 60) }
-    ensures { result ≡ table_number most capacity limit m (table_of count rows.now cols.now values.now) }
+    ensures { numbered result ≡ table_number most capacity limit m (table_of count rows.now cols.now values.now) }
 {
     if bad_size(1, most, capacity, m, count) {
-        return 13;
+        return Err(Refusal::Size);
     }
     if bad_order(m, count, rows, cols) {
-        return 14;
+        return Err(Refusal::Entry);
     }
     if unmirrored(count, rows, cols, values) {
-        return 15;
+        return Err(Refusal::Mirror);
     }
     if too_large(limit, count, values) {
-        return 16;
+        return Err(Refusal::Magnitude);
     }
-    0
+    Ok(())
 }
 
 // 31: a lent slice is shorter than needed, where what is needed rests on no refused number.

@@ -1,8 +1,8 @@
 -- `table_calls::halls::eval_qubo_objective` meets its contract.
+use Rattle.std.specs.Prelude.{Ok}
 use Rattle.laws.proofs.Integer.{held}
 use mathlib.Core.Path.{sym, ◌∙◌, ap}
 use native.Mathlib.Omega.{arith}
-use Rattle.table_calls.specs.declared.Eighths.TheVariants as E
 use Rattle.table_calls.proofs.Accepting.{refused_is, accepted_is, cost_lent, cost_numbered, cost_accepted}
 use Rattle.table_calls.proofs.halls.eval_qubo_objective.Goals as goal
 
@@ -17,4 +17,4 @@ eval_qubo_objective-requires c = let a = c.args in
     let (lent, linear, choice, ok) = cost_accepted a.n a.count a.rows.now a.cols.now a.values.now a.c.now a.b.now (sym (cost_numbered a.n a.count a.rows.now a.cols.now a.values.now a.c.now a.b.now c.cost_short-short.ensures c.checked_hall-number.ensures) ∙ c.if-number-ne0.false) in (lent, linear, choice, ok.in_range, omega (arith, ok.magnitude))
 
 pub returns : goal.returns
-returns c = let a = c.args in ap E.Value (held c.eval_qubo_objective.result c.eval_qubo_objective.type_inv ∙ c.eval_qubo_objective.ensures) ∙ accepted_is _ _ _ (cost_numbered a.n a.count a.rows.now a.cols.now a.values.now a.c.now a.b.now c.cost_short-short.ensures c.checked_hall-number.ensures) c.if-number-ne0.false
+returns c = let a = c.args in ap Ok (held c.eval_qubo_objective.result c.eval_qubo_objective.type_inv ∙ c.eval_qubo_objective.ensures) ∙ accepted_is _ _ _ (cost_numbered a.n a.count a.rows.now a.cols.now a.values.now a.c.now a.b.now c.cost_short-short.ensures c.checked_hall-number.ensures) c.if-number-ne0.false

@@ -1,8 +1,8 @@
 -- `table_calls::sign_tables::entrywise_lower_bound` meets its contract.
+use Rattle.std.specs.Prelude.{Ok}
 use mathlib.Core.Path.{sym, ◌∙◌, ap}
 use native.Mathlib.Omega.{arith}
 use Rattle.tables.proofs.Checks.{table_lent}
-use Rattle.table_calls.specs.declared.Bound.TheVariants as B
 use Rattle.table_calls.proofs.Accepting.{refused_is, accepted_is, floor_numbered, floor_accepted}
 use Rattle.table_calls.proofs.sign_tables.entrywise_lower_bound.Goals as goal
 
@@ -17,4 +17,4 @@ entrywise_lower_bound-requires c = let a = c.args in
     let (lent, ok) = floor_accepted a.m a.count a.rows.now a.cols.now a.values.now (sym (floor_numbered a.m a.count a.rows.now a.cols.now a.values.now c.short_table-short.ensures c.checked_table-number.ensures) ∙ c.if-number-ne0.false) in (lent, ok.magnitude, omega (arith, ok.entries))
 
 pub returns : goal.returns
-returns c = let a = c.args in ap B.Value c.entrywise_lower_bound.ensures ∙ accepted_is _ _ _ (floor_numbered a.m a.count a.rows.now a.cols.now a.values.now c.short_table-short.ensures c.checked_table-number.ensures) c.if-number-ne0.false
+returns c = let a = c.args in ap Ok c.entrywise_lower_bound.ensures ∙ accepted_is _ _ _ (floor_numbered a.m a.count a.rows.now a.cols.now a.values.now c.short_table-short.ensures c.checked_table-number.ensures) c.if-number-ne0.false
