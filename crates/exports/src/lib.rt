@@ -2,6 +2,7 @@
 // them. None has a `requires`.
 #![tactic(auto)]
 
+mod answers; // answers.rt: a value or a refusal, for C
 pub mod blocks; // blocks.rt: blocks of wagons, then the house
 pub mod choices; // choices.rt: the calls on choices in words
 pub mod exchange; // exchange.rt: another rule for a run that is open

@@ -8,9 +8,11 @@ ghost use Rattle.sign_table.specs.SignTable.{sign_of, sign_places};
 ghost use Rattle.table_calls.specs.Answer.{eighths_answer, bound_answer, kept_if_refused};
 ghost use Rattle.table_calls.specs.Convert.{Converts};
 ghost use Rattle.table_calls.specs.Numbers.{floor_number, objective_number, cost_number, sign_number, decode_number};
-ghost use Rattle.exports.specs.Answers.{eighths_by, bound_by, entries_by, Stays};
+ghost use Rattle.exports.specs.Answers.{by_number, Stays};
 
-use table_calls::{Bound, Eighths, Entries, choices, halls, sign_tables};
+use crate::answers::hand_over;
+use refusal::number_in;
+use table_calls::{choices, halls, sign_tables};
 
 #[unsafe(no_mangle)]
 pub extern "C" fn wagonplan_raw_obj_rounded(
@@ -22,18 +24,11 @@ pub extern "C" fn wagonplan_raw_obj_rounded(
     signs: &[u8],
     value: &mut i64,
 ) -> u8
-    ensures value_after { eighths_by result value.new ≡ eighths_answer (objective_number m count rows.now cols.now values.now signs.now)
+    ensures value_after { by_number result value.new ≡ eighths_answer (objective_number m count rows.now cols.now values.now signs.now)
         (objective_of (table_of count rows.now cols.now values.now) (sign_at signs.now)) }
     ensures stays { Stays result value.old value.new }
 {
-    let answer = sign_tables::obj_rounded(m, count, rows, cols, values, signs);
-    match answer {
-        Eighths::Value(v) => {
-            *value = v;
-            0
-        }
-        Eighths::Refused(k) => k,
-    }
+    hand_over(sign_tables::obj_rounded(m, count, rows, cols, values, signs), value)
 }
 
 #[unsafe(no_mangle)]
@@ -45,18 +40,11 @@ pub extern "C" fn wagonplan_raw_floor_eighths(
     values: &[i64],
     value: &mut i64,
 ) -> u8
-    ensures value_after { eighths_by result value.new ≡ eighths_answer (floor_number m count rows.now cols.now values.now)
+    ensures value_after { by_number result value.new ≡ eighths_answer (floor_number m count rows.now cols.now values.now)
         (floor_of (table_of count rows.now cols.now values.now)) }
     ensures stays { Stays result value.old value.new }
 {
-    let answer = sign_tables::floor_eighths(m, count, rows, cols, values);
-    match answer {
-        Eighths::Value(v) => {
-            *value = v;
-            0
-        }
-        Eighths::Refused(k) => k,
-    }
+    hand_over(sign_tables::floor_eighths(m, count, rows, cols, values), value)
 }
 
 #[unsafe(no_mangle)]
@@ -68,18 +56,11 @@ pub extern "C" fn wagonplan_raw_entrywise_lower_bound(
     values: &[i64],
     value: &mut f64,
 ) -> u8
-    ensures value_after { bound_by result value.new ≡ bound_answer (floor_number m count rows.now cols.now values.now)
+    ensures value_after { by_number result value.new ≡ bound_answer (floor_number m count rows.now cols.now values.now)
         (entrywise (table_of count rows.now cols.now values.now)) }
     ensures stays { Stays result value.old value.new }
 {
-    let answer = sign_tables::entrywise_lower_bound(m, count, rows, cols, values);
-    match answer {
-        Bound::Value(v) => {
-            *value = v;
-            0
-        }
-        Bound::Refused(k) => k,
-    }
+    hand_over(sign_tables::entrywise_lower_bound(m, count, rows, cols, values), value)
 }
 
 #[unsafe(no_mangle)]
@@ -93,18 +74,11 @@ pub extern "C" fn wagonplan_raw_eval_qubo_objective(
     b: &[u8],
     value: &mut i64,
 ) -> u8
-    ensures value_after { eighths_by result value.new ≡ eighths_answer (cost_number n count rows.now cols.now values.now c.now b.now)
+    ensures value_after { by_number result value.new ≡ eighths_answer (cost_number n count rows.now cols.now values.now c.now b.now)
         (cost_eighths n (value_at (table_of count rows.now cols.now values.now)) (elem_z c.now) (choice_at b.now)) }
     ensures stays { Stays result value.old value.new }
 {
-    let answer = halls::eval_qubo_objective(n, count, rows, cols, values, c, b);
-    match answer {
-        Eighths::Value(v) => {
-            *value = v;
-            0
-        }
-        Eighths::Refused(k) => k,
-    }
+    hand_over(halls::eval_qubo_objective(n, count, rows, cols, values, c, b), value)
 }
 
 #[unsafe(no_mangle)]
@@ -123,19 +97,12 @@ pub extern "C" fn wagonplan_raw_qubo_sign_table(
     ensures converts { Converts (sign_number n count rows.now cols.now values.now c.now to_rows.old to_cols.old to_values.old)
         (sign_of n (table_of count rows.now cols.now values.now) (elem_z c.now))
         (sign_places n (table_of count rows.now cols.now values.now) (elem_z c.now))
-        to_rows.old to_cols.old to_values.old (entries_by result entries.new) to_rows.new to_cols.new to_values.new }
+        to_rows.old to_cols.old to_values.old (by_number result entries.new) to_rows.new to_cols.new to_values.new }
     ensures stays { Stays result entries.old entries.new }
 {
-    let answer = halls::qubo_sign_table(
+    hand_over(halls::qubo_sign_table(
         n, count, rows, cols, values, c, to_rows, to_cols, to_values,
-    );
-    match answer {
-        Entries::Count(found) => {
-            *entries = found;
-            0
-        }
-        Entries::Refused(k) => k,
-    }
+    ), entries)
 }
 
 #[unsafe(no_mangle)]
@@ -147,5 +114,5 @@ pub extern "C" fn wagonplan_raw_qubo_binary_from_sign_solution(
     ensures { (result ≡ decode_number m signs.now b.old)
         × (b.new ≡ kept_if_refused (decode_number m signs.now b.old) b.old (fill (decoded_byte (m - 1) signs.now) (m - 1) b.old)) }
 {
-    choices::qubo_binary_from_sign_solution(m, signs, b)
+    number_in(choices::qubo_binary_from_sign_solution(m, signs, b))
 }
