@@ -1,6 +1,7 @@
 -- What the calls are worth together, from what they promise alone: accepted packings hold the signs they were given (`packed_sign`), give them back
 -- (`unpacked_back`, `same_back`) and leave unused bits 0 (`unused_zero`); and of two of them `distance` answers the number of signs in which the
 -- choices differ (`packed_distance`). Assumes nothing.
+use Rattle.std.specs.Prelude.{Result, Ok, Err}
 use mathlib.Core.Path.{◌≡◌, refl, sym, ap, ◌∙◌, subst}
 use mathlib.Core.Bool.{false}
 use mathlib.Core.List.{List}
@@ -18,8 +19,6 @@ use Rattle.sign_words.specs.Distance.{ones_apart, places_apart}
 use Rattle.sign_words.proofs.Sizes.{enough_words}
 use Rattle.sign_words.proofs.PackedLaws.{length_packed, sign_packed, tidy_packed, unpacked_packed}
 use Rattle.sign_words.proofs.DistanceLaws.{packed_apart}
-use Rattle.sign_calls.specs.declared.Apart.{Apart}
-use Rattle.sign_calls.specs.declared.Apart.TheVariants as A
 use Rattle.sign_words.specs.Size.{sign_words}
 use Rattle.sign_calls.specs.Numbers.{distance_number}
 use Rattle.sign_calls.specs.Answers.{distance_answer, PacksSigns}
@@ -80,10 +79,10 @@ module _ (m : ℕ) (signs words : List ℕ) {words' : List ℕ} (p : PacksSigns 
       (subst (λ (n : ℕ). Tidy n (packed (sign_words m) (take m signs))) given (tidy_packed (sign_words m) (take m signs)))
 
 -- two choices that `pack_signs` packed, and what `distance` answers of them: the number of signs in which they differ
-pub packed_distance : (m : ℕ) (signs other words room : List ℕ) {x y : List ℕ} {answer : Apart}
+pub packed_distance : (m : ℕ) (signs other words room : List ℕ) {x y : List ℕ} {answer : Result ℕ ℕ}
     → PacksSigns m signs words 0 x → PacksSigns m other room 0 y
     → answer ≡ distance_answer (distance_number m x y) (ones_apart (sign_words m) x y)
-    → answer ≡ A.Signs (places_apart (take m signs) (take m other))
+    → answer ≡ Ok (places_apart (take m signs) (take m other))
 packed_distance m signs other words room {x} {y} p q is =
     let long : sign_words m ≤ length x = choice_there m signs words p in
     let ok : distance_number m x y ≡ 0 = distance_passes m x y (good m signs words p) long (choice_there m other room q) in
@@ -91,4 +90,4 @@ packed_distance m signs other words room {x} {y} p q is =
     sym (first_words (sign_words m) x y long)
     ∙ rw (choice_is m signs words p, choice_is m other room q, length_packed (sign_words m) (take m signs))
     (packed_apart (sign_words m) (take m signs) (take m other) (given m signs words p ∙ sym (given m other room q)) (rw (given m signs words p) (fit m signs words p))) in
-    is ∙ sym (accepted_is _ A.Refused _ refl ok) ∙ ap A.Signs apart
+    is ∙ sym (accepted_is _ Err _ refl ok) ∙ ap Ok apart

@@ -1,7 +1,9 @@
-// The number of each call, 0 where it is accepted. These write nothing.
+// What each call refuses, by its number. These write nothing.
 ghost use Rattle.std.specs.Prelude.{◌≡◌};
+ghost use Rattle.refusal.specs.Number.{numbered};
 ghost use Rattle.sign_calls.specs.Numbers.{distance_short, distance_number, pack_short, pack_number};
 
+use refusal::Refusal;
 use sign_words::size::sign_words;
 use tables::check::{bad_signs, too_short};
 
@@ -18,16 +20,16 @@ fn distance_short(m: usize, x: &[u64], y: &[u64]) -> bool
 }
 
 // The number of `distance`.
-pub fn distance_number(m: usize, x: &[u64], y: &[u64]) -> u8
-    ensures { result ≡ distance_number m x.now y.now }
+pub fn distance_number(m: usize, x: &[u64], y: &[u64]) -> Result<(), Refusal>
+    ensures { numbered result ≡ distance_number m x.now y.now }
 {
     if distance_short(m, x, y) {
-        return 31;
+        return Err(Refusal::Slice);
     }
     if bad_signs(m) {
-        return 13;
+        return Err(Refusal::Size);
     }
-    0
+    Ok(())
 }
 
 // 31 of `pack_signs`.
@@ -42,14 +44,14 @@ fn pack_short(m: usize, signs: &[u8], words: &[u64]) -> bool
 }
 
 // The number of `pack_signs`.
-pub fn pack_number(m: usize, signs: &[u8], words: &[u64]) -> u8
-    ensures { result ≡ pack_number m signs.now words.now }
+pub fn pack_number(m: usize, signs: &[u8], words: &[u64]) -> Result<(), Refusal>
+    ensures { numbered result ≡ pack_number m signs.now words.now }
 {
     if pack_short(m, signs, words) {
-        return 31;
+        return Err(Refusal::Slice);
     }
     if bad_signs(m) {
-        return 13;
+        return Err(Refusal::Size);
     }
-    0
+    Ok(())
 }

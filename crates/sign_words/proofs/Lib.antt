@@ -1,5 +1,6 @@
 pub mod Sizes
 pub mod Digits
+pub mod Copied
 pub mod PackedLaws
 pub mod DistanceLaws
 pub mod ApartLaws

@@ -47,6 +47,7 @@ pub fn sign_apart(a: &[u64], b: &[u64], from: usize) -> usize
 {
     let end = 64 * a.len();
     let mut i = from;
+    // A `while`: how far each turn goes on is found from the words, so that nothing is counted.
     while i < end {
         let k = i / 64;
         let r = bit_apart(a[k], b[k], i % 64);

@@ -25,9 +25,7 @@ fn pack_word(signs: &[u8], k: usize) -> u64
     ensures { result ≡ word (digit_at signs.now k) 64 }
 {
     let mut w: u64 = 0;
-    let mut j: usize = 64;
-    while 0 < j {
-        j -= 1;
+    for j in (0..64).rev() {
         w = 2 * w + sign_bit(signs, 64 * k + j);
     }
     w

@@ -35,12 +35,12 @@ pub fn flip_in(words: &mut [u64], i: usize)
     words[i / 64] = words[i / 64] ^ one_at((i % 64) as u64);
 }
 
-// Another choice, copied.
-pub fn copy(words: &mut [u64], from: &[u64])
-    requires { length words.old ≡ length from.now }
-    ensures { words.new ≡ from.now }
+// A choice, in words or in bytes, or a level's objectives, copied. A loop: the library's `copy_from_slice` asks for `memmove`, which the archive may not.
+pub fn copy<T: Copy>(to: &mut [T], from: &[T])
+    requires { length to.old ≡ length from.now }
+    ensures { to.new ≡ from.now }
 {
     for k in 0..from.len() {
-        words[k] = from[k];
+        to[k] = from[k];
     }
 }

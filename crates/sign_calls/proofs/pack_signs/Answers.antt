@@ -1,32 +1,36 @@
 -- `sign_calls::pack_signs` meets its contract. Assumes nothing.
-use mathlib.Core.Path.{sym}
+use mathlib.Core.Path.{refl, sym, ap, ◌∙◌}
+use Rattle.refusal.specs.Number.{numbered}
+use Rattle.refusal.proofs.Passed.{passed, some_number}
 use native.Mathlib.Omega.{arith}
 use lib.Seq.{length-take-le}
 use Rattle.sign_calls.proofs.Accepting.{pack_room, packs_refused, packs_accepted}
 use Rattle.sign_calls.proofs.pack_signs.Goals as goal
 
-pub returns-then-number-ne0 : goal.returns-then-number-ne0
-returns-then-number-ne0 c = packs_refused _ _ _ c.pack_number-number.ensures c.if-number-ne0.true
+pub returns-in_err-pack_number : goal.returns-in_err-pack_number
+returns-in_err-pack_number c = let a = c.args in
+    let out = ap numbered (passed c.from_residual.ensures.1) in
+    packs_refused a.m a.signs.now a.words.now (out ∙ c.in_err-pack_number.ensures) (λ z. some_number _ (sym out ∙ z))
 
 pub slice_bounds-pack-end : goal.slice_bounds-pack-end
 slice_bounds-pack-end c = let a = c.args in
-    let room = pack_room a.m a.signs.now a.words.now c.pack_number-number.ensures c.if-number-ne0.false c.sign_words-count.ensures in
+    let room = pack_room a.m a.signs.now a.words.now c.in_ok-pack_number.ensures refl c.sign_words-count.ensures in
     sym (length-take-le _ a.signs.now room.0)
 
 pub slice_bounds-pack-end-2 : goal.slice_bounds-pack-end-2
 slice_bounds-pack-end-2 c = let a = c.args in
-    (pack_room a.m a.signs.now a.words.now c.pack_number-number.ensures c.if-number-ne0.false c.sign_words-count.ensures).1
+    (pack_room a.m a.signs.now a.words.now c.in_ok-pack_number.ensures refl c.sign_words-count.ensures).1
 
 pub slice_bounds-pack-end-3 : goal.slice_bounds-pack-end-3
 slice_bounds-pack-end-3 c = let a = c.args in
-    let room = pack_room a.m a.signs.now a.words.now c.pack_number-number.ensures c.if-number-ne0.false c.sign_words-count.ensures in
+    let room = pack_room a.m a.signs.now a.words.now c.in_ok-pack_number.ensures refl c.sign_words-count.ensures in
     sym (length-take-le _ a.words.now room.1)
 
 pub pack-requires : goal.pack-requires
 pack-requires c = let a = c.args in
-    let (long, room, few, fit) = pack_room a.m a.signs.now a.words.now c.pack_number-number.ensures c.if-number-ne0.false c.sign_words-count.ensures in
+    let (long, room, few, fit) = pack_room a.m a.signs.now a.words.now c.in_ok-pack_number.ensures refl c.sign_words-count.ensures in
     rw (length-take-le _ a.signs.now long, length-take-le _ a.words.now room) (omega arith, fit)
 
 pub returns : goal.returns
 returns c = let a = c.args in
-    packs_accepted a.m a.signs.now a.words.now c.pack_number-number.ensures c.if-number-ne0.false c.sign_words-count.ensures c.pack.ensures.words_after
+    packs_accepted a.m a.signs.now a.words.now c.in_ok-pack_number.ensures refl c.sign_words-count.ensures c.pack.ensures.words_after

@@ -8,7 +8,7 @@ use Rattle.sign_words.proofs.distance.distance.Goals as goal
 
 pub loop-k-init : goal.loop-k-init
 unfolding ones_apart total
-loop-k-init c = (omega arith, omega arith, refl)
+loop-k-init c = (omega arith, refl)
 
 pub overflow_add-sum : goal.overflow_add-sum
 overflow_add-sum c = omega (arith, c.bits_apart-sum.ensures.1)
@@ -16,9 +16,9 @@ overflow_add-sum c = omega (arith, c.bits_apart-sum.ensures.1)
 pub loop-k-preserved : goal.loop-k-preserved
 unfolding ones_apart total
 loop-k-preserved c = let l = c.loop-k in
-    (omega arith, omega (arith, c.bits_apart-sum.ensures.1), rw (add-one, l.invariant.2, c.bits_apart-sum.ensures.0))
+    (omega (arith, c.bits_apart-sum.ensures.1), rw (add-one, l.invariant.1, c.bits_apart-sum.ensures.0))
 
 pub returns : goal.returns
 returns c = let l = c.loop-k in
     let all : l.k ≡ length c.args.a.now = omega arith in
-    record { value = rw all at l.invariant.2; few = omega arith }
+    record { value = rw all at l.invariant.1; few = omega arith }

@@ -1,11 +1,7 @@
-use Prim.Native.Nat.{◌*◌, ◌-◌, ◌≤◌}
+use Prim.Native.Nat.{◌*◌, ◌≤◌}
 use mathlib.Core.Path.{◌≡◌}
-use lib.ListN.{length}
 use Rattle.sign_words.specs.Distance.{ones_apart}
 use Rattle.sign_words.proofs.distance.distance.Given as goal
 
 abbrev pub invariant-loop-k : goal.invariant-loop-k
-invariant-loop-k l = (l.k ≤ length l.a) × (l.sum ≤ 64 * l.k) × (l.sum ≡ ones_apart l.k l.a l.b)
-
-abbrev pub decreases-loop-k : goal.decreases-loop-k
-decreases-loop-k l = length l.a - l.k
+invariant-loop-k l = (l.sum ≤ 64 * l.k) × (l.sum ≡ ones_apart l.k l.a l.b)

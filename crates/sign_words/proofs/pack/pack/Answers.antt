@@ -1,7 +1,7 @@
 use Prim.Native.Nat.{ℕ}
 use native.Mathlib.Omega.{arith}
 use mathlib.Core.Path.{◌≡◌, refl, sym, ◌∙◌, subst}
-use lib.ListN.{length, length-set}
+use lib.ListN.{length}
 use Rattle.laws.specs.Lists.{tabulate}
 use Rattle.laws.proofs.Made.{tabulate_next, tabulate_all}
 use Rattle.sign_words.specs.Packed.{word, digit_at, packed, Packs}
@@ -10,18 +10,12 @@ use Rattle.sign_words.proofs.pack.pack.Goals as goal
 
 pub loop-k-init : goal.loop-k-init
 unfolding tabulate
-loop-k-init c = (omega arith, refl, refl)
+loop-k-init c = refl
 
 pub loop-k-preserved : goal.loop-k-preserved
 loop-k-preserved c = let a = c.args in
-    let l = c.loop-k in (
-      omega arith,
-      simp length-set l.invariant.1,
-      rw c.pack_word.ensures (tabulate_next (λ (k : ℕ). word (digit_at a.signs.now k) 64) l.k a.words.now l.words 0 (omega arith) l.invariant.2),
-    )
-
-pub shape_of-words : goal.shape_of-words
-shape_of-words c = c.loop-k.invariant.1
+    let l = c.loop-k in
+    rw c.pack_word.ensures (tabulate_next (λ (k : ℕ). word (digit_at a.signs.now k) 64) l.k a.words.now l.words 0 (omega (arith, l.auto.words)) l.invariant)
 
 pub returns : goal.returns
 unfolding packed
@@ -29,5 +23,5 @@ returns c = let a = c.args in
     let l = c.loop-k in
     let all : l.k ≡ length a.words.now = omega arith in
     let packs : l.words ≡ packed (length a.words.now) a.signs.now =
-    rw all at l.invariant.2 ∙ tabulate_all (λ (k : ℕ). word (digit_at a.signs.now k) 64) (length a.words.now) a.words.now refl in
+    rw all at l.invariant ∙ tabulate_all (λ (k : ℕ). word (digit_at a.signs.now k) 64) (length a.words.now) a.words.now refl in
     record { words_after = packs; packs = subst (Packs (length a.signs.now) a.signs.now) (sym packs) (packed_signs (length a.words.now) a.signs.now c.requires.1) }

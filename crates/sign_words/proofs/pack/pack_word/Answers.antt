@@ -1,4 +1,4 @@
-use Prim.Native.Nat.{◌+◌, ◌*◌, ◌-◌, ◌^◌, ◌<◌}
+use Prim.Native.Nat.{◌+◌, ◌-◌, ◌*◌}
 use native.Mathlib.Omega.{arith}
 use native.Mathlib.Nat.{zero-add}
 use mathlib.Core.Path.{◌≡◌, refl, ◌∙◌}
@@ -10,33 +10,24 @@ use Rattle.sign_words.proofs.pack.pack_word.Goals as goal
 
 pub loop-j-init : goal.loop-j-init
 unfolding word
-loop-j-init c = (omega arith, refl)
+loop-j-init c = refl
 
 pub overflow_mul-w : goal.overflow_mul-w
-overflow_mul-w c =
-    let room : c.loop-j.w < 2 ^ 63 =
-    let l = c.loop-j in
-    let a = c.args in
-    from_room (digit_at a.signs.now a.k) 64 l.j l.w 63 (λ i. sign_digit_lt (get_or a.signs.now (64 * a.k + i) 0)) (omega arith) l.invariant.1 in
-    omega (arith, room)
+overflow_mul-w c = let a = c.args in
+    omega (arith, from_room (digit_at a.signs.now a.k) 64 c.loop-j.j c.loop-j.w 63 (λ i. sign_digit_lt _) (omega arith) c.loop-j.invariant)
 
 pub overflow_add-w : goal.overflow_add-w
-overflow_add-w c =
-    let room : c.loop-j.w < 2 ^ 63 =
+overflow_add-w c = let a = c.args in
     let l = c.loop-j in
-    let a = c.args in
-    from_room (digit_at a.signs.now a.k) 64 l.j l.w 63 (λ i. sign_digit_lt (get_or a.signs.now (64 * a.k + i) 0)) (omega arith) l.invariant.1 in
-    let a = c.args in
-    let l = c.loop-j in
+    let room = from_room (digit_at a.signs.now a.k) 64 l.j l.w 63 (λ i. sign_digit_lt _) (omega arith) l.invariant in
     omega (arith, room, c.sign_bit.ensures, sign_digit_lt (get_or a.signs.now (64 * a.k + (l.j - 1)) 0))
 
 pub loop-j-preserved : goal.loop-j-preserved
 loop-j-preserved c = let a = c.args in
     let l = c.loop-j in
-    (omega arith, rw c.sign_bit.ensures (from_turn (digit_at a.signs.now a.k) 64 (l.j - 1) l.j l.w (omega arith) (omega arith) l.invariant.1))
+    rw c.sign_bit.ensures (from_turn (digit_at a.signs.now a.k) 64 (l.j - 1) l.j l.w (omega arith) (omega arith) l.invariant)
 
 pub returns : goal.returns
-returns c = let l = c.loop-j in
-    let none : l.j ≡ 0 = omega arith in
+returns c = let none : c.loop-j.j ≡ 0 = omega arith in
     let a = c.args in
-    rw none at l.invariant.1 ∙ word_ext (λ i. digit_at a.signs.now a.k (0 + i)) (digit_at a.signs.now a.k) 64 (λ i h. rw (zero-add i))
+    rw none at c.loop-j.invariant ∙ word_ext (λ i. digit_at a.signs.now a.k (0 + i)) (digit_at a.signs.now a.k) 64 (λ i h. rw (zero-add i))

@@ -1,6 +1,6 @@
 use native.Mathlib.Omega.{arith}
 use mathlib.Core.Path.{◌≡◌, refl, sym, ◌∙◌, subst}
-use lib.ListN.{length, length-set}
+use lib.ListN.{length}
 use Rattle.laws.specs.Lists.{tabulate}
 use Rattle.laws.proofs.Made.{tabulate_next, tabulate_all}
 use Rattle.sign_words.specs.Packed.{sign_in, unpacked}
@@ -10,18 +10,12 @@ use Rattle.sign_words.proofs.pack.unpack.Goals as goal
 
 pub loop-i-init : goal.loop-i-init
 unfolding tabulate
-loop-i-init c = (omega arith, refl, refl)
+loop-i-init c = refl
 
 pub loop-i-preserved : goal.loop-i-preserved
 loop-i-preserved c = let a = c.args in
-    let l = c.loop-i in (
-      omega arith,
-      simp length-set l.invariant.1,
-      rw c.sign_in.ensures (tabulate_next (sign_in a.words.now) l.i a.signs.now l.signs 0 (omega arith) l.invariant.2),
-    )
-
-pub shape_of-signs : goal.shape_of-signs
-shape_of-signs c = c.loop-i.invariant.1
+    let l = c.loop-i in
+    rw c.sign_in.ensures (tabulate_next (sign_in a.words.now) l.i a.signs.now l.signs 0 (omega (arith, l.auto.signs)) l.invariant)
 
 pub returns : goal.returns
 unfolding unpacked
@@ -29,5 +23,5 @@ returns c = let a = c.args in
     let l = c.loop-i in
     let all : l.i ≡ length a.signs.now = omega arith in
     let all-out : l.signs ≡ unpacked (length a.signs.now) a.words.now =
-    rw all at l.invariant.2 ∙ tabulate_all (sign_in a.words.now) (length a.signs.now) a.signs.now refl in
+    rw all at l.invariant ∙ tabulate_all (sign_in a.words.now) (length a.signs.now) a.signs.now refl in
     record { signs_after = all-out; binary = subst Binary (sym all-out) (unpacked_binary (length a.signs.now) a.words.now) }

@@ -1,11 +1,7 @@
-use Prim.Native.Nat.{ℕ, ◌-◌, ◌≤◌, ◌<◌}
+use Prim.Native.Nat.{ℕ, ◌<◌}
 use mathlib.Core.Path.{◌≡◌}
-use lib.ListN.{length}
-use Rattle.laws.specs.Lists.{elem}
+use lib.ListN.{get_or}
 use Rattle.sign_words.proofs.words.copy.Given as goal
 
 abbrev pub invariant-loop-k : goal.invariant-loop-k
-invariant-loop-k l = (l.k ≤ length l.from) × (length l.words ≡ length l.initial.words) × ((j : ℕ) → j < l.k → elem l.words j ≡ elem l.from j)
-
-abbrev pub decreases-loop-k : goal.decreases-loop-k
-decreases-loop-k l = length l.from - l.k
+invariant-loop-k g l = (j : ℕ) (d : _) → j < l.k → get_or l.to j d ≡ get_or l.from j d
