@@ -14,10 +14,11 @@ use native.Mathlib.Omega.{arith}
 use lib.Ieee.{Float}
 use lib.ListN.{length, take, length-append}
 use lib.Seq.{length-take-le, take_all, take_at, take-nil}
+use Rattle.std.specs.Prelude.{Result}
 use Rattle.ieee.specs.Floats.{at}
 use Rattle.run_record.specs.declared.Run.{Run}
-use Rattle.run_contract.specs.declared.Finished.{Finished}
-use Rattle.run_contract.specs.Calls.{Sweeps, Finishes, finished_number, Exchanges}
+use Rattle.run_contract.specs.declared.FinishResult.{FinishResult}
+use Rattle.run_contract.specs.Calls.{Sweeps, Finishes, answer_number, Exchanges}
 use Rattle.run_contract.specs.PlainRun.{SweepCall, FinishCall, ExchangeCall, Call, sweep, finish, exchange, Seen}
 use Rattle.run_contract.specs.Chain.{Lends, kept_after, seen_of, given_of, Sized, Chain, sweeps, finishes, exchanges}
 
@@ -61,12 +62,12 @@ module _ (run : Run) (kept : List Float) {calls : List Call} {seen : List Seen} 
   sweeps_any call factor number run' factor' e h says chain = sweeps factor number run' factor' (lends_agree kept _ factor e h) says chain
 
   pub finishes_any : (call : FinishCall) (factor : List Float) (b : List ℕ) (dual : List Float) (workspace : List ℕ)
-      (answer : Finished) (b' : List ℕ) (dual' : List Float) (workspace' : List ℕ)
+      (answer : Result FinishResult ℕ) (b' : List ℕ) (dual' : List Float) (workspace' : List ℕ)
       → length factor ≡ call.factor_length → ((i : ℕ) → i < length factor → i < length kept → at factor i ≡ at kept i)
       → length b ≡ call.b_length → length dual ≡ call.dual_length → length workspace ≡ call.workspace_length
       → Finishes run call.table call.width call.draw_count call.draws factor b dual workspace answer b' dual' workspace'
       → Chain run kept calls seen
-      → Chain run kept (finish call ∷ calls) (seen_of (finished_number answer) (given_of answer call.table.n b' dual') run kept ∷ seen)
+      → Chain run kept (finish call ∷ calls) (seen_of (answer_number answer) (given_of answer call.table.n b' dual') run kept ∷ seen)
   finishes_any call factor b dual workspace answer b' dual' workspace' e h p q r says chain =
       finishes factor b dual workspace answer b' dual' workspace' (lends_agree kept _ factor e h) (sized_any call b dual workspace p q r) says chain
 

@@ -5,21 +5,21 @@ use mathlib.Core.Path.{sym, subst}
 use mathlib.Core.List.{List}
 use lib.Ieee.{Float}
 use lib.ListN.{length}
+use Rattle.std.specs.Prelude.{Result}
 use Rattle.run_record.specs.declared.Run.{Run}
 use Rattle.run_record.specs.CostTable.{CostTable}
 use Rattle.run_record.specs.Conditions.{Clause, Answered, open_clauses, sweep_clauses, finish_clauses, exchange_clauses}
 use Rattle.run_record.proofs.Answered as Numbers
-use Rattle.run_contract.specs.declared.Opened.{Opened}
-use Rattle.run_contract.specs.declared.Finished.{Finished}
-use Rattle.run_contract.specs.Calls.{Settings, Opens, opened_number, Sweeps, Finishes, finish_lengths, finished_number, Exchanges}
+use Rattle.run_contract.specs.declared.FinishResult.{FinishResult}
+use Rattle.run_contract.specs.Calls.{Settings, Opens, Sweeps, Finishes, finish_lengths, answer_number, Exchanges}
 use Rattle.run_contract.specs.PlainRun.{Plain, Call, sweep, finish, exchange, record_of, lengths_of, plain_number}
 
 -- an open's numbers with their conditions, lent so many numbers of factor
 abbrev pub open_clauses_of : Settings → ℕ → List Clause
 open_clauses_of o factor = open_clauses o.table o.rank o.rule o.number o.most o.start (length o.numbers) factor
 
-pub open_answered : {o : Settings} {factor : List Float} {answer : Opened} {factor' : List Float} → Opens o factor answer factor'
-    → Answered (opened_number answer) (open_clauses_of o (length factor))
+pub open_answered : {o : Settings} {factor : List Float} {answer : Result Run ℕ} {factor' : List Float} → Opens o factor answer factor'
+    → Answered (answer_number answer) (open_clauses_of o (length factor))
 open_answered {o} {factor} opens =
     subst (λ (k : ℕ). Answered k (open_clauses_of o (length factor))) (sym opens.numbered)
     (Numbers.open_answered o.table o.rank o.rule o.number o.most o.start (length o.numbers) (length factor))
@@ -30,8 +30,8 @@ sweep_answered {run} {t} {k} {factor} sweeps =
     subst (λ (j : ℕ). Answered j (sweep_clauses run t (length factor))) (sym sweeps.numbered) (Numbers.sweep_answered run t (length factor))
 
 pub finish_answered : {run : Run} {t : CostTable} {width draw_count : ℕ} {draws factor : List Float} {b : List ℕ} {dual : List Float} {workspace : List ℕ}
-    {answer : Finished} {b' : List ℕ} {dual' : List Float} {workspace' : List ℕ} → Finishes run t width draw_count draws factor b dual workspace answer b' dual' workspace'
-    → Answered (finished_number answer) (finish_clauses run t width draw_count (finish_lengths draws factor b dual workspace))
+    {answer : Result FinishResult ℕ} {b' : List ℕ} {dual' : List Float} {workspace' : List ℕ} → Finishes run t width draw_count draws factor b dual workspace answer b' dual' workspace'
+    → Answered (answer_number answer) (finish_clauses run t width draw_count (finish_lengths draws factor b dual workspace))
 finish_answered {run} {t} {width} {draw_count} {draws} {factor} {b} {dual} {workspace} finishes =
     let lent = finish_lengths draws factor b dual workspace in
     subst (λ (k : ℕ). Answered k (finish_clauses run t width draw_count lent)) (sym finishes.numbered) (Numbers.finish_answered run t width draw_count lent)

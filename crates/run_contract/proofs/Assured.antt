@@ -7,6 +7,7 @@ use mathlib.Core.List.{List}
 use lib.Ieee.{Float}
 use lib.ListN.{take}
 use lib.Signed.{◌≤ℤ◌}
+use Rattle.std.specs.Prelude.{Result, Ok}
 use Rattle.tables.specs.Cost.{choice_at}
 use Rattle.run_record.specs.declared.Run.{Run}
 use Rattle.run_record.specs.CostTable.{CostTable, quadratic, linear}
@@ -16,18 +17,16 @@ use Rattle.finalize.specs.Finalize.{cost_of}
 use Rattle.finalize.specs.Demand3.{Demand3}
 use Rattle.finalize.proofs.Demand3.{differ_one, differ_all}
 use Rattle.run_contract.specs.declared.FinishResult.{FinishResult}
-use Rattle.run_contract.specs.declared.Finished.{Finished}
-use Rattle.run_contract.specs.declared.Finished.TheVariants as F
 use Rattle.run_contract.specs.Calls.{used, finish_lengths, finish_result, Finishes}
 
 module _ {run : Run} {t : CostTable} {width draw_count : ℕ} {draws factor : List Float} {b : List ℕ} {dual : List Float} {workspace : List ℕ}
-    {answer : Finished} {b' : List ℕ} {dual' : List Float} {workspace' : List ℕ}
+    {answer : Result FinishResult ℕ} {b' : List ℕ} {dual' : List Float} {workspace' : List ℕ}
     (says : Finishes run t width draw_count draws factor b dual workspace answer b' dual' workspace')
     (ok : finish_number run t width draw_count (finish_lengths draws factor b dual workspace) ≡ 0) where
   abbrev result : FinishResult
   result = finish_result run t width draw_count draws (take (used run) factor)
 
-  pub finish_gives : answer ≡ F.Result result
+  pub finish_gives : answer ≡ Ok result
   finish_gives = (says.accepted (says.numbered ∙ ok)).0
 
   pub finish_under : (b'' : List ℕ) → AtMostEighths result.float_bound (cost_of t.n (quadratic t) (linear t) b'')

@@ -9,6 +9,8 @@ use lib.Seq.{length-take-le, take_all, take-take, take_at, take-append-le}
 use lib.Dec.{leb}
 use lib.Ieee.{Float, nan}
 use borrow.Author.Tests.{leb-true, leb-false}
+use Rattle.std.specs.Prelude.{Result, Ok, Err}
+use Rattle.std.specs.Result.{result_unwrap_or}
 use Rattle.laws.specs.Lists.{over}
 use Rattle.run_record.specs.declared.Run.{Run}
 use Rattle.run_record.specs.CostTable.{CostTable, quadratic, linear}
@@ -22,9 +24,7 @@ use Rattle.finalize.specs.Clauses.{Finalizes}
 use Rattle.finalize.specs.Demand3.{Demand3}
 use Rattle.finalize.proofs.Demand3.{demand3}
 use Rattle.run_contract.specs.declared.FinishResult.{FinishResult}
-use Rattle.run_contract.specs.declared.Finished.{Finished}
-use Rattle.run_contract.specs.declared.Finished.TheVariants as F
-use Rattle.run_contract.specs.Calls.{Sweeps, used, Finishes, finish_lengths, finish_result, finish_choice, finish_multipliers, exchanged, Exchanges}
+use Rattle.run_contract.specs.Calls.{Sweeps, used, answer_number, Finishes, finish_lengths, finish_result, finish_choice, finish_multipliers, exchanged, Exchanges}
 use Rattle.run_contract.specs.PlainRun.{FinishCall, Call, sweep, finish, exchange, Seen}
 use Rattle.run_contract.specs.Chain.{Lends, kept_after, Sized, Chain, ends, sweeps, finishes, exchanges}
 use Rattle.run_contract.proofs.Accepting.{HallOf, finish_accepted}
@@ -62,15 +62,6 @@ exchange_has : (run : Run) (rule : ℕ) (number : Float) (m : ℕ) → exchange_
 exchange_has run rule number zero e = (exchanged run (rule_of rule number), record { numbered = sym e; refused = λ n. absurd (n refl); accepted = λ z. refl })
 exchange_has run rule number (suc m) e = (run, record { numbered = sym e; refused = λ n. refl; accepted = λ z. absurd (omega arith) })
 
--- the result that an answer holds, or another
-abbrev pub result_or : FinishResult → Finished → FinishResult
-result_or other (F.Result x) = x
-result_or other (F.Refused number) = other
-
-abbrev Kind : Finished → ℕ
-Kind (F.Result x) = 0
-Kind (F.Refused number) = 1
-
 -- a finish has an outcome, which keeps demand 3 and the float bound below every cost
 module _ (run : Run) (t : CostTable) (width draw_count : ℕ) (draws factor : List Float) (b : List ℕ) (dual : List Float) (workspace : List ℕ) where
   abbrev v : List Float
@@ -107,10 +98,10 @@ module _ (run : Run) (t : CostTable) (width draw_count : ℕ) (draws factor : Li
   keeps_under hall b'' = bounded hall b''
 
   finish_has : (m : ℕ) → finish_number run t width draw_count (finish_lengths draws factor b dual workspace) ≡ m
-      → (answer : Finished) × (b' : List ℕ) × (dual' : List Float) × Finishes run t width draw_count draws factor b dual workspace answer b' dual' workspace
+      → (answer : Result FinishResult ℕ) × (b' : List ℕ) × (dual' : List Float) × Finishes run t width draw_count draws factor b dual workspace answer b' dual' workspace
   finish_has zero e =
       let good = finish_accepted run t width draw_count (finish_lengths draws factor b dual workspace) e in (
-        F.Result result,
+        Ok result,
         choice,
         over (finish_multipliers run t v) dual,
         record {
@@ -118,12 +109,12 @@ module _ (run : Run) (t : CostTable) (width draw_count : ℕ) (draws factor : Li
           refused = λ n. absurd (n refl);
           accepted = λ z. (refl, refl, refl);
           kept = refl;
-          demand_3 = λ x is w. subst Kept (ap (result_or result) is) (keeps_demand good.hall w);
-          bound_under = λ x is b''. subst (λ (x : FinishResult). AtMostEighths x.float_bound (cost_of t.n (quadratic t) (linear t) b'')) (ap (result_or result) is) (keeps_under good.hall b'');
+          demand_3 = λ x is w. subst Kept (ap (λ (r : Result FinishResult ℕ). result_unwrap_or r result) is) (keeps_demand good.hall w);
+          bound_under = λ x is b''. subst (λ (x : FinishResult). AtMostEighths x.float_bound (cost_of t.n (quadratic t) (linear t) b'')) (ap (λ (r : Result FinishResult ℕ). result_unwrap_or r result) is) (keeps_under good.hall b'');
         },
       )
   finish_has (suc m) e = (
-    F.Refused (suc m),
+    Err (suc m),
     b,
     dual,
     record {
@@ -131,8 +122,8 @@ module _ (run : Run) (t : CostTable) (width draw_count : ℕ) (draws factor : Li
       refused = λ n. (refl, refl, refl);
       accepted = λ z. absurd (omega arith);
       kept = refl;
-      demand_3 = λ x is w. let no : ◌≡◌ {A = ℕ} 1 0 = ap Kind is in absurd (omega arith);
-      bound_under = λ x is b''. let no : ◌≡◌ {A = ℕ} 1 0 = ap Kind is in absurd (omega arith);
+      demand_3 = λ x is w. let no : ◌≡◌ {A = ℕ} (suc m) 0 = ap answer_number is in absurd (omega arith);
+      bound_under = λ x is b''. let no : ◌≡◌ {A = ℕ} (suc m) 0 = ap answer_number is in absurd (omega arith);
     },
   )
 

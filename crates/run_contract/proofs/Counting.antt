@@ -18,6 +18,7 @@ use native.Mathlib.Omega.{arith}
 use lib.Dec.{eqb}
 use lib.Ieee.{Float, le}
 use lib.ListN.{length, get_or, take, length-append}
+use Rattle.std.specs.Prelude.{Ok}
 use Rattle.laws.specs.Lists.{only_if, kept}
 use Rattle.laws.proofs.Made.{below_or_not}
 use Rattle.ieee.specs.Floats.{tiny, zero64}
@@ -30,7 +31,6 @@ use Rattle.run_record.specs.declared.Run.{Run}
 use Rattle.run_record.specs.declared.Stage.TheVariants.{Open, Stopped}
 use Rattle.run_sweep.specs.Work.{Work, call_work}
 use Rattle.run_sweep.specs.Sweep.{State, advanced, run_after}
-use Rattle.run_contract.specs.declared.Opened.TheVariants as O
 use Rattle.run_contract.specs.Calls.{Settings, Opens, used, finish_result}
 use Rattle.run_contract.specs.Schedule.{coordinate_momentum}
 use Rattle.run_contract.specs.PlainRun.{Plain, Call, sweep, finish, exchange, plain_open, with_rule, rows_left, plain_sweeps, if_open, acted, record_of, plain_number, plain_after, FinishCall, finish_of, Seen, plain_seen, plain_trace}
@@ -396,7 +396,7 @@ run_at p [] k d l = absurd (omega arith)
 run_at p (call ∷ calls) zero d l = refl
 run_at p (call ∷ calls) (suc k) d l = run_at (plain_after p call) calls k d (omega arith)
 
-module _ (o : Settings) (factor factor' : List Float) (run : Run) (calls : List Call) (seen : List Seen) (opens : Opens o factor (O.Started run) factor')
+module _ (o : Settings) (factor factor' : List Float) (run : Run) (calls : List Call) (seen : List Seen) (opens : Opens o factor (Ok run) factor')
     (chain : Chain run (take (used run) factor') calls seen) (k : ℕ) (d : Seen) (l : k < length calls) where
   seen_run : (get_or seen k d).run ≡ record_of (plain_end (plain_open o) (take (suc k) calls))
   seen_run = ap (λ (s : List Seen). (get_or s k d).run) (plain_run o factor factor' run calls seen opens chain) ∙ run_at (plain_open o) calls k d l

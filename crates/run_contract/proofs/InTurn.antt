@@ -15,6 +15,7 @@ use lib.Dec.{eqb}
 use borrow.Author.Tests.{eqb-true}
 use lib.Ieee.{Float}
 use lib.ListN.{length, get_or, take}
+use Rattle.std.specs.Prelude.{Ok}
 use Rattle.step_rules.specs.declared.StepRule.{StepRule}
 use Rattle.step_rules.specs.Rule.{rule_of, stepped}
 use Rattle.run_record.specs.declared.Run.{Run}
@@ -22,7 +23,6 @@ use Rattle.run_record.specs.declared.Stage.{Stage}
 use Rattle.run_record.specs.declared.Stage.TheVariants.{Open, Stopped}
 use Rattle.run_sweep.specs.Work.{Work, call_work}
 use Rattle.run_sweep.specs.Sweep.{State, advanced, run_after}
-use Rattle.run_contract.specs.declared.Opened.TheVariants as O
 use Rattle.run_contract.specs.Calls.{Settings, Opens, used, open_size, open_rank, start_factor}
 use Rattle.run_contract.specs.PlainRun.{Plain, Call, sweep, finish, exchange, plain_open, swept_factor, with_rule, plain_sweeps, if_open, acted, record_of, plain_number, plain_after, Seen, plain_seen, plain_trace}
 use Rattle.run_contract.specs.Chain.{Chain}
@@ -206,7 +206,7 @@ open_factor : (o : Settings) (sweeps : List Made) → applied (plain_open o).siz
 unfolding plain_open
 open_factor o sweeps = refl
 
-pub seen_in_turn : (o : Settings) (factor factor' : List Float) (run : Run) (calls : List Call) (seen : List Seen) → Opens o factor (O.Started run) factor'
+pub seen_in_turn : (o : Settings) (factor factor' : List Float) (run : Run) (calls : List Call) (seen : List Seen) → Opens o factor (Ok run) factor'
     → Chain run (take (used run) factor') calls seen → (k : ℕ) (d : Seen) → k < length calls
     → (get_or seen k d).factor ≡ applied (open_size o) (open_rank o) (log (plain_open o) (take (suc k) calls)) (start_factor o)
 seen_in_turn o factor factor' run calls seen opens chain k d l =

@@ -11,6 +11,8 @@ use lib.Seq.{take_all, take_at}
 use lib.Dec.{eqb}
 use lib.Ieee.{Float}
 use borrow.Author.Tests.{eq-eqb, ne_eqb}
+use Rattle.std.specs.Result.{result_unwrap_or}
+use Rattle.std.specs.Prelude.{Result, Ok, Err}
 use Rattle.laws.specs.Lists.{over}
 use Rattle.run_record.specs.declared.Run.{Run}
 use Rattle.run_record.specs.declared.Stage.TheVariants.{Open, Stopped}
@@ -19,11 +21,8 @@ use Rattle.run_record.specs.Numbers.{sweep_number, finish_number}
 use Rattle.step_rules.specs.Rule.{rule_of}
 use Rattle.run_sweep.specs.Work.{Work, call_work}
 use Rattle.run_sweep.specs.Sweep.{State, sweeps_up_to, advanced, run_after}
-use Rattle.run_contract.specs.declared.Opened.{Opened}
-use Rattle.run_contract.specs.declared.Opened.TheVariants as O
-use Rattle.run_contract.specs.declared.Finished.{Finished}
-use Rattle.run_contract.specs.declared.Finished.TheVariants as F
-use Rattle.run_contract.specs.Calls.{Settings, Opens, Sweeps, used, Finishes, finish_lengths, finish_result, finish_choice, finish_multipliers, finished_number, exchanged, Exchanges}
+use Rattle.run_contract.specs.declared.FinishResult.{FinishResult}
+use Rattle.run_contract.specs.Calls.{Settings, Opens, Sweeps, used, Finishes, finish_lengths, finish_result, finish_choice, finish_multipliers, answer_number, exchanged, Exchanges}
 use Rattle.run_contract.specs.PlainRun.{Plain, SweepCall, FinishCall, ExchangeCall, Call, sweep, finish, exchange, plain_open, with_rule, swept_factor, plain_sweeps, if_open, record_of, lengths_of, plain_number, plain_after, Given, finish_of, Seen, seen_at, plain_seen, plain_trace}
 use Rattle.run_contract.specs.Chain.{Lends, kept_after, seen_of, given_of, Sized, Chain, ends, sweeps, finishes, exchanges}
 use Rattle.run_contract.proofs.Accepting.{sweep_accepted, finish_accepted}
@@ -121,13 +120,13 @@ module _ (p : Plain) (call : SweepCall) (factor : List Float) (number : ℕ) (ru
 
 -- ---- a finish call from a plain run's state
 
-module _ (p : Plain) (call : FinishCall) (factor : List Float) (b : List ℕ) (dual : List Float) (workspace : List ℕ) (answer : Finished) (b' : List ℕ) (dual' : List Float) (workspace' : List ℕ) (w : Whole p)
+module _ (p : Plain) (call : FinishCall) (factor : List Float) (b : List ℕ) (dual : List Float) (workspace : List ℕ) (answer : Result FinishResult ℕ) (b' : List ℕ) (dual' : List Float) (workspace' : List ℕ) (w : Whole p)
     (lends : Lends p.factor call.factor_length factor) (sized : Sized call b dual workspace)
     (says : Finishes (record_of p) call.table call.width call.draw_count call.draws factor b dual workspace answer b' dual' workspace') where
   lengths_lent : finish_lengths call.draws factor b dual workspace ≡ lengths_of call
   lengths_lent = rw (lends.sized, sized.b_sized, sized.dual_sized, sized.workspace_sized)
 
-  finish_number_lem : finished_number answer ≡ plain_number p (finish call)
+  finish_number_lem : answer_number answer ≡ plain_number p (finish call)
   unfolding plain_number
   finish_number_lem = says.numbered ∙ ap (finish_number (record_of p) call.table call.width call.draw_count) lengths_lent
 
@@ -140,7 +139,7 @@ module _ (p : Plain) (call : FinishCall) (factor : List Float) (b : List ℕ) (d
       }
 
   -- what an accepted finish gives is the definition at the plain run's factor
-  finish_gives : finished_number answer ≡ 0 → given_of answer call.table.n b' dual' ≡ some (finish_of p call)
+  finish_gives : answer_number answer ≡ 0 → given_of answer call.table.n b' dual' ≡ some (finish_of p call)
   unfolding finish_of record_of plain_number
   finish_gives z =
       let a = says.accepted z in
@@ -151,29 +150,29 @@ module _ (p : Plain) (call : FinishCall) (factor : List Float) (b : List ℕ) (d
       ap (take t.n) a.1 ∙ take_at _ _ _ (length_choice t.n (quadratic t) (linear t) p.rank v call.draws call.draw_count call.width) in
       let multipliers : take (suc t.n) dual' ≡ finish_multipliers (record_of p) t v =
       ap (take (suc t.n)) a.2 ∙ take_at _ _ _ (length_multipliers t.n (quadratic t) (linear t) p.rank v) in
-      ap (λ (x : Finished). given_of x t.n b' dual') a.0
+      ap (λ (x : Result FinishResult ℕ). given_of x t.n b' dual') a.0
       ∙ ap (λ (bs : List ℕ). some (record { result = (gives v).result; b = bs; dual = take (suc t.n) dual' })) bytes
       ∙ ap (λ (ds : List Float). some (record { result = (gives v).result; b = (gives v).b; dual = ds })) multipliers
       ∙ ap (λ (u : List Float). some (gives u)) (lent_factor p call.factor_length factor w lends room)
 
   -- a refused one gives nothing
-  gives_none : (x : Finished) → (finished_number x ≡ 0 → ⊥) → given_of x call.table.n b' dual' ≡ none
-  gives_none (F.Result result) n = absurd (n refl)
-  gives_none (F.Refused number) n = refl
+  gives_none : (x : Result FinishResult ℕ) → (answer_number x ≡ 0 → ⊥) → given_of x call.table.n b' dual' ≡ none
+  gives_none (Ok result) n = absurd (n refl)
+  gives_none (Err number) n = refl
 
-  finish_by : (m : ℕ) → finished_number answer ≡ m
+  finish_by : (m : ℕ) → answer_number answer ≡ m
       → (given_of answer call.table.n b' dual' ≡ cond (eqb (plain_number p (finish call)) 0) (some (finish_of p call)) none) × (p ≡ plain_after p (finish call))
   unfolding plain_after
   finish_by zero e = rw (eq-eqb _ _ (sym finish_number_lem ∙ e)) (finish_gives e, refl)
   finish_by (suc m) e =
-      let n : finished_number answer ≡ 0 → ⊥ = (λ z. omega arith) in
+      let n : answer_number answer ≡ 0 → ⊥ = (λ z. omega arith) in
       rw (ne_eqb (plain_number p (finish call)) 0 (λ z. n (finish_number_lem ∙ z))) (gives_none answer n, refl)
 
-  finish_seen : seen_of (finished_number answer) (given_of answer call.table.n b' dual') (record_of p) p.factor ≡ plain_seen p (finish call)
+  finish_seen : seen_of (answer_number answer) (given_of answer call.table.n b' dual') (record_of p) p.factor ≡ plain_seen p (finish call)
   unfolding plain_seen
   finish_seen =
-      let both = finish_by (finished_number answer) refl in
-      ap (λ (q : Plain). seen_at (finished_number answer) (given_of answer call.table.n b' dual') q) both.1
+      let both = finish_by (answer_number answer) refl in
+      ap (λ (q : Plain). seen_at (answer_number answer) (given_of answer call.table.n b' dual') q) both.1
       ∙ ap (λ (m : ℕ). seen_at m (given_of answer call.table.n b' dual') (plain_after p (finish call))) finish_number_lem
       ∙ ap (λ (g : Option Given). seen_at (plain_number p (finish call)) g (plain_after p (finish call))) both.0
 
@@ -225,9 +224,9 @@ follows (sweeps {call = call} {calls = calls} {seen = seen} factor number run' f
 follows (finishes {kept = kept} {call = call} {calls = calls} {seen = seen} factor b dual workspace answer b' dual' workspace' lends sized says chain) p w r f =
     let lends' = subst (λ (v : List Float). Lends v call.factor_length factor) f lends in
     let says' = subst (λ (h : Run). Finishes h call.table call.width call.draw_count call.draws factor b dual workspace answer b' dual' workspace') r says in
-    let stays = (finish_by p call factor b dual workspace answer b' dual' workspace' w lends' sized says' (finished_number answer) refl).1 in
-    ap (λ (h : Run). seen_of (finished_number answer) (given_of answer call.table.n b' dual') h kept ∷ seen) r
-    ∙ ap (λ (v : List Float). seen_of (finished_number answer) (given_of answer call.table.n b' dual') (record_of p) v ∷ seen) f
+    let stays = (finish_by p call factor b dual workspace answer b' dual' workspace' w lends' sized says' (answer_number answer) refl).1 in
+    ap (λ (h : Run). seen_of (answer_number answer) (given_of answer call.table.n b' dual') h kept ∷ seen) r
+    ∙ ap (λ (v : List Float). seen_of (answer_number answer) (given_of answer call.table.n b' dual') (record_of p) v ∷ seen) f
     ∙ ap (λ (x : Seen). x ∷ seen) (finish_seen p call factor b dual workspace answer b' dual' workspace' w lends' sized says')
     ∙ ap (λ (xs : List Seen). plain_seen p (finish call) ∷ xs) (follows chain p w r f ∙ ap (λ (q : Plain). plain_trace q calls) stays)
 follows (exchanges {call = call} {calls = calls} {seen = seen} number run' says chain) p w r f =
@@ -237,19 +236,15 @@ follows (exchanges {call = call} {calls = calls} {seen = seen} number run' says 
     ∙ ap (λ (x : Seen). x ∷ seen) (exchange_seen p call number run' w says')
     ∙ ap (λ (xs : List Seen). plain_seen p (exchange call) ∷ xs) (follows chain (plain_after p (exchange call)) left.2 left.0 (f ∙ left.1))
 
-abbrev pub run_or : Run → Opened → Run
-run_or other (O.Started run) = run
-run_or other (O.Refused number) = other
-
 -- from an accepted open, whatever start, rule, settings and tables
 pub plain_run : (o : Settings) (factor factor' : List Float) (run : Run) (calls : List Call) (seen : List Seen)
-    → Opens o factor (O.Started run) factor'
+    → Opens o factor (Ok run) factor'
     → Chain run (take (used run) factor') calls seen
     → seen ≡ plain_trace (plain_open o) calls
 unfolding record_of
 plain_run o factor factor' run calls seen opens chain =
-    let opened = plain_open_lem o factor (O.Started run) factor' opens in
+    let opened = plain_open_lem o factor (Ok run) factor' opens in
     let ok = opened.0 run refl in
-    let started : run ≡ record_of (plain_open o) = ap (run_or run) (opened.1 ok).0 in
+    let started : run ≡ record_of (plain_open o) = ap (λ (r : Result Run ℕ). result_unwrap_or r run) (opened.1 ok).0 in
     follows chain (plain_open o) (open_whole o (length factor) ok) started
     (ap (λ (h : Run). take (used h) factor') started ∙ (opened.1 ok).1)

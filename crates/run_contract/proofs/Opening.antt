@@ -6,12 +6,11 @@ use native.Mathlib.Omega.{arith}
 use lib.Ieee.{Float}
 use lib.ListN.{length, take}
 use lib.Seq.{take_at}
+use Rattle.std.specs.Prelude.{Result, Ok, Err}
 use Rattle.laws.specs.Lists.{over}
 use Rattle.run_limits.specs.Start.{is_signs, draws_follow}
 use Rattle.run_record.specs.declared.Run.{Run}
-use Rattle.run_contract.specs.declared.Opened.{Opened}
-use Rattle.run_contract.specs.declared.Opened.TheVariants as O
-use Rattle.run_contract.specs.Calls.{Settings, Opens, opened_number, open_number_of, open_size, open_rank, open_run, first_stage, start_factor}
+use Rattle.run_contract.specs.Calls.{Settings, answer_number, Opens, open_number_of, open_size, open_rank, open_run, first_stage, start_factor}
 use Rattle.run_contract.specs.PlainRun.{Plain, plain_open, record_of}
 use Rattle.run_contract.proofs.Accepting.{open_accepted}
 use Rattle.run_contract.proofs.Lengths.{length_start}
@@ -33,21 +32,21 @@ unfolding open_run first_stage plain_open record_of
 open_record o = refl
 
 -- accepted, no number applies; where none does, the answer is the plain run's record, and the factor begins with the plain run's
-pub plain_open_lem : (o : Settings) (factor : List Float) (answer : Opened) (factor' : List Float) → Opens o factor answer factor'
-    → ((run : Run) → answer ≡ O.Started run → open_number_of o (length factor) ≡ 0)
+pub plain_open_lem : (o : Settings) (factor : List Float) (answer : Result Run ℕ) (factor' : List Float) → Opens o factor answer factor'
+    → ((run : Run) → answer ≡ Ok run → open_number_of o (length factor) ≡ 0)
     × (open_number_of o (length factor) ≡ 0
-    → (answer ≡ O.Started (record_of (plain_open o))) × (take ((plain_open o).size * (plain_open o).rank) factor' ≡ (plain_open o).factor))
+    → (answer ≡ Ok (record_of (plain_open o))) × (take ((plain_open o).size * (plain_open o).rank) factor' ≡ (plain_open o).factor))
 plain_open_lem o factor answer factor' opens = (
-  (λ run e. sym opens.numbered ∙ ap opened_number e),
+  (λ run e. sym opens.numbered ∙ ap answer_number e),
   (λ ok.
       let a = opens.accepted (opens.numbered ∙ ok) in
-      (a.0 ∙ ap (λ (run : Run). O.Started run) (open_record o), ap (take ((plain_open o).size * (plain_open o).rank)) a.1 ∙ open_front o (length factor) factor ok)),
+      (a.0 ∙ ap (λ (run : Run). Ok run) (open_record o), ap (take ((plain_open o).size * (plain_open o).rank)) a.1 ∙ open_front o (length factor) factor ok)),
 )
 
 -- an open has an outcome
-pub open_has : (o : Settings) (factor : List Float) → (answer : Opened) × (factor' : List Float) × Opens o factor answer factor'
+pub open_has : (o : Settings) (factor : List Float) → (answer : Result Run ℕ) × (factor' : List Float) × Opens o factor answer factor'
 open_has o factor = by (open_number_of o (length factor)) refl
   where
-    by : (m : ℕ) → open_number_of o (length factor) ≡ m → (answer : Opened) × (factor' : List Float) × Opens o factor answer factor'
-    by zero e = (O.Started (open_run o), over (start_factor o) factor, record { numbered = sym e; refused = λ n. absurd (n refl); accepted = λ z. (refl, refl) })
-    by (suc m) e = (O.Refused (suc m), factor, record { numbered = sym e; refused = λ n. refl; accepted = λ z. absurd (omega arith) })
+    by : (m : ℕ) → open_number_of o (length factor) ≡ m → (answer : Result Run ℕ) × (factor' : List Float) × Opens o factor answer factor'
+    by zero e = (Ok (open_run o), over (start_factor o) factor, record { numbered = sym e; refused = λ n. absurd (n refl); accepted = λ z. (refl, refl) })
+    by (suc m) e = (Err (suc m), factor, record { numbered = sym e; refused = λ n. refl; accepted = λ z. absurd (omega arith) })

@@ -7,6 +7,7 @@ use native.Mathlib.Omega.{arith}
 use lib.Ieee.{Float}
 use lib.ListN.{length, take, drop}
 use lib.Seq.{drop_at, get_or-drop, length-take-le}
+use Rattle.std.specs.Prelude.{Result}
 use Rattle.laws.specs.Lists.{over, elem}
 use Rattle.limits.specs.Limits.{search_workspace}
 use Rattle.run_record.specs.declared.Run.{Run}
@@ -15,9 +16,8 @@ use Rattle.run_record.specs.declared.Stage.TheVariants.{Open, Stopped}
 use Rattle.run_record.specs.CostTable.{CostTable, quadratic, linear}
 use Rattle.run_sweep.specs.Work.{Work, call_work}
 use Rattle.run_sweep.specs.Sweep.{State, run_after, while_open, swept_once, standing_once, sweeps_up_to}
-use Rattle.run_contract.specs.declared.Opened.{Opened}
-use Rattle.run_contract.specs.declared.Finished.{Finished}
-use Rattle.run_contract.specs.Calls.{Settings, opened_number, open_number_of, open_size, open_rank, start_factor, Opens, used, Sweeps, finished_number, finish_choice, finish_multipliers, Finishes}
+use Rattle.run_contract.specs.declared.FinishResult.{FinishResult}
+use Rattle.run_contract.specs.Calls.{Settings, open_number_of, open_size, open_rank, start_factor, Opens, used, Sweeps, answer_number, finish_choice, finish_multipliers, Finishes}
 use Rattle.run_contract.specs.PlainRun.{plain_open}
 use Rattle.run_contract.proofs.Accepting.{sweep_accepted}
 use Rattle.run_contract.proofs.Lengths.{length_stepped, length_choice, length_multipliers}
@@ -33,11 +33,11 @@ start_long : (o : Settings) (lent : ℕ) → open_number_of o lent ≡ 0 → len
 unfolding plain_open
 start_long o lent ok = open_whole o lent ok
 
-pub open_tail : {o : Settings} {factor factor' : List Float} {answer : Opened} → Opens o factor answer factor'
+pub open_tail : {o : Settings} {factor factor' : List Float} {answer : Result Run ℕ} → Opens o factor answer factor'
     → drop (open_size o * open_rank o) factor' ≡ drop (open_size o * open_rank o) factor
-open_tail {o} {factor} {factor'} {answer} says = by (opened_number answer) refl
+open_tail {o} {factor} {factor'} {answer} says = by (answer_number answer) refl
   where
-    by : (m : ℕ) → opened_number answer ≡ m → drop (open_size o * open_rank o) factor' ≡ drop (open_size o * open_rank o) factor
+    by : (m : ℕ) → answer_number answer ≡ m → drop (open_size o * open_rank o) factor' ≡ drop (open_size o * open_rank o) factor
     by zero e = over_tail (start_factor o) factor factor' _ (start_long o (length factor) (sym says.numbered ∙ e)) (says.accepted e).1
     by (suc m) e = ap (drop (open_size o * open_rank o)) (says.refused (λ z. omega arith))
 
@@ -70,9 +70,9 @@ sweep_tail {run} {run'} {t} {k} {number} {factor} {factor'} says = by number ref
 -- ---- finish
 
 module _ {run : Run} {t : CostTable} {width draw_count : ℕ} {draws factor : List Float} {b : List ℕ} {dual : List Float} {workspace : List ℕ}
-    {answer : Finished} {b' : List ℕ} {dual' : List Float} {workspace' : List ℕ}
+    {answer : Result FinishResult ℕ} {b' : List ℕ} {dual' : List Float} {workspace' : List ℕ}
     (says : Finishes run t width draw_count draws factor b dual workspace answer b' dual' workspace') where
-  both : (m : ℕ) → finished_number answer ≡ m → (drop t.n b' ≡ drop t.n b) × (drop (suc t.n) dual' ≡ drop (suc t.n) dual)
+  both : (m : ℕ) → answer_number answer ≡ m → (drop t.n b' ≡ drop t.n b) × (drop (suc t.n) dual' ≡ drop (suc t.n) dual)
   both zero e =
       let a = says.accepted e in
       let v = take (used run) factor in (
@@ -84,10 +84,10 @@ module _ {run : Run} {t : CostTable} {width draw_count : ℕ} {draws factor : Li
       (ap (drop t.n) r.0, ap (drop (suc t.n)) r.1)
 
   pub finish_b_tail : drop t.n b' ≡ drop t.n b
-  finish_b_tail = (both (finished_number answer) refl).0
+  finish_b_tail = (both (answer_number answer) refl).0
 
   pub finish_dual_tail : drop (suc t.n) dual' ≡ drop (suc t.n) dual
-  finish_dual_tail = (both (finished_number answer) refl).1
+  finish_dual_tail = (both (answer_number answer) refl).1
 
   -- byte by byte
   pub finish_workspace_tail : (i : ℕ) → elem workspace' (search_workspace + i) ≡ elem workspace (search_workspace + i)

@@ -1,5 +1,5 @@
 -- What the calls of a run promise (01, "Run"; the exchange of a rule 02, Note 12): the predicates that their `ensures` cite, and that the theorem on lists takes as its steps.
-use Rattle.std.specs.Prelude.{ℕ, ◌+◌, ◌*◌, ◌≤◌, ◌≡◌, cond, List, eqb, Float, length, take, drop}
+use Rattle.std.specs.Prelude.{ℕ, ◌+◌, ◌*◌, ◌≤◌, ◌≡◌, cond, List, eqb, Float, length, take, drop, Result, Ok, Err}
 use Rattle.laws.specs.Lists.{over}
 use Rattle.ieee.specs.Floats.{◌+ᶠ◌}
 use Rattle.step_rules.specs.declared.StepRule.{StepRule}
@@ -20,20 +20,12 @@ use Rattle.run_sweep.specs.Sweep.{sweeps_up_to}
 use Rattle.float_bound.specs.Below.{AtMostEighths}
 use Rattle.finalize.specs.Finalize.{cost_of, diagonal_total, float_bound, floor_eighths, rounded_cost, searched_choice, searched_cost, searched_rounds, multipliers_of}
 use Rattle.finalize.specs.Demand3.{Demand3}
-use Rattle.run_contract.specs.declared.Opened.{Opened}
-use Rattle.run_contract.specs.declared.Opened.TheVariants as O
 use Rattle.run_contract.specs.declared.FinishResult.{FinishResult}
-use Rattle.run_contract.specs.declared.Finished.{Finished}
-use Rattle.run_contract.specs.declared.Finished.TheVariants as F
 
 -- 01's number of an answer, 0 where the call is accepted
-abbrev pub opened_number : Opened → ℕ
-opened_number (O.Started run) = 0
-opened_number (O.Refused number) = number
-
-abbrev pub finished_number : Finished → ℕ
-finished_number (F.Result result) = 0
-finished_number (F.Refused number) = number
+abbrev pub answer_number : {A : Type 0} → Result A ℕ → ℕ
+answer_number (Ok value) = 0
+answer_number (Err number) = number
 
 -- ---- open
 
@@ -107,10 +99,10 @@ abbrev pub open_number_of : Settings → ℕ → ℕ
 open_number_of o factor = open_number o.table o.rank o.rule o.number o.most o.start (length o.numbers) factor
 
 -- from the lent factor to the answer and the factor at exit: refused by the first number that applies, with the factor as it was, or opened
-pub record Opens (o : Settings) (factor : List Float) (answer : Opened) (factor' : List Float) : Type 0 where
-  pub numbered : opened_number answer ≡ open_number_of o (length factor)
-  pub refused : (opened_number answer ≡ 0 → ⊥) → factor' ≡ factor
-  pub accepted : opened_number answer ≡ 0 → (answer ≡ O.Started (open_run o)) × (factor' ≡ over (start_factor o) factor)
+pub record Opens (o : Settings) (factor : List Float) (answer : Result Run ℕ) (factor' : List Float) : Type 0 where
+  pub numbered : answer_number answer ≡ open_number_of o (length factor)
+  pub refused : (answer_number answer ≡ 0 → ⊥) → factor' ≡ factor
+  pub accepted : answer_number answer ≡ 0 → (answer ≡ Ok (open_run o)) × (factor' ≡ over (start_factor o) factor)
 
 -- ---- sweep
 
@@ -185,17 +177,17 @@ finish_multipliers run t factor = multipliers_of t.n (quadratic t) (linear t) ru
 
 -- from the record and the lent slices to the answer and the slices at exit
 pub record Finishes (run : Run) (t : CostTable) (width draw_count : ℕ) (draws factor : List Float) (b : List ℕ) (dual : List Float) (workspace : List ℕ)
-    (answer : Finished) (b' : List ℕ) (dual' : List Float) (workspace' : List ℕ) : Type 0 where
-  pub numbered : finished_number answer ≡ finish_number run t width draw_count (finish_lengths draws factor b dual workspace)
-  pub refused : (finished_number answer ≡ 0 → ⊥) → (b' ≡ b) × (dual' ≡ dual) × (workspace' ≡ workspace)
-  pub accepted : finished_number answer ≡ 0
-      → (answer ≡ F.Result (finish_result run t width draw_count draws (take (used run) factor)))
+    (answer : Result FinishResult ℕ) (b' : List ℕ) (dual' : List Float) (workspace' : List ℕ) : Type 0 where
+  pub numbered : answer_number answer ≡ finish_number run t width draw_count (finish_lengths draws factor b dual workspace)
+  pub refused : (answer_number answer ≡ 0 → ⊥) → (b' ≡ b) × (dual' ≡ dual) × (workspace' ≡ workspace)
+  pub accepted : answer_number answer ≡ 0
+      → (answer ≡ Ok (finish_result run t width draw_count draws (take (used run) factor)))
       × (b' ≡ over (finish_choice run t width draw_count draws (take (used run) factor)) b)
       × (dual' ≡ over (finish_multipliers run t (take (used run) factor)) dual)
   -- a longer workspace keeps its tail; what lies before is any after an accepted finish
   pub kept : drop search_workspace workspace' ≡ drop search_workspace workspace
   -- demand 3
-  pub demand_3 : (x : FinishResult) → answer ≡ F.Result x → 1 ≤ width
+  pub demand_3 : (x : FinishResult) → answer ≡ Ok x → 1 ≤ width
       → Demand3 t.n (quadratic t) (linear t) run.rank (take (used run) factor) draws draw_count width b' x.floor x.rounded_cost x.cost x.rounds
   -- the float bound, of any width: finite, and over whole numbers from its bits at most the cost of every choice (02, Note 9)
-  pub bound_under : (x : FinishResult) → answer ≡ F.Result x → (b'' : List ℕ) → AtMostEighths x.float_bound (cost_of t.n (quadratic t) (linear t) b'')
+  pub bound_under : (x : FinishResult) → answer ≡ Ok x → (b'' : List ℕ) → AtMostEighths x.float_bound (cost_of t.n (quadratic t) (linear t) b'')

@@ -17,7 +17,8 @@ pub enum Stage {
 }
 
 // The run record of 01: most and minimum are the sweep limits; status is 0 until a check stops the run with 1 or 2; standing is the total, over all
-// sweeps under rules 3 and 4, of the rows that a sweep left as they were.
+// sweeps under rules 3 and 4, of the rows that a sweep left as they were. `status` is a number since a caller may hand in any: one above 2 is
+// refused by 33.
 #[derive(Clone, Copy)]
 pub struct Run {
     pub size: usize,
@@ -34,7 +35,8 @@ pub struct Run {
     pub standing: u64,
 }
 
-// What an open is asked for: rank 0 is the default rank, rule and start are 01's numbers, `number` is the rule's.
+// What an open is asked for: rank 0 is the default rank, `number` is the rule's. Rule and start are 01's numbers, since a caller may hand in any:
+// one that is none of them is refused by 18 and 19.
 #[derive(Clone, Copy)]
 pub struct OpenSettings {
     pub rank: usize,

@@ -1,5 +1,7 @@
-// The number that each call answers: the first in 01's order whose condition holds, 0 where none does.
-ghost use Rattle.std.specs.Prelude.{◌≡◌, false, ◌||◌, ◌*◌, ltb};
+// What each call refuses: the first in 01's order whose condition holds.
+ghost use Rattle.std.specs.Prelude.{◌≡◌, false, ◌||◌, ◌*◌, [], ◌∷◌, ltb};
+ghost use Rattle.laws.specs.Refusal.{◌if◌, first};
+ghost use Rattle.refusal.specs.Number.{numbered};
 ghost use Rattle.run_record.specs.CostTable.{cost_table};
 ghost use Rattle.run_record.specs.Lengths.{lengths_of};
 ghost use Rattle.run_record.specs.Numbers.{table_short, own_refused, record_refused, cost_table_number, bad_momentum, sweep_number, member_number, draws_refused, width_refused, finish_number, rule_refused, open_number, exchange_number};
@@ -7,6 +9,7 @@ ghost use Rattle.run_record.specs.Numbers.{table_short, own_refused, record_refu
 use super::lengths::{FinishSlices, finish_short, open_rank_refused, open_short, sweep_short};
 use super::{OpenSettings, Run, is_stopped, open_and};
 use limits::{MOST_DRAWS, MOST_RANK, MOST_WIDTH};
+use refusal::Refusal;
 use run_limits::is_momentum;
 use step_rules::StepRule;
 
@@ -36,14 +39,13 @@ fn own_refused(run: Run) -> bool
     if run.most < run.sweeps {
         return true;
     }
-    let stage = run.stage;
-    if open_and(stage, run.sweeps == run.most) {
+    if open_and(run.stage, run.sweeps == run.most) {
         return true;
     }
     if 2 < run.status {
         return true;
     }
-    if open_and(stage, run.status != 0) {
+    if open_and(run.stage, run.status != 0) {
         return true;
     }
     standing_above(run.standing, run.size, run.sweeps)
@@ -64,9 +66,16 @@ fn record_refused(run: Run, n: usize) -> bool
 }
 
 // 13 to 16, of a table whose slices are long enough.
-fn table_number(n: usize, count: usize, rows: &[u16], cols: &[u16], values: &[i64], c: &[i64]) -> u8
+fn table_number(
+    n: usize,
+    count: usize,
+    rows: &[u16],
+    cols: &[u16],
+    values: &[i64],
+    c: &[i64],
+) -> Result<(), Refusal>
     requires { table_short (cost_table n count rows.now cols.now values.now c.now) ≡ false }
-    ensures { result ≡ cost_table_number (cost_table n count rows.now cols.now values.now c.now) }
+    ensures { numbered result ≡ cost_table_number (cost_table n count rows.now cols.now values.now c.now) }
 {
     tables::check::hall_number(
         limits::MOST_WAGONS,
@@ -94,7 +103,33 @@ fn bad_momentum(rule: StepRule) -> bool
     }
 }
 
-// The first number of a sweep, 0 where it is accepted.
+// 33, 13 to 16 and 18: what sweep, turn and finish judge alike of a run and its table.
+fn record_number(
+    run: Run,
+    n: usize,
+    count: usize,
+    rows: &[u16],
+    cols: &[u16],
+    values: &[i64],
+    c: &[i64],
+) -> Result<(), Refusal>
+    requires { table_short (cost_table n count rows.now cols.now values.now c.now) ≡ false }
+    ensures { numbered result ≡ first (33 if record_refused run n
+        ∷ cost_table_number (cost_table n count rows.now cols.now values.now c.now)
+        ∷ 18 if bad_momentum run.rule
+        ∷ []) }
+{
+    if record_refused(run, n) {
+        return Err(Refusal::Record);
+    }
+    table_number(n, count, rows, cols, values, c)?;
+    if bad_momentum(run.rule) {
+        return Err(Refusal::Rule);
+    }
+    Ok(())
+}
+
+// What a sweep refuses.
 pub fn sweep_number(
     run: Run,
     n: usize,
@@ -104,31 +139,19 @@ pub fn sweep_number(
     values: &[i64],
     c: &[i64],
     factor: usize,
-) -> u8
-    ensures { result ≡ sweep_number run (cost_table n count rows.now cols.now values.now c.now) factor }
+) -> Result<(), Refusal>
+    ensures { numbered result ≡ sweep_number run (cost_table n count rows.now cols.now values.now c.now) factor }
 {
     if sweep_short(run, n, count, rows, cols, values, c, factor) {
-        return 31;
+        return Err(Refusal::Slice);
     }
-    let stage = run.stage;
-    if is_stopped(stage) {
-        return 32;
+    if is_stopped(run.stage) {
+        return Err(Refusal::Stage);
     }
-    if record_refused(run, n) {
-        return 33;
-    }
-    let table = table_number(n, count, rows, cols, values, c);
-    if table != 0 {
-        return table;
-    }
-    let rule = run.rule;
-    if bad_momentum(rule) {
-        return 18;
-    }
-    0
+    record_number(run, n, count, rows, cols, values, c)
 }
 
-// The first number of a run among several, stopped or not.
+// What a turn refuses of a run among several, stopped or not.
 pub fn member_number(
     run: Run,
     n: usize,
@@ -138,24 +161,13 @@ pub fn member_number(
     values: &[i64],
     c: &[i64],
     factor: usize,
-) -> u8
-    ensures { result ≡ member_number run (cost_table n count rows.now cols.now values.now c.now) factor }
+) -> Result<(), Refusal>
+    ensures { numbered result ≡ member_number run (cost_table n count rows.now cols.now values.now c.now) factor }
 {
     if sweep_short(run, n, count, rows, cols, values, c, factor) {
-        return 31;
+        return Err(Refusal::Slice);
     }
-    if record_refused(run, n) {
-        return 33;
-    }
-    let table = table_number(n, count, rows, cols, values, c);
-    if table != 0 {
-        return table;
-    }
-    let rule = run.rule;
-    if bad_momentum(rule) {
-        return 18;
-    }
-    0
+    record_number(run, n, count, rows, cols, values, c)
 }
 
 // Whether 19 refuses the count of draws.
@@ -178,7 +190,7 @@ fn width_refused(width: usize, draw_count: usize) -> bool
     draws_refused(draw_count)
 }
 
-// The number that a finish answers.
+// What a finish refuses.
 pub fn finish_number(
     run: Run,
     n: usize,
@@ -190,31 +202,20 @@ pub fn finish_number(
     width: usize,
     draw_count: usize,
     lent: FinishSlices,
-) -> u8
-    ensures { result ≡ finish_number run (cost_table n count rows.now cols.now values.now c.now) width draw_count (lengths_of lent) }
+) -> Result<(), Refusal>
+    ensures { numbered result ≡ finish_number run (cost_table n count rows.now cols.now values.now c.now) width draw_count (lengths_of lent) }
 {
     if finish_short(run, n, count, rows, cols, values, c, draw_count, lent) {
-        return 31;
+        return Err(Refusal::Slice);
     }
-    let stage = run.stage;
-    if !is_stopped(stage) {
-        return 32;
+    if !is_stopped(run.stage) {
+        return Err(Refusal::Stage);
     }
-    if record_refused(run, n) {
-        return 33;
-    }
-    let table = table_number(n, count, rows, cols, values, c);
-    if table != 0 {
-        return table;
-    }
-    let rule = run.rule;
-    if bad_momentum(rule) {
-        return 18;
-    }
+    record_number(run, n, count, rows, cols, values, c)?;
     if width_refused(width, draw_count) {
-        return 19;
+        return Err(Refusal::Search);
     }
-    0
+    Ok(())
 }
 
 // Whether 18 refuses the rule.
@@ -231,7 +232,7 @@ fn rule_refused(rule: u8, number: f64) -> bool
     }
 }
 
-// The number that an open answers.
+// What an open refuses.
 pub fn open_number(
     n: usize,
     count: usize,
@@ -242,8 +243,8 @@ pub fn open_number(
     asked: OpenSettings,
     numbers: usize,
     factor: usize,
-) -> u8
-    ensures { result ≡ open_number (cost_table n count rows.now cols.now values.now c.now) asked.rank asked.rule
+) -> Result<(), Refusal>
+    ensures { numbered result ≡ open_number (cost_table n count rows.now cols.now values.now c.now) asked.rank asked.rule
         asked.number asked.most asked.start numbers factor }
 {
     if open_short(
@@ -259,48 +260,43 @@ pub fn open_number(
         numbers,
         factor,
     ) {
-        return 31;
+        return Err(Refusal::Slice);
     }
-    let table = table_number(n, count, rows, cols, values, c);
-    if table != 0 {
-        return table;
-    }
+    table_number(n, count, rows, cols, values, c)?;
     if open_rank_refused(asked.rank, asked.start) {
-        return 17;
+        return Err(Refusal::Rank);
     }
     if rule_refused(asked.rule, asked.number) {
-        return 18;
+        return Err(Refusal::Rule);
     }
     if 2 < asked.start {
-        return 19;
+        return Err(Refusal::Search);
     }
-    0
+    Ok(())
 }
 
 // Whether 18 refuses an exchange: by the record's rule, or by the one that is asked for.
 fn exchange_refused(run: Run, rule: u8, number: f64) -> bool
     ensures { result ≡ (bad_momentum run.rule || rule_refused rule number) }
 {
-    let old = run.rule;
-    if bad_momentum(old) {
+    if bad_momentum(run.rule) {
         return true;
     }
     rule_refused(rule, number)
 }
 
-// The number that the exchange of a rule answers.
-pub fn exchange_number(run: Run, rule: u8, number: f64) -> u8
-    ensures { result ≡ exchange_number run rule number }
+// What the exchange of a rule refuses.
+pub fn exchange_number(run: Run, rule: u8, number: f64) -> Result<(), Refusal>
+    ensures { numbered result ≡ exchange_number run rule number }
 {
-    let stage = run.stage;
-    if is_stopped(stage) {
-        return 32;
+    if is_stopped(run.stage) {
+        return Err(Refusal::Stage);
     }
     if own_refused(run) {
-        return 33;
+        return Err(Refusal::Record);
     }
     if exchange_refused(run, rule, number) {
-        return 18;
+        return Err(Refusal::Rule);
     }
-    0
+    Ok(())
 }

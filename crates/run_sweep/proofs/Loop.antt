@@ -75,10 +75,6 @@ running_after run w factor left l s m =
       standing_few = one_more run.standing run.size run.sweeps left s m;
     }
 
--- nothing made yet
-pub sweeps_all : (k : ℕ) (w : Work) (run : Run) (factor : List Float) → sweeps_up_to (k - 0) w run factor ≡ sweeps_up_to k w run factor
-sweeps_all k w run factor = let none : k - 0 ≡ k = omega arith in ap (λ (m : ℕ). sweeps_up_to m w run factor) none
-
 -- all made
 pub sweeps_made : (k made : ℕ) (w : Work) (run : Run) (factor : List Float) → made ≡ k → sweeps_up_to (k - made) w run factor ≡ record { run = run; factor = factor }
 sweeps_made k made w run factor e = let none : k - made ≡ 0 = omega arith in ap (λ (m : ℕ). sweeps_up_to m w run factor) none ∙ sweeps_none w run factor

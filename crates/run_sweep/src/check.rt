@@ -25,14 +25,14 @@ fn check_due(sweeps: u32, minimum: u32, most: u32) -> bool
     sweeps % 20 == 0
 }
 
-// The absolute value.
+// The absolute value as 000 takes it: -0.0 stays, which `abs` turns round.
 fn absolute(x: f64) -> f64
     ensures { result ≡ absolute x }
 {
     if x < 0.0 { -x } else { x }
 }
 
-// The status with which a check stops the run, 0 where it goes on.
+// The status with which a check stops the run, 0 where it goes on: the record's number, since a caller may hand in any (33).
 fn stop_status(tests: bool, tolerance: f64, settled: bool, previous: f64, new: f64) -> u8
     ensures { result ≡ stop_status tests tolerance settled previous new }
 {
@@ -53,11 +53,7 @@ fn stop_status(tests: bool, tolerance: f64, settled: bool, previous: f64, new: f
 fn settled(minimum: u32, sweeps: u32, residual: f64, threshold: f64) -> bool
     ensures { result ≡ (leb minimum sweeps && le residual threshold) }
 {
-    if minimum <= sweeps {
-        residual <= threshold
-    } else {
-        false
-    }
+    minimum <= sweeps && residual <= threshold
 }
 
 // The stage after a check.
@@ -82,24 +78,16 @@ fn advanced(run: Run, last_objective: f64, found: u8, left: usize) -> Run
     requires { (run.sweeps < run.most) × Countable run left }
     ensures { result ≡ advanced run last_objective found left }
 {
-    let before = run.stage;
-    let rule = run.rule;
     let sweeps = run.sweeps + 1;
-    let stage = stage_after(found, sweeps == run.most, before);
+    let stage = stage_after(found, sweeps == run.most, run.stage);
     let status = status_after(found, run.status);
     Run {
-        size: run.size,
-        rank: run.rank,
-        rule,
         sweeps,
         last_objective,
-        objective_tolerance: run.objective_tolerance,
-        stationarity_tolerance: run.stationarity_tolerance,
-        most: run.most,
-        minimum: run.minimum,
         stage,
         status,
         standing: run.standing + left as u64,
+        ..run
     }
 }
 

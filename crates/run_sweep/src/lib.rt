@@ -70,8 +70,7 @@ pub fn sweeps_up_to(
 {
     let mut at = run;
     for made in 0u32..k {
-        let stage = at.stage;
-        if is_stopped(stage) {
+        if is_stopped(at.stage) {
             return at;
         }
         at = sweep_on(at, rows, cols, values, starts, factor, product, moved, dual);

@@ -3,9 +3,6 @@ use Rattle.step_rules.proofs.Standing.{standing_in_few}
 use Rattle.run_sweep.proofs.Loop.{after_factor, after_left, reshaped}
 use Rattle.run_sweep.proofs.sweep_on.Goals as goal
 
-pub step-answer-requires : goal.step-answer-requires
-step-answer-requires c = record { shaped = c.requires.sweepable.shaped; obj_fits = c.requires.sweepable.fits; scratch_len = (c.requires.sweepable.product_is, c.requires.sweepable.moved_is, c.requires.sweepable.some) }
-
 pub run_after-requires : goal.run_after-requires
 run_after-requires c = record {
   countable = record {

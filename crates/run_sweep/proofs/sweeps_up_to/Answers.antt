@@ -1,59 +1,23 @@
-use mathlib.Core.Path.{◌≡◌, refl, sym, ap, ◌∙◌}
+use mathlib.Core.Path.{◌≡◌, sym, ap, ◌∙◌}
 use mathlib.Core.List.{List}
 use native.Mathlib.Omega.{arith}
 use lib.Ieee.{Float}
 use Rattle.run_record.specs.declared.Run.{Run}
 use Rattle.run_sweep.specs.Sweep.{State}
-use Rattle.run_sweep.proofs.Loop.{sweeps_all, sweeps_made, sweeps_stop, after_factor, turn, still}
+use Rattle.run_sweep.proofs.Loop.{sweeps_made, sweeps_stop, after_factor, turn, still}
 use Rattle.run_sweep.proofs.sweeps_up_to.Goals as goal
 
 both : (run : Run) (factor : List Float) (s : State) → ◌≡◌ {A = State} (record { run = run; factor = factor }) s → (run ≡ s.run) × (factor ≡ s.factor)
 both run factor s e = (ap (λ (x : State). x.run) e, ap (λ (x : State). x.factor) e)
 
-pub loop-made-init : goal.loop-made-init
-loop-made-init c = (omega arith, refl, refl, refl, refl, c.requires.0, c.requires.1, sweeps_all _ _ _ _)
-
-pub shape_of-factor-then-is_stopped : goal.shape_of-factor-then-is_stopped
-shape_of-factor-then-is_stopped c = c.loop-made.invariant.1
-
-pub shape_of-product-then-is_stopped : goal.shape_of-product-then-is_stopped
-shape_of-product-then-is_stopped c = c.loop-made.invariant.2
-
-pub shape_of-moved-then-is_stopped : goal.shape_of-moved-then-is_stopped
-shape_of-moved-then-is_stopped c = c.loop-made.invariant.3
-
-pub shape_of-dual-then-is_stopped : goal.shape_of-dual-then-is_stopped
-shape_of-dual-then-is_stopped c = c.loop-made.invariant.4
-
 pub returns-then-is_stopped : goal.returns-then-is_stopped
 returns-then-is_stopped c = both _ _ _ (sym (sweeps_stop _ _ _ _ (sym c.is_stopped.ensures ∙ c.if-is_stopped.true)) ∙ c.loop-made.invariant.7)
-
-pub sweep_on-at-requires : goal.sweep_on-at-requires
-sweep_on-at-requires c = record { sweeps_lt_most = (c.loop-made.invariant.5.sweep_left (sym c.is_stopped.ensures ∙ c.if-is_stopped.false), c.loop-made.invariant.5.standing_few); sweepable = c.loop-made.invariant.6 }
-
-pub overflow_add-made : goal.overflow_add-made
-overflow_add-made c = omega (arith, c.loop-made-test.true, c.ranges.k)
-
-pub loop-made-smaller : goal.loop-made-smaller
-loop-made-smaller c = omega (arith, c.loop-made-test.true)
 
 pub loop-made-preserved : goal.loop-made-preserved
 loop-made-preserved c = let open' = sym c.is_stopped.ensures ∙ c.if-is_stopped.false in
     let after = after_factor _ _ _ c.sweep_on-at.ensures.0 c.sweep_on-at.ensures.1 in
     let next = turn _ _ _ _ _ _ _ _ c.loop-made-test.true open' (c.loop-made.invariant.5.sweep_left open') c.loop-made.invariant.5.standing_few c.sweep_on-at.ensures.1 after c.loop-made.invariant.7 in
     (omega (arith, c.loop-made-test.true), c.sweep_on-at.auto.factor ∙ c.loop-made.invariant.1, c.sweep_on-at.auto.product ∙ c.loop-made.invariant.2, c.sweep_on-at.auto.moved ∙ c.loop-made.invariant.3, c.sweep_on-at.auto.dual ∙ c.loop-made.invariant.4, next.0, still _ _ after c.sweep_on-at.auto.factor c.sweep_on-at.auto.product c.sweep_on-at.auto.moved c.sweep_on-at.auto.dual c.loop-made.invariant.6, next.1)
-
-pub shape_of-factor : goal.shape_of-factor
-shape_of-factor c = c.loop-made.invariant.1
-
-pub shape_of-product : goal.shape_of-product
-shape_of-product c = c.loop-made.invariant.2
-
-pub shape_of-moved : goal.shape_of-moved
-shape_of-moved c = c.loop-made.invariant.3
-
-pub shape_of-dual : goal.shape_of-dual
-shape_of-dual c = c.loop-made.invariant.4
 
 pub returns : goal.returns
 returns c = both _ _ _ (sym (sweeps_made _ _ _ _ _ (omega (arith, c.loop-made-test.false, c.loop-made.invariant.0))) ∙ c.loop-made.invariant.7)

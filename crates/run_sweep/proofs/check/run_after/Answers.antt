@@ -3,17 +3,8 @@ use Rattle.run_sweep.specs.Work.{work}
 use Rattle.run_sweep.proofs.Checking.{unchecked, checked}
 use Rattle.run_sweep.proofs.check.run_after.Goals as goal
 
-pub check-seen-requires : goal.check-seen-requires
-check-seen-requires c = record { shaped = c.requires.sweeps_lt_most.2; product_len = (c.requires.sweeps_lt_most.3, c.requires.sweeps_lt_most.4) }
-
-pub advanced-requires : goal.advanced-requires
-advanced-requires c = (c.requires.sweeps_lt_most.0, c.requires.countable)
-
 pub returns-then-check_due : goal.returns-then-check_due
 returns-then-check_due c = checked _ (work _ _ _ _) _ _ (sym c.check_due.ensures ∙ c.if-check_due.true) c.check-seen.ensures.objective_value.0 c.check-seen.ensures.objective_value.1 c.check-seen.ensures.objective_value.2 c.requires.sweeps_lt_most.1 c.settled-done.ensures c.stop_status-found.ensures c.advanced.ensures
-
-pub advanced-requires-2 : goal.advanced-requires-2
-advanced-requires-2 c = (c.requires.sweeps_lt_most.0, c.requires.countable)
 
 pub returns : goal.returns
 returns c = unchecked _ (work _ _ _ _) _ _ (sym c.check_due.ensures ∙ c.if-check_due.false) c.advanced-2.ensures

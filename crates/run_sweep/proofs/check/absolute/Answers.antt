@@ -1,7 +1,0 @@
-use Rattle.run_sweep.proofs.check.absolute.Goals as goal
-
-pub returns-then-x : goal.returns-then-x
-returns-then-x c = simp c.if-x.true
-
-pub returns-else-x : goal.returns-else-x
-returns-else-x c = simp c.if-x.false
