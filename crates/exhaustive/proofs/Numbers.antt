@@ -2,13 +2,16 @@
 -- Assumes nothing.
 use mathlib.Core.Path.{◌≡◌, refl, sym, ap, ◌∙◌}
 use mathlib.Core.Bool.{Bool, true, false}
-use mathlib.Core.List.{List, [], ◌∷◌}
-use Prim.Native.Nat.{ℕ, ◌+◌, ◌*◌, ◌<◌, ◌≤◌}
+use mathlib.Core.List.{List, [], ◌∷◌, ◌++◌}
+use Prim.Native.Nat.{ℕ, ◌+◌, ◌-◌, ◌*◌, ◌<◌, ◌≤◌, min}
+use native.Mathlib.Decide.{dec_lt}
 use native.Mathlib.Omega.{arith}
 use borrow.Author.Tests.{ltb-false, le-ltb}
 use lib.Dec.{ltb}
-use lib.IntN.{ℤ, nat_abs}
-use lib.ListN.{length}
+use lib.IntN.{ℤ, pos, nat_abs}
+use lib.ListN.{length, take, drop, replicate, get_or-append, get_or-replicate, get_or-eq_default}
+use lib.Seq.{length-take-le, get_or-take, get_or-append_right}
+use Rattle.std.proofs.lemmas.List.{get_or-drop}
 use Rattle.laws.specs.Lists.{elem_z}
 use Rattle.laws.specs.Refusal.{◌if◌, first}
 use Rattle.laws.specs.Sum.{total}
@@ -36,6 +39,21 @@ number_ext n h c c' same = go (bad_size 0 most_wagons most_entries n h.count) re
         let few = (size_parts _ _ _ _ _ e).1 in
         let s : total n (λ i. nat_abs (c i)) ≡ total n (λ i. nat_abs (c' i)) = total_ext n _ _ (λ i l. ap nat_abs (same i (omega (arith, few)))) in
         ap (λ (k : ℕ). first (13 if false ∷ 14 if bad_order n h.row h.column h.count ∷ 15 if unmirrored h ∷ 16 if ltb most_magnitude (magnitude_of h + 2 * k) ∷ [])) s
+
+-- those that are there over as many zeros
+pub padded : (c zeros : List ℤ) (given : ℕ) {front : List ℤ} → given ≡ min (length c) most_wagons → zeros ≡ replicate most_wagons (pos 0) → front ≡ take given c
+    → (i : ℕ) → i < most_wagons → elem_z (front ++ drop given zeros) i ≡ elem_z c i
+padded c zeros given {front} e z f i h = go (dec_lt i given)
+  where
+    long : length front ≡ given
+    long = ap length f ∙ length-take-le given c (omega arith)
+
+    go : Dec (i < given) → elem_z (front ++ drop given zeros) i ≡ elem_z c i
+    go (yes b) = get_or-append front (drop given zeros) (pos 0) i (omega (arith, long)) ∙ ap (λ l. elem_z l i) f ∙ get_or-take given c i (pos 0) b
+    go (no b) =
+        let at : given + (i - length front) ≡ i = omega (arith, long) in
+        get_or-append_right front (drop given zeros) i (pos 0) (omega (arith, long)) ∙ get_or-drop given zeros (i - length front) (pos 0)
+        ∙ ap (elem_z zeros) at ∙ ap (λ l. elem_z l i) z ∙ get_or-replicate most_wagons i (pos 0) (pos 0) h ∙ sym (get_or-eq_default c (pos 0) (omega arith))
 
 -- ---- where no slice is short, and where no number applies
 

@@ -1,5 +1,5 @@
 -- What the call `least_choice` answers: the numbers 31, 13 to 16, 24, and the first choice of least cost.
-use Rattle.std.specs.Prelude.{◌≡◌, Bool, List, [], ◌∷◌, ℕ, ◌<◌, ◌^◌, ltb, length, ℤ, ◌≤ℤ◌}
+use Rattle.std.specs.Prelude.{◌≡◌, Bool, List, [], ◌∷◌, ℕ, ◌<◌, ◌^◌, ltb, length, ℤ, ◌≤ℤ◌, Result, Ok, Err}
 use Rattle.laws.specs.Lists.{elem_z, over}
 use Rattle.laws.specs.Refusal.{◌if◌, first, any_of, short}
 use Rattle.limits.specs.Limits.{most_wagons, most_entries, most_magnitude, most_walked}
@@ -9,8 +9,6 @@ use Rattle.tables.specs.Bound.{entrywise}
 use Rattle.sign_table.specs.SignTable.{sign_table}
 use Rattle.float_bound.specs.Below.{AtMostEighths}
 use Rattle.exhaustive.specs.Choices.{digits_of, cost_of, walk_cost, least_number}
-use Rattle.exhaustive.specs.declared.Walked.{Walked}
-use Rattle.exhaustive.specs.declared.Walked.TheVariants.{Result, Refused}
 use Rattle.exhaustive.specs.declared.Least.{Least}
 
 -- 31: the table's slices rest on the count; c and the choice rest on n, which 13 and 24 refuse
@@ -43,6 +41,6 @@ pub record Found (n : ℕ) (h : Table) (c : ℕ → ℤ) (b : List ℕ) (x : Lea
   -- nor is the float bound, with its margin, over whole numbers
   pub bound : AtMostEighths (entrywise (sign_table n h c)) x.cost
 
-pub record Walks (n count : ℕ) (rows cols : List ℕ) (values c : List ℤ) (b : List ℕ) (answer : Walked) (b' : List ℕ) : Type 0 where
-  pub refused : (walk_number n count rows cols values c (length b) ≡ 0 → ⊥) → (answer ≡ Refused (walk_number n count rows cols values c (length b))) × (b' ≡ b)
-  pub accepted : walk_number n count rows cols values c (length b) ≡ 0 → (x : Least) × (answer ≡ Result x) × Found n (table_of count rows cols values) (elem_z c) b x b'
+pub record Walks (n count : ℕ) (rows cols : List ℕ) (values c : List ℤ) (b : List ℕ) (answer : Result Least ℕ) (b' : List ℕ) : Type 0 where
+  pub refused : (walk_number n count rows cols values c (length b) ≡ 0 → ⊥) → (answer ≡ Err (walk_number n count rows cols values c (length b))) × (b' ≡ b)
+  pub accepted : walk_number n count rows cols values c (length b) ≡ 0 → (x : Least) × (answer ≡ Ok x) × Found n (table_of count rows cols values) (elem_z c) b x b'

@@ -1,12 +1,14 @@
 // The numbers of the call: 31, 13 to 16, 24. Nothing is written.
 ghost use Rattle.std.specs.Prelude.{◌≡◌, false, ℕ, ◌≤◌, ◌<◌, length, ltb};
 ghost use Rattle.laws.specs.Lists.{elem_z};
+ghost use Rattle.refusal.specs.Number.{numbered};
 ghost use Rattle.limits.specs.Limits.{most_wagons, most_entries, most_magnitude, most_walked};
 ghost use Rattle.tables.specs.Table.{table_of, Lent};
 ghost use Rattle.tables.specs.Check.{hall_number};
 ghost use Rattle.exhaustive.specs.Contract.{walk_short, walk_number};
 
 use limits::{MOST_ENTRIES, MOST_MAGNITUDE, MOST_WAGONS, MOST_WALKED};
+use refusal::Refusal;
 use tables::check::{hall_number, short_table, too_short};
 
 // Whether there are more wagons.
@@ -38,34 +40,21 @@ fn slices_short(
     too_short(refused, n, b)
 }
 
-// Wagon i's cost, 0 where there is none.
-fn cost_at(c: &[i64], i: usize) -> i64
-    ensures { result ≡ elem_z c.now i }
-{
-    if i < c.len() {
-        return c[i];
-    }
-    0
-}
-
-// As many costs as there may be wagons, 0 for those that aren't there.
-fn costs_there(c: &[i64], there: &mut [i64; MOST_WAGONS])
-    requires { most_wagons ≡ length there.old }
-    ensures long { most_wagons ≡ length there.new }
-    ensures by_index { (i : ℕ) → i < most_wagons → elem_z there.new i ≡ elem_z c.now i }
-{
-    for i in 0..MOST_WAGONS {
-        there[i] = cost_at(c, i);
-    }
-}
-
 // 13 to 16, a cost that isn't there taken for 0.
-fn house_number(n: usize, count: usize, rows: &[u16], cols: &[u16], values: &[i64], c: &[i64]) -> u8
+fn house_number(
+    n: usize,
+    count: usize,
+    rows: &[u16],
+    cols: &[u16],
+    values: &[i64],
+    c: &[i64],
+) -> Result<(), Refusal>
     requires { count ≤ most_entries → Lent count rows.now cols.now values.now }
-    ensures { result ≡ hall_number most_wagons most_entries most_magnitude n (table_of count rows.now cols.now values.now) (elem_z c.now) }
+    ensures { numbered result ≡ hall_number most_wagons most_entries most_magnitude n (table_of count rows.now cols.now values.now) (elem_z c.now) }
 {
     let mut there = [0i64; MOST_WAGONS];
-    costs_there(c, &mut there);
+    let given = c.len().min(MOST_WAGONS);
+    there[..given].copy_from_slice(&c[..given]);
     hall_number(
         MOST_WAGONS,
         MOST_ENTRIES,
@@ -79,7 +68,7 @@ fn house_number(n: usize, count: usize, rows: &[u16], cols: &[u16], values: &[i6
     )
 }
 
-// The first number that applies, or 0; `b` is the length of the slice for the choice.
+// The first number that applies; `b` is the length of the slice for the choice.
 pub fn walk_number(
     n: usize,
     count: usize,
@@ -88,18 +77,15 @@ pub fn walk_number(
     values: &[i64],
     c: &[i64],
     b: usize,
-) -> u8
-    ensures { result ≡ walk_number n count rows.now cols.now values.now c.now b }
+) -> Result<(), Refusal>
+    ensures { numbered result ≡ walk_number n count rows.now cols.now values.now c.now b }
 {
     if slices_short(n, count, rows, cols, values, c.len(), b) {
-        return 31;
+        return Err(Refusal::Slice);
     }
-    let house = house_number(n, count, rows, cols, values, c);
-    if house != 0 {
-        return house;
-    }
+    house_number(n, count, rows, cols, values, c)?;
     if many(n) {
-        return 24;
+        return Err(Refusal::Walk);
     }
-    0
+    Ok(())
 }

@@ -32,11 +32,7 @@ fn visit(cost: i64, at: Kept) -> Kept
             visited,
         };
     }
-    Kept {
-        least: at.least,
-        number: at.number,
-        visited,
-    }
+    Kept { visited, ..at }
 }
 
 // Visits the next choice, whose lowest digit is 0, and the one with that digit set.

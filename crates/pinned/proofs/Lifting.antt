@@ -3,20 +3,19 @@
 use mathlib.Core.Path.{◌≡◌, refl, sym, ◌∙◌, ap}
 use mathlib.Core.Bool.{Bool, true, false}
 use mathlib.Core.List.{List, ◌++◌}
-use Prim.Native.Nat.{ℕ, zero, suc, ◌<◌, ◌≤◌}
+use Prim.Native.Nat.{ℕ, ◌<◌, ◌≤◌}
 use native.Mathlib.Omega.{arith}
 use borrow.Author.Tests.{ltb-false}
-use lib.ListN.{length, take, drop, set}
-use lib.Seq.{get_or-take, length-take-le, set-append_left}
+use lib.ListN.{length, take, drop}
+use lib.Seq.{get_or-take, length-take-le}
 use lib.IntN.{ℤ}
-use Rattle.laws.specs.Turns.{up_to}
 use Rattle.laws.specs.Lists.{elem, tabulate, over}
 use Rattle.laws.proofs.Made.{get_d_tabulate, tabulate_get_d}
 use Rattle.tables.specs.Table.{Table, value_at}
 use Rattle.tables.specs.Cost.{bit, choice_at, cost_eighths}
 use Rattle.tables.proofs.Choices.{cost_ext}
 use Rattle.reduced.specs.Indices.{put_each, Within}
-use Rattle.reduced.proofs.Put.{Last, found, none, put_last, length_put}
+use Rattle.reduced.proofs.Put.{Last, found, none, put_last, put_front, length_put}
 use Rattle.pinned.specs.Pinned.{is_free, free_of, lifted, free_part, Keeps}
 use Rattle.pinned.proofs.Free.{free_map, free_once}
 
@@ -85,18 +84,16 @@ keeping_cost n h c states b long keeps = cost_ext n (value_at h) c (keeping_lift
 pub free_in_lem : (n m : ℕ) (states : List ℕ) {free : List ℕ} → free ≡ free_of n states → n ≤ m → Within m free
 free_in_lem n m states e h = rw e (record { below = λ k l. omega (arith, (free_map n states).below k l) })
 
-put_front : (index value : ℕ → ℕ) (m : ℕ) (xs ys : List ℕ) → ((j : ℕ) → j < m → index j < length xs) → put_each index value m (xs ++ ys) ≡ put_each index value m xs ++ ys
-unfolding up_to
-put_front index value zero xs ys h = refl
-put_front index value (suc m) xs ys h =
-    ap (λ l. set l (index m) (value m)) (put_front index value m xs ys (λ j b. h j (omega arith)))
-    ∙ set-append_left (put_each index value m xs) ys (index m) (value m) (rw (length_put index value m xs) (h m (omega arith)))
+taken : (n : ℕ) (xs : List ℕ) → n ≤ length xs → tabulate (elem xs) n ≡ take n xs
+taken n xs long = sym (tabulate_get_d (take n xs) n 0 (elem xs) (length-take-le n xs long) (λ j h. get_or-take n xs j 0 h))
+
+pub copied : (n : ℕ) (xs ys : List ℕ) {front : List ℕ} → n ≤ length xs → front ≡ take n xs → front ++ drop n ys ≡ over (tabulate (elem xs) n) ys
+copied n xs ys long e = rw (e, taken n xs long, length-take-le n xs long)
 
 pub lift_made : (n : ℕ) (states b choice : List ℕ) {free mid out : List ℕ} → n ≤ length states → free ≡ free_of n states → mid ≡ over (tabulate (elem states) n) choice
     → out ≡ put_each (elem free) (elem b) (length free) mid → out ≡ over (lifted n states b) choice
 unfolding lifted
 lift_made n states b choice long f e g =
-    let copied : tabulate (elem states) n ≡ take n states = sym (tabulate_get_d (take n states) n 0 (elem states) (length-take-le n states long) (λ j h. get_or-take n states j 0 h)) in
     let short : length (take n states) ≡ n = length-take-le n states long in
-    rw (g, f, e, copied, length_put (elem (free_of n states)) (elem b) (length (free_of n states)) (take n states))
+    rw (g, f, e, taken n states long, length_put (elem (free_of n states)) (elem b) (length (free_of n states)) (take n states))
     (put_front (elem (free_of n states)) (elem b) (length (free_of n states)) (take n states) (drop (length (take n states)) choice) (λ j h. omega (arith, (free_map n states).below j h)))

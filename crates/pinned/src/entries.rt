@@ -10,7 +10,7 @@ ghost use Rattle.pinned.specs.Pinned.{is_free, place_of, free_entry, LastFree, P
 use limits::MOST_WAGONS;
 use tables::check::wide;
 
-// The place of a wagon that is held.
+// The place of a wagon that is held. No `Option`: a list of those is twice as long, and each place goes into a slice of plain indices.
 const HELD: u16 = MOST_WAGONS as u16;
 
 // The place of wagon i, before which stand so many free ones.
@@ -68,14 +68,12 @@ fn free_end(count: usize, rows: &[u16], cols: &[u16], places: &[u16; MOST_WAGONS
     requires { (count ≤ length rows.now) × (count ≤ length cols.now) × ((l : ℕ) → l < count → (elem rows.now l < most_wagons) × (elem cols.now l < most_wagons)) }
     ensures { LastFree (free_entry places.now (elem rows.now) (elem cols.now)) count result }
 {
-    let mut end = count;
-    while 0 < end {
-        if is_free_entry(rows, cols, places, end - 1) {
-            return end;
+    for l in (0..count).rev() {
+        if is_free_entry(rows, cols, places, l) {
+            return l + 1;
         }
-        end -= 1;
     }
-    end
+    0
 }
 
 // Entry l at place `at`, if it is free; the next place. In a free row it is written first and then held against its column, so that the next one goes over

@@ -1,7 +1,7 @@
 -- Indices of which none is outside and none twice: how the code finds it, and what it gives.
 -- Assumes nothing.
 use mathlib.Core.Path.{◌≡◌, refl, sym, ap, ◌∙◌}
-use mathlib.Core.Bool.{Bool, true, false, cond}
+use mathlib.Core.Bool.{Bool, true, false, cond, ◌||◌}
 use mathlib.Core.List.{List}
 use Prim.Native.Nat.{ℕ, zero, suc, ◌+◌, ◌<◌, ◌≤◌, max}
 use native.Mathlib.Omega.{arith}
@@ -9,6 +9,7 @@ use native.Mathlib.Decide.{dec_lt}
 use lib.ListN.{length, get_or, replicate, length-replicate, get_or-replicate}
 use lib.Dec.{eqb, leb, ltb}
 use borrow.Author.Tests.{eq-eqb, ne_eqb, eqb-false, ltb-false, leb-false, lt-leb, le-leb, le-ltb}
+use Rattle.std.proofs.Math.Bool.{or_comm}
 use Rattle.laws.specs.Lists.{elem, any_below}
 use Rattle.laws.specs.Turns.{up_to}
 use Rattle.laws.proofs.Any.{below_none, below_at, below_false, below_next, any_head, any_rest, any_not, any_none}
@@ -85,23 +86,23 @@ module _ (map : List ℕ) where
       (λ j h. below_none (λ i. eqb (elem map i) (elem map j)) j (λ i l. ne_eqb (elem map i) (elem map j) (λ s. omega (arith, o.same i j (omega arith) h s))))
 
   -- the marks that the first j indices left, at the next one
-  module _ {size : ℕ} (w : Within size map) (j : ℕ) (h : j < length map) {seen : List ℕ} {index : ℕ}
-      (marks : seen ≡ put_each (elem map) (λ _. 1) j (replicate size 0)) (here : index ≡ elem map j) where
+  module _ {size : ℕ} (w : Within size map) (j : ℕ) (h : j < length map) {seen : List Bool} {index : ℕ}
+      (marks : seen ≡ put_each (elem map) (λ _. true) j (replicate size false)) (here : index ≡ elem map j) where
     pub index_low : index < size
     index_low = omega (arith, w.below j h)
 
-    mark : Last (elem map) (λ _. 1) j (elem map j) 0 (get_or seen index 0)
+    mark : Last (elem map) (λ _. true) j (elem map j) false (get_or seen index false)
     mark =
-        let l = put_last {A = ℕ} (elem map) (λ _. 1) j (replicate size 0) (elem map j) 0 (rw (length-replicate {A = ℕ} size 0) (w.below j h)) in
-        rw (marks, here) (rw (get_or-replicate {A = ℕ} size (elem map j) 0 0 (w.below j h)) at l)
+        let l = put_last {A = Bool} (elem map) (λ _. true) j (replicate size false) (elem map j) false (rw (length-replicate {A = Bool} size false) (w.below j h)) in
+        rw (marks, here) (rw (get_or-replicate {A = Bool} size (elem map j) false false (w.below j h)) at l)
 
     pub twice_next : {twice : Bool} → twice ≡ any_below j (λ k. any_below k (λ i. eqb (elem map i) (elem map k)))
-        → cond (eqb (get_or seen index 0) 0) twice true ≡ any_below (j + 1) (λ k. any_below k (λ i. eqb (elem map i) (elem map k)))
+        → twice || get_or seen index false ≡ any_below (j + 1) (λ k. any_below k (λ i. eqb (elem map i) (elem map k)))
     twice_next {twice} e = go mark ∙ below_next (λ k. any_below k (λ i. eqb (elem map i) (elem map k))) j twice e
       where
-        go : {y : ℕ} → Last (elem map) (λ _. 1) j (elem map j) 0 y → cond (eqb y 0) twice true ≡ cond (any_below j (λ i. eqb (elem map i) (elem map j))) true twice
-        go (found i b e rest) = rw (below_at (λ i. eqb (elem map i) (elem map j)) j i b (eq-eqb _ _ e))
-        go (none rest) = rw (below_none (λ i. eqb (elem map i) (elem map j)) j (λ i l. ne_eqb _ _ (rest i l)))
+        go : {y : Bool} → Last (elem map) (λ _. true) j (elem map j) false y → twice || y ≡ cond (any_below j (λ i. eqb (elem map i) (elem map j))) true twice
+        go (found i b e rest) = rw (below_at (λ i. eqb (elem map i) (elem map j)) j i b (eq-eqb _ _ e)) (or_comm twice true)
+        go (none rest) = rw (below_none (λ i. eqb (elem map i) (elem map j)) j (λ i l. ne_eqb _ _ (rest i l))) (or_comm twice false)
 
 -- ---- 20 whole
 

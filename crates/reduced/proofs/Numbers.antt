@@ -17,7 +17,7 @@ use Rattle.tables.specs.Check.{bad_order}
 use Rattle.tables.proofs.Checks.{order_range, order_rising, order_passes, table_lent, lent_table}
 use Rattle.limits.specs.Limits.{most_sign_entries, most_size}
 use Rattle.reduced.specs.Indices.{index_refused}
-use Rattle.reduced.specs.declared.from_principal_submatrix.Reduced.TheVariants.{Count, Refused}
+use Rattle.std.specs.Prelude.{Ok, Err}
 use Rattle.reduced.specs.Submatrix.{Slices, table_in, value_in, reduced_places, slices_short, input_number, submatrix_number, Reduces, Input, Acceptable}
 use Rattle.reduced.specs.Scatter.{Reducible}
 use Rattle.reduced.proofs.Distinct.{index_mapped, mapped_index, within_up}
@@ -50,13 +50,13 @@ module _ {most_sign_entries count : ℕ} {s : Slices} where
 -- ---- the returns
 
 module _ {size count : ℕ} {from : Slices} {map fixed : List ℕ} {to : Slices} where
-  pub reduces_from : {b : Bool} → b ≡ slices_short most_sign_entries count from → b ≡ true → Reduces size count from map fixed to (Refused 31) to
+  pub reduces_from : {b : Bool} → b ≡ slices_short most_sign_entries count from → b ≡ true → Reduces size count from map fixed to (Err 31) to
   unfolding submatrix_number
   reduces_from e t =
       record { numbered = sym (first_here 30 _ _ (sym e ∙ t)); refused = λ _. refl; accepted = λ z. absurd (omega arith) }
 
   pub reduces_to : {b d : Bool} → b ≡ slices_short most_sign_entries count from → b ≡ false → d ≡ slices_short most_sign_entries count to → d ≡ true
-      → Reduces size count from map fixed to (Refused 31) to
+      → Reduces size count from map fixed to (Err 31) to
   unfolding submatrix_number
   reduces_to e f g t =
       record {
@@ -81,13 +81,13 @@ module _ {size count : ℕ} {from : Slices} {map fixed : List ℕ} {to : Slices}
   unfolding submatrix_number
   is_number = j.number ∙ sym (first_skip 31 _ _ j.from_long ∙ first_skip 31 _ _ j.to_long ∙ first_last _)
 
-  pub reduces_input : (r ≡ 0 → ⊥) → Reduces size count from map fixed to (Refused r) to
+  pub reduces_input : (r ≡ 0 → ⊥) → Reduces size count from map fixed to (Err r) to
   reduces_input n = record { numbered = is_number; refused = λ _. refl; accepted = λ z. absurd (n z) }
 
   pub reduces_done : {n : ℕ} {to' : Slices} → r ≡ 0 → n ≡ length (reduced_places (table_in count from) map)
       → Wrote (value_in (table_in count from) map) (reduced_places (table_in count from) map) 0 to.rows to.cols to.values to'.rows to'.cols to'.values
-      → Reduces size count from map fixed to (Count n) to'
-  reduces_done z e w = record { numbered = sym z ∙ is_number; refused = λ n. absurd (n refl); accepted = λ _. (ap Count e, w) }
+      → Reduces size count from map fixed to (Ok n) to'
+  reduces_done z e w = record { numbered = sym z ∙ is_number; refused = λ n. absurd (n refl); accepted = λ _. (ap Ok e, w) }
 
 -- ---- where the input is not refused
 

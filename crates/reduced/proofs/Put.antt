@@ -6,10 +6,12 @@ use Prim.Native.Nat.{ℕ, zero, suc, ◌+◌, ◌<◌, ◌≤◌}
 use native.Mathlib.Omega.{arith}
 use native.Mathlib.Numerals.{add-one}
 use native.Mathlib.Decide.{ℕ_discrete}
-use lib.ListN.{length, get_or, set, take, drop, length-set}
-use lib.Seq.{get_or-set_same, get_or-set_other, set-append_left}
+use lib.ListN.{length, get_or, set, take, drop, replicate, length-set}
+use lib.Seq.{length-take-le, get_or-set_same, get_or-set_other, set-append_left}
 use Rattle.laws.specs.Turns.{up_to}
 use Rattle.laws.specs.Rows.{map_first}
+use Rattle.laws.specs.Lists.{fill}
+use Rattle.laws.proofs.MapFirst.{map_first_const}
 use Rattle.reduced.specs.Indices.{put_each}
 
 -- x is the value of the last of the first n indices that is k, or d where none is
@@ -85,3 +87,9 @@ unfolding map_first
 front_map_first f zero xs = refl
 front_map_first f (suc n) [] = refl
 front_map_first {A} f (suc n) (x ∷ xs) = ap (λ (l : List A). f zero x ∷ l) (front_map_first (λ j. f (suc j)) n xs)
+
+-- the first places filled with one value, by themselves
+pub filled : {A : Type 0} (a : A) (n : ℕ) (xs : List A) {front : List A} → n ≤ length xs → front ≡ replicate (length (take n xs)) a → front ++ drop n xs ≡ fill (λ _. a) n xs
+filled {A} a n xs h e =
+    ap (λ (l : List A). l ++ drop n xs) (e ∙ sym (map_first_const a (take n xs)) ∙ ap (λ m. fill (λ _. a) m (take n xs)) (length-take-le n xs h))
+    ∙ front_map_first (λ _ _. a) n xs

@@ -14,12 +14,12 @@ use Rattle.tables.proofs.Mirrors.{value_here, stored_true, stored_here}
 use Rattle.tables.proofs.Kept.{place_at, places_have, row_listed, col_listed, value_listed}
 use Rattle.tables.proofs.Slices.{Same, written_same}
 use Rattle.limits.specs.Limits.{most_sign_entries, most_size}
-use Rattle.reduced.specs.declared.from_principal_submatrix.Reduced.TheVariants.{Count}
+use Rattle.std.specs.Prelude.{Result, Ok}
 use Rattle.reduced.specs.Submatrix.{Slices, table_in, kept_in, value_in, reduced_places, Reduces, Acceptable, Stands}
 use Rattle.reduced.proofs.Numbers.{submatrix_accepted, input_reducible}
 use Rattle.reduced.proofs.Entries.{places_rising, reduced_few}
 
-counted : {n m : ℕ} → Count n ≡ Count m → n ≡ m
+counted : {n m : ℕ} → ◌≡◌ {A = Result ℕ ℕ} (Ok n) (Ok m) → n ≡ m
 counted e = cc
 
 -- the kept places of the reduced table, and what the table they come from holds there
@@ -50,7 +50,7 @@ module _ {t : Table} (ri : Rising t) (map : List ℕ) where
       let (k, h, e) = places_have (kept_in t map) (length map) (length map) i j a b (stored_here t (elem map i) (elem map j) s.entry s.inside s.row_is s.column_is) in
       (k, h, e, value_here ri (elem map i) (elem map j) s.entry s.inside s.row_is s.column_is ∙ s.value_is)
 
-module _ {size count : ℕ} {from : Slices} {map fixed : List ℕ} {to : Slices} {n : ℕ} {to' : Slices} (call : Reduces size count from map fixed to (Count n) to') where
+module _ {size count : ℕ} {from : Slices} {map fixed : List ℕ} {to : Slices} {n : ℕ} {to' : Slices} (call : Reduces size count from map fixed to (Ok n) to') where
   ok : Acceptable most_size most_sign_entries size count from map fixed to
   ok = submatrix_accepted (sym call.numbered)
 

@@ -1,29 +1,21 @@
 // Number 20: the original size, the map and the fixed indices. Nothing here is written but a local array.
-ghost use Rattle.std.specs.Prelude.{◌≡◌, true, cond, max, eqb};
+ghost use Rattle.std.specs.Prelude.{◌≡◌};
 ghost use Rattle.laws.specs.Refusal.{◌if◌};
+ghost use Rattle.refusal.specs.Number.{numbered};
 ghost use Rattle.limits.specs.Limits.{most_size};
 ghost use Rattle.reduced.specs.Indices.{greatest, outside, twice, index_refused, Within};
 
 use limits::MOST_SIZE;
+use refusal::Refusal;
 use tables::check::wide;
-
-// The greater of the two.
-fn greater(x: u16, y: u16) -> u16
-    ensures { result ≡ max x y }
-{
-    if x < y {
-        return y;
-    }
-    x
-}
 
 // The greatest index, 0 where there is none.
 fn greatest(indices: &[u16]) -> u16
     ensures { result ≡ greatest indices.now }
 {
-    let mut most = 0;
+    let mut most: u16 = 0;
     for j in 0..indices.len() {
-        most = greater(most, indices[j]);
+        most = most.max(indices[j]);
     }
     most
 }
@@ -38,46 +30,36 @@ fn any_outside(size: usize, indices: &[u16]) -> bool
     size <= wide(greatest(indices))
 }
 
-// Whether an index is twice by now, after one more that has this mark.
-fn twice_by(found: bool, mark: u8) -> bool
-    ensures { result ≡ cond (eqb mark 0) found true }
-{
-    if mark != 0 {
-        return true;
-    }
-    found
-}
-
 // Whether an index is in the map twice: `seen` marks those passed. It goes on to the end, without a branch for each index.
 fn any_twice(variable_map: &[u16]) -> bool
     requires { Within most_size variable_map.now }
     ensures { result ≡ twice variable_map.now }
 {
-    let mut seen = [0u8; MOST_SIZE];
+    let mut seen = [false; MOST_SIZE];
     let mut found = false;
     for j in 0..variable_map.len() {
         let index = wide(variable_map[j]);
-        found = twice_by(found, seen[index]);
-        seen[index] = 1;
+        found |= seen[index];
+        seen[index] = true;
     }
     found
 }
 
-// 20: a size, a map index or a fixed index out of its limits, or a map index twice; 0 for none.
-pub fn index_refusal(size: usize, variable_map: &[u16], fixed_index: &[u16]) -> u8
-    ensures { result ≡ 20 if index_refused most_size size variable_map.now fixed_index.now }
+// 20: a size, a map index or a fixed index out of its limits, or a map index twice.
+pub fn index_refusal(size: usize, variable_map: &[u16], fixed_index: &[u16]) -> Result<(), Refusal>
+    ensures { numbered result ≡ 20 if index_refused most_size size variable_map.now fixed_index.now }
 {
     if MOST_SIZE < size {
-        return 20;
+        return Err(Refusal::Index);
     }
     if any_outside(size, variable_map) {
-        return 20;
+        return Err(Refusal::Index);
     }
     if any_twice(variable_map) {
-        return 20;
+        return Err(Refusal::Index);
     }
     if any_outside(size, fixed_index) {
-        return 20;
+        return Err(Refusal::Index);
     }
-    0
+    Ok(())
 }

@@ -1,34 +1,23 @@
 // `lift_solution`: a reduced solution over the original indices.
 ghost use Rattle.std.specs.Prelude.{◌≡◌, ◌≤◌, length};
-ghost use Rattle.laws.specs.Lists.{elem, fill};
-ghost use Rattle.ieee.specs.Floats.{at, zero64};
+ghost use Rattle.laws.specs.Lists.{fill};
+ghost use Rattle.ieee.specs.Floats.{zero64};
+ghost use Rattle.refusal.specs.Number.{numbered};
 ghost use Rattle.limits.specs.Limits.{most_size};
-ghost use Rattle.reduced.specs.Indices.{put_each, Within, Mapped};
+ghost use Rattle.reduced.specs.Indices.{Mapped};
 ghost use Rattle.reduced.specs.Lift.{lifted_of, lift_short, LiftLent, Lifts};
 
+use crate::at_indices::put_each;
 use crate::indices::index_refusal;
 use limits::MOST_SIZE;
-use tables::check::wide;
+use refusal::Refusal;
 
 // 0.0 at the first places.
 fn clear(size: usize, lifted: &mut [f64])
     requires { size ≤ length lifted.old }
     ensures { lifted.new ≡ fill (λ _. zero64) size lifted.old }
 {
-    for k in 0..size {
-        lifted[k] = 0.0;
-    }
-}
-
-// Each value at its index, in order.
-fn put_each(indices: &[u16], values: &[f64], lifted: &mut [f64])
-    requires { Within (length lifted.old) indices.now × (length indices.now ≤ length values.now) }
-    ensures { lifted.new ≡ put_each (elem indices.now) (at values.now) (length indices.now) lifted.old }
-{
-    for j in 0..indices.len() {
-        let index = wide(indices[j]);
-        lifted[index] = values[j];
-    }
+    lifted[..size].fill(0.0);
 }
 
 // 0.0 everywhere, over it the fixed values, over them the reduced solution, each at its index.
@@ -73,7 +62,7 @@ fn lift_short(
     lifted < size
 }
 
-// The reduced solution over the original indices, in the first places, the others as they were; 0, or the refusal, which writes nothing.
+// The reduced solution over the original indices, in the first places, the others as they were; a refusal writes nothing.
 pub fn lift_solution(
     size: usize,
     variable_map: &[u16],
@@ -81,9 +70,9 @@ pub fn lift_solution(
     fixed_value: &[f64],
     reduced_solution: &[f64],
     lifted: &mut [f64],
-) -> u8
+) -> Result<(), Refusal>
     ensures { Lifts size variable_map.now fixed_index.now fixed_value.now reduced_solution.now
-        lifted.old result lifted.new }
+        lifted.old (numbered result) lifted.new }
 {
     if lift_short(
         size,
@@ -93,12 +82,9 @@ pub fn lift_solution(
         reduced_solution.len(),
         lifted.len(),
     ) {
-        return 31;
+        return Err(Refusal::Slice);
     }
-    let refusal = index_refusal(size, variable_map, fixed_index);
-    if refusal != 0 {
-        return refusal;
-    }
+    index_refusal(size, variable_map, fixed_index)?;
     put_lifted(
         size,
         variable_map,
@@ -107,5 +93,5 @@ pub fn lift_solution(
         reduced_solution,
         &mut lifted[..size],
     );
-    0
+    Ok(())
 }

@@ -1,6 +1,8 @@
 -- `exhaustive::check::walk_number` meets its contract. Assumes nothing.
-use mathlib.Core.Path.{sym, ◌∙◌}
+use mathlib.Core.Path.{sym, ap, ◌∙◌}
 use Rattle.laws.proofs.Refusal.{first_here, first_skip, first_found, first_next, first_end}
+use Rattle.refusal.specs.Number.{numbered}
+use Rattle.refusal.proofs.Passed.{passed, some_number}
 use Rattle.exhaustive.specs.Contract.{walk_number}
 use Rattle.exhaustive.proofs.Numbers.{slices_lent}
 use Rattle.exhaustive.proofs.check.walk_number.Goals as goal
@@ -9,17 +11,17 @@ pub returns-then-slices_short : goal.returns-then-slices_short
 unfolding walk_number
 returns-then-slices_short c = sym (first_here 30 _ _ (sym c.slices_short.ensures ∙ c.if-slices_short.true))
 
-pub house_number-house-requires : goal.house_number-house-requires
-house_number-house-requires c = λ h. slices_lent c.args.n c.args.count c.args.rows.now c.args.cols.now c.args.values.now c.args.c.now c.args.b (sym c.slices_short.ensures ∙ c.if-slices_short.false) h
+pub house_number-requires : goal.house_number-requires
+house_number-requires c = λ h. slices_lent c.args.n c.args.count c.args.rows.now c.args.cols.now c.args.values.now c.args.c.now c.args.b (sym c.slices_short.ensures ∙ c.if-slices_short.false) h
 
-pub returns-then-house-ne0 : goal.returns-then-house-ne0
+pub returns-in_err-house_number : goal.returns-in_err-house_number
 unfolding walk_number
-returns-then-house-ne0 c = c.house_number-house.ensures ∙ sym (first_skip 31 _ _ (sym c.slices_short.ensures ∙ c.if-slices_short.false) ∙ first_found _ _ (λ e. c.if-house-ne0.true (c.house_number-house.ensures ∙ e)))
+returns-in_err-house_number c = ap numbered (passed c.from_residual.ensures.1) ∙ c.in_err-house_number.ensures ∙ sym (first_skip 31 _ _ (sym c.slices_short.ensures ∙ c.if-slices_short.false) ∙ first_found _ _ (λ e. some_number _ (c.in_err-house_number.ensures ∙ e)))
 
 pub returns-then-many : goal.returns-then-many
 unfolding walk_number
-returns-then-many c = sym (first_skip 31 _ _ (sym c.slices_short.ensures ∙ c.if-slices_short.false) ∙ first_next _ _ (sym c.house_number-house.ensures ∙ c.if-house-ne0.false) ∙ first_here 23 _ _ (sym c.many.ensures ∙ c.if-many.true))
+returns-then-many c = sym (first_skip 31 _ _ (sym c.slices_short.ensures ∙ c.if-slices_short.false) ∙ first_next _ _ (sym c.in_ok-house_number.ensures) ∙ first_here 23 _ _ (sym c.many.ensures ∙ c.if-many.true))
 
 pub returns : goal.returns
 unfolding walk_number
-returns c = sym (first_skip 31 _ _ (sym c.slices_short.ensures ∙ c.if-slices_short.false) ∙ first_next _ _ (sym c.house_number-house.ensures ∙ c.if-house-ne0.false) ∙ first_skip 24 _ _ (sym c.many.ensures ∙ c.if-many.false) ∙ first_end)
+returns c = sym (first_skip 31 _ _ (sym c.slices_short.ensures ∙ c.if-slices_short.false) ∙ first_next _ _ (sym c.in_ok-house_number.ensures) ∙ first_skip 24 _ _ (sym c.many.ensures ∙ c.if-many.false) ∙ first_end)

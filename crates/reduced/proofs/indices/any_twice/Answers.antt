@@ -1,6 +1,5 @@
 -- `reduced::indices::any_twice` meets its contract. What is found is the definition at j, the marks are those of the first j. Assumes nothing.
-use borrow.Author.Rules.{rules}
-use mathlib.Core.Path.{◌≡◌, refl, ◌∙◌}
+use mathlib.Core.Path.{◌≡◌, refl}
 use native.Mathlib.Omega.{arith}
 use lib.ListN.{length}
 use Rattle.laws.specs.Lists.{any_below}
@@ -12,17 +11,17 @@ use Rattle.reduced.proofs.indices.any_twice.Goals as goal
 
 pub loop-j-init : goal.loop-j-init
 unfolding any_below up_to
-loop-j-init c = (search rules, refl, refl)
+loop-j-init c = (refl, refl)
 
 pub bounds-seen-index : goal.bounds-seen-index
-bounds-seen-index c = index_low c.args.variable_map.now c.requires _ c.loop-j-test.true c.loop-j.invariant.2 c.wide-index.ensures
+bounds-seen-index c = index_low c.args.variable_map.now c.requires _ c.loop-j-test.true c.loop-j.invariant.1 c.wide-index.ensures
 
 pub bounds-seen-index-in-loop-j : goal.bounds-seen-index-in-loop-j
-bounds-seen-index-in-loop-j c = index_low c.args.variable_map.now c.requires _ c.loop-j-test.true c.loop-j.invariant.2 c.wide-index.ensures
+bounds-seen-index-in-loop-j c = index_low c.args.variable_map.now c.requires _ c.loop-j-test.true c.loop-j.invariant.1 c.wide-index.ensures
 
 pub loop-j-preserved : goal.loop-j-preserved
-loop-j-preserved c = (search rules, c.twice_by-found.ensures ∙ twice_next c.args.variable_map.now c.requires _ c.loop-j-test.true c.loop-j.invariant.2 c.wide-index.ensures c.loop-j.invariant.1, put_next _ _ _ _ c.loop-j.invariant.2 c.wide-index.ensures refl)
+loop-j-preserved c = (twice_next c.args.variable_map.now c.requires _ c.loop-j-test.true c.loop-j.invariant.1 c.wide-index.ensures c.loop-j.invariant.0, put_next _ _ _ _ c.loop-j.invariant.1 c.wide-index.ensures refl)
 
 pub returns : goal.returns
 unfolding twice
-returns c = let e : c.loop-j.j ≡ length c.args.variable_map.now = omega arith in rw e at c.loop-j.invariant.1
+returns c = let e : c.loop-j.j ≡ length c.args.variable_map.now = omega arith in rw e at c.loop-j.invariant.0

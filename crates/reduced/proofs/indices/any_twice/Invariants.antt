@@ -1,15 +1,12 @@
 -- `reduced::indices::any_twice` meets its contract. What is found is the definition at j, the marks are those of the first j. Assumes nothing.
 use mathlib.Core.Path.{◌≡◌}
-use Prim.Native.Nat.{◌≤◌, ◌-◌}
 use lib.Dec.{eqb}
-use lib.ListN.{length, replicate}
+use mathlib.Core.Bool.{true, false}
+use lib.ListN.{replicate}
 use Rattle.limits.specs.Limits.{most_size}
 use Rattle.laws.specs.Lists.{elem, any_below}
 use Rattle.reduced.specs.Indices.{put_each}
 use Rattle.reduced.proofs.indices.any_twice.Given as goal
 
 abbrev pub invariant-loop-j : goal.invariant-loop-j
-invariant-loop-j l = (l.j ≤ length l.variable_map) × (l.found ≡ any_below l.j (λ k. any_below k (λ i. eqb (elem l.variable_map i) (elem l.variable_map k)))) × (l.seen ≡ put_each (elem l.variable_map) (λ _. 1) l.j (replicate most_size 0))
-
-abbrev pub decreases-loop-j : goal.decreases-loop-j
-decreases-loop-j l = length l.variable_map - l.j
+invariant-loop-j l = (l.found ≡ any_below l.j (λ k. any_below k (λ i. eqb (elem l.variable_map i) (elem l.variable_map k)))) × (l.seen ≡ put_each (elem l.variable_map) (λ _. true) l.j (replicate most_size false))

@@ -13,8 +13,8 @@ unfolding up_to
 loop-j-init c = search rules
 
 pub loop-j-preserved : goal.loop-j-preserved
-loop-j-preserved c = (omega arith, c.greater-most.ensures ∙ up_to_next _ _ _ _ c.loop-j.invariant.1)
+loop-j-preserved c = c.max-most.ensures ∙ up_to_next _ _ _ _ c.loop-j.invariant
 
 pub returns : goal.returns
 unfolding greatest
-returns c = let e : c.loop-j.j ≡ length c.args.indices.now = omega arith in rw e at c.loop-j.invariant.1
+returns c = let e : c.loop-j.j ≡ length c.args.indices.now = omega arith in rw e at c.loop-j.invariant
