@@ -1,10 +1,18 @@
 -- Lists of floats, element by element, and the projection (005). Definitions only.
-use Rattle.std.specs.Prelude.{ℕ, List, Float, length}
+use Rattle.std.specs.Prelude.{ℕ, ◌≡◌, ◌<◌, List, Float, length}
 use Rattle.laws.specs.Turns.{up_to}
 use Rattle.laws.specs.Rows.{map_first, row_of, set_row}
 use Rattle.ieee.specs.Floats.{◌+ᶠ◌, ◌-ᶠ◌, ◌*ᶠ◌, ◌/ᶠ◌, at}
 use Rattle.ieee.specs.Sqrt.{sqrt_of}
 use Rattle.factor.specs.Norms.{dot_of}
+
+-- ys is xs with each element x changed to a y with R x y
+abbrev pub Updated : (Float → Float → Type 0) → List Float → List Float → Type 0
+Updated R xs ys = (length ys ≡ length xs) × ((j : ℕ) → j < length xs → R (at xs j) (at ys j))
+
+-- with R x s y, where s is the element of source at the place of x
+abbrev pub UpdatedWith : (Float → Float → Float → Type 0) → List Float → List Float → List Float → Type 0
+UpdatedWith R source xs ys = (length ys ≡ length xs) × ((j : ℕ) → j < length xs → R (at xs j) (at source j) (at ys j))
 
 -- acc with weight times source added, element by element
 unfoldable pub add_scaled : Float → List Float → List Float → List Float

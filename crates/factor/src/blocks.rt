@@ -7,37 +7,29 @@ ghost use Rattle.factor.specs.Shapes.{ColumnsWithin};
 ghost use Rattle.factor.specs.Columns.{column_of};
 ghost use Rattle.factor.specs.Multiply.{product_row};
 
+use super::block::put_block;
 use super::columns::column;
 
-// As many whole blocks of 16 columns as there are; how many columns they are.
-fn put_blocks16(cols: &[u16], values: &[f64], factor: &[f64], g: &mut [f64]) -> usize
-    requires cols_len { length cols.now ≡ length values.now }
-    requires columns_within { ColumnsWithin cols.now (length g.old) factor.now }
-    ensures { (result ≤ length g.old) × (g.new ≡ over
-        (tabulate (column_of cols.now values.now factor.now (length g.old)) result) g.old) }
-{
-    let rank = g.len();
-    let mut offset = 0;
-    while rank - offset >= 16 {
-        super::block16::put_block(cols, values, factor, offset, g);
-        offset += 16;
-    }
-    offset
-}
-
-// As many whole blocks of 4 columns as there are from `first` on; the first column that is left.
-fn put_blocks4(cols: &[u16], values: &[f64], factor: &[f64], first: usize, g: &mut [f64]) -> usize
+// As many whole blocks of N columns as there are from `first` on; the first column that is left.
+fn put_blocks<const N: usize>(
+    cols: &[u16],
+    values: &[f64],
+    factor: &[f64],
+    first: usize,
+    g: &mut [f64],
+) -> usize
+    requires n_positive { 0 < N }
     requires first_in_bounds { (first ≤ length g.old) × (length cols.now ≡ length values.now) }
     requires columns_within { ColumnsWithin cols.now (length g.old) factor.now }
     requires g_value { take first g.old ≡ tabulate (column_of cols.now values.now factor.now (length g.old)) first }
-    ensures { (result ≤ length g.old) × (length g.old < result + 4)
+    ensures { (result ≤ length g.old) × (length g.old < result + N)
         × (g.new ≡ over (tabulate (column_of cols.now values.now factor.now (length g.old)) result) g.old) }
 {
     let rank = g.len();
     let mut offset = first;
-    while rank - offset >= 4 {
-        super::block4::put_block(cols, values, factor, offset, g);
-        offset += 4;
+    while rank - offset >= N {
+        put_block::<N>(cols, values, factor, offset, g);
+        offset += N;
     }
     offset
 }
@@ -58,7 +50,7 @@ fn put_rest(cols: &[u16], values: &[f64], factor: &[f64], first: usize, g: &mut 
         g[first] = column(cols, values, factor, rank, first);
         return;
     }
-    super::block4::put_block(cols, values, factor, rank - 4, g);
+    put_block::<4>(cols, values, factor, rank - 4, g);
 }
 
 // The row of the product, for a rank of at least 4.
@@ -67,7 +59,7 @@ pub fn multiply_blocks(cols: &[u16], values: &[f64], factor: &[f64], g: &mut [f6
     requires columns_within { ColumnsWithin cols.now (length g.old) factor.now }
     ensures { g.new ≡ product_row cols.now values.now factor.now (length g.old) }
 {
-    let whole = put_blocks16(cols, values, factor, g);
-    let first = put_blocks4(cols, values, factor, whole, g);
+    let whole = put_blocks::<16>(cols, values, factor, 0, g);
+    let first = put_blocks::<4>(cols, values, factor, whole, g);
     put_rest(cols, values, factor, first, g);
 }

@@ -4,8 +4,7 @@
 
 pub mod sums; // sums.rt: dot products, sums and squared norms
 pub mod rows; // rows.rt: a row at a time, and the projection
-pub mod block4; // block4.rt: 4 columns of a row of the table times the factor
-pub mod block16; // block16.rt: 16 columns
+pub mod block; // block.rt: a block of columns of a row of the table times the factor
 mod columns; // columns.rt: a column
 mod blocks; // blocks.rt: a row by blocks of columns
 pub mod product; // product.rt: the table times the factor

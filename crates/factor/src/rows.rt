@@ -3,7 +3,7 @@
 ghost use Rattle.std.specs.Prelude.{◌≡◌, ◌+◌, ◌*◌, ◌≤◌, length, replicate};
 ghost use Rattle.laws.specs.Rows.{row_of};
 ghost use Rattle.ieee.specs.Floats.{zero64};
-ghost use Rattle.factor.specs.Vectors.{add_scaled, sub_scaled, scaled, multiplied, divided, added, norm, unit, unit_row, projected};
+ghost use Rattle.factor.specs.Vectors.{Updated, UpdatedWith, add_scaled, sub_scaled, scaled, multiplied, divided, added, norm, unit, unit_row, projected};
 
 use super::sums::dot;
 
@@ -18,13 +18,32 @@ pub fn row(s: &[f64], rank: usize, i: usize) -> &[f64]
     &s[start..end]
 }
 
+// Every element x becomes f(x).
+fn update<F: Fn(f64) -> f64>(row: &mut [f64], f: F)
+    requires { F.IsAlwaysCallable f }
+    ensures { Updated (F.post f) row.old row.new }
+{
+    for j in 0..row.len() {
+        row[j] = f(row[j]);
+    }
+}
+
+// Every element x becomes f(x, y), with y the element of `source` at its place.
+fn update_with<F: Fn(f64, f64) -> f64>(acc: &mut [f64], source: &[f64], f: F)
+    requires same_length { length acc.old ≡ length source.now }
+    requires callable { F.IsAlwaysCallable f }
+    ensures { UpdatedWith (F.post f) source.now acc.old acc.new }
+{
+    for j in 0..acc.len() {
+        acc[j] = f(acc[j], source[j]);
+    }
+}
+
 // Every element becomes 0.0.
 pub fn clear(g: &mut [f64])
     ensures { g.new ≡ replicate (length g.old) zero64 }
 {
-    for j in 0..g.len() {
-        g[j] = 0.0;
-    }
+    g.fill(0.0);
 }
 
 // The elements of `source`, copied.
@@ -32,9 +51,7 @@ pub fn copy(out: &mut [f64], source: &[f64])
     requires { length out.old ≡ length source.now }
     ensures { out.new ≡ source.now }
 {
-    for j in 0..out.len() {
-        out[j] = source[j];
-    }
+    out.copy_from_slice(source);
 }
 
 // `weight` times `source` added to `acc`.
@@ -42,9 +59,7 @@ pub fn add_scaled(acc: &mut [f64], weight: f64, source: &[f64])
     requires { length acc.old ≡ length source.now }
     ensures { acc.new ≡ add_scaled weight source.now acc.old }
 {
-    for j in 0..acc.len() {
-        acc[j] = acc[j] + weight * source[j];
-    }
+    update_with(acc, source, |x, y| x + weight * y);
 }
 
 // `acc` less `weight` times `source`.
@@ -52,36 +67,28 @@ pub fn subtract_scaled(acc: &mut [f64], weight: f64, source: &[f64])
     requires { length acc.old ≡ length source.now }
     ensures { acc.new ≡ sub_scaled weight source.now acc.old }
 {
-    for j in 0..acc.len() {
-        acc[j] = acc[j] - weight * source[j];
-    }
+    update_with(acc, source, |x, y| x - weight * y);
 }
 
 // Each element times `by`.
 pub fn scale(row: &mut [f64], by: f64)
     ensures { row.new ≡ scaled by row.old }
 {
-    for j in 0..row.len() {
-        row[j] = row[j] * by;
-    }
+    update(row, |x| x * by);
 }
 
 // `by` times each element.
 pub fn multiply_by(xs: &mut [f64], by: f64)
     ensures { xs.new ≡ multiplied by xs.old }
 {
-    for j in 0..xs.len() {
-        xs[j] = by * xs[j];
-    }
+    update(xs, |x| by * x);
 }
 
 // Each element divided by `by`.
 pub fn divide(row: &mut [f64], by: f64)
     ensures { row.new ≡ divided by row.old }
 {
-    for j in 0..row.len() {
-        row[j] = row[j] / by;
-    }
+    update(row, |x| x / by);
 }
 
 // `source` added to `acc`.
@@ -89,9 +96,7 @@ pub fn add(acc: &mut [f64], source: &[f64])
     requires { length acc.old ≡ length source.now }
     ensures { acc.new ≡ added source.now acc.old }
 {
-    for j in 0..acc.len() {
-        acc[j] = acc[j] + source[j];
-    }
+    update_with(acc, source, |x, y| x + y);
 }
 
 // The norm of a row: the root of its sum of squares.

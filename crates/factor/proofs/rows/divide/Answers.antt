@@ -1,21 +1,10 @@
--- `factor::rows::divide` meets its contract. The first j elements are rewritten. Assumes nothing.
-use mathlib.Core.Path.{◌≡◌}
-use native.Mathlib.Omega.{arith}
+-- `factor::rows::divide` meets its contract. By what its callee ensures of each element. Assumes nothing.
 use borrow.Author.Rules.{rules}
-use lib.Ieee.{nan}
-use lib.ListN.{length, length-set}
-use Rattle.laws.proofs.MapFirst.{map_first_next}
-use Rattle.laws.specs.Rows.{map_first}
+use Rattle.ieee.specs.Floats.{◌/ᶠ◌}
 use Rattle.factor.specs.Vectors.{divided}
+use Rattle.factor.proofs.Updates.{updated_is}
 use Rattle.factor.proofs.rows.divide.Goals as goal
-
-pub loop-j-init : goal.loop-j-init
-unfolding map_first
-loop-j-init c = search rules
-
-pub loop-j-preserved : goal.loop-j-preserved
-loop-j-preserved c = (omega arith, omega arith, simp length-set (omega arith), map_first_next _ _ _ _ nan c.loop-j.invariant.3)
 
 pub returns : goal.returns
 unfolding divided
-returns c = let e : c.loop-j.j ≡ length c.args.row.now = omega arith in cc
+returns c = updated_is (λ j x. x /ᶠ c.args.by) _ _ (c.update.ensures.0, λ j h. let is = c.update.ensures.1 j h in search rules)

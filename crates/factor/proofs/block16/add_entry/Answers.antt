@@ -1,6 +1,0 @@
--- `factor::block16::add_entry` meets its contract. By what its callee ensures. Assumes nothing.
-use native.Mathlib.Nat.{add-sub_cancel_left}
-use Rattle.factor.proofs.block16.add_entry.Goals as goal
-
-pub returns : goal.returns
-returns c = rw add-sub_cancel_left at c.add.ensures
