@@ -1,50 +1,22 @@
 -- What the exported calls promise: those of a run by the predicates of run_contract, on words; those that answer a value by what the call answers,
 -- made of the number and of what is lent for the value.
-use Rattle.std.specs.Prelude.{ℕ, zero, suc, ◌≤◌, ◌<◌, ◌≡◌, List, ℤ, Float, length}
+use Rattle.std.specs.Prelude.{ℕ, zero, suc, ◌≤◌, ◌<◌, ◌≡◌, List, ℤ, Float, length, Result, Ok, Err}
 use Rattle.laws.specs.Lists.{over}
-use Rattle.table_calls.specs.declared.Eighths.{Eighths}
-use Rattle.table_calls.specs.declared.Eighths.TheVariants as E
-use Rattle.table_calls.specs.declared.Bound.{Bound}
-use Rattle.table_calls.specs.declared.Bound.TheVariants as B
-use Rattle.table_calls.specs.declared.Entries.{Entries}
-use Rattle.table_calls.specs.declared.Entries.TheVariants as T
-use Rattle.sign_calls.specs.declared.Apart.{Apart}
-use Rattle.sign_calls.specs.declared.Apart.TheVariants as A
 use Rattle.sdp_local_search.specs.declared.BeamSearched.{BeamSearched}
 use Rattle.sdp_local_search.specs.declared.BeamSearched.TheVariants as S
 use Rattle.limited_search.specs.declared.Limited.{Limited}
 use Rattle.limited_search.specs.declared.Limited.TheVariants as L
-use Rattle.reduced.specs.declared.from_principal_submatrix.Reduced.{Reduced}
-use Rattle.reduced.specs.declared.from_principal_submatrix.Reduced.TheVariants as R
-use Rattle.exhaustive.specs.declared.Walked.{Walked}
-use Rattle.exhaustive.specs.declared.Walked.TheVariants as W
 use Rattle.run_record.specs.declared.Run.{Run}
 use Rattle.run_record.specs.CostTable.{CostTable}
-use Rattle.run_contract.specs.declared.Opened.{Opened}
-use Rattle.run_contract.specs.declared.Opened.TheVariants as O
 use Rattle.run_contract.specs.declared.FinishResult.{FinishResult}
-use Rattle.run_contract.specs.declared.Finished.{Finished}
-use Rattle.run_contract.specs.declared.Finished.TheVariants as F
 use Rattle.run_contract.specs.Calls.{Opens, Sweeps, Finishes}
 use Rattle.exports.specs.Words.{run_words, setting_words, result_words, run_in, words_of, settings_in, result_words_of}
 
 -- ---- what a call answered, of its number and of what came with it
 
-abbrev pub eighths_by : ℕ → ℤ → Eighths
-eighths_by zero value = E.Value value
-eighths_by (suc k) value = E.Refused (suc k)
-
-abbrev pub bound_by : ℕ → Float → Bound
-bound_by zero value = B.Value value
-bound_by (suc k) value = B.Refused (suc k)
-
-abbrev pub entries_by : ℕ → ℕ → Entries
-entries_by zero count = T.Count count
-entries_by (suc k) count = T.Refused (suc k)
-
-abbrev pub apart_by : ℕ → ℕ → Apart
-apart_by zero signs = A.Signs signs
-apart_by (suc k) signs = A.Refused (suc k)
+abbrev pub by_number : {A : Type 0} → ℕ → A → Result A ℕ
+by_number zero value = Ok value
+by_number (suc k) value = Err (suc k)
 
 abbrev pub searched_by : ℕ → ℤ → ℕ → BeamSearched
 searched_by zero objective rounds = S.Found objective rounds
@@ -53,22 +25,6 @@ searched_by (suc k) objective rounds = S.Refused (suc k)
 abbrev pub limited_by : ℕ → ℤ → ℕ → Limited
 limited_by zero cost rounds = L.Found cost rounds
 limited_by (suc k) cost rounds = L.Refused (suc k)
-
-abbrev pub reduced_by : ℕ → ℕ → Reduced
-reduced_by zero count = R.Count count
-reduced_by (suc k) count = R.Refused (suc k)
-
-abbrev pub walked_by : ℕ → ℤ → ℕ → Walked
-walked_by zero cost visited = W.Result (record { cost = cost; visited = visited })
-walked_by (suc k) cost visited = W.Refused (suc k)
-
-abbrev pub opened_by : ℕ → Run → Opened
-opened_by zero run = O.Started run
-opened_by (suc k) run = O.Refused (suc k)
-
-abbrev pub finished_by : ℕ → FinishResult → Finished
-finished_by zero x = F.Result x
-finished_by (suc k) x = F.Refused (suc k)
 
 -- a refusal leaves what is lent for a value
 abbrev pub Stays : {A : Type 0} → ℕ → A → A → Type 0
@@ -87,7 +43,7 @@ pub record OpensWords (t : CostTable) (settings : List ℕ) (numbers factor : Li
   pub short_settings : length settings < setting_words → (number ≡ 31) × (factor' ≡ factor) × (words' ≡ words)
   pub short_words : length words < run_words → (number ≡ 31) × (factor' ≡ factor) × (words' ≡ words)
   pub opens : setting_words ≤ length settings → run_words ≤ length words
-      → Opens (settings_in t settings numbers) factor (opened_by number (run_in words')) factor' × (words' ≡ words_after number (words_of (run_in words')) words)
+      → Opens (settings_in t settings numbers) factor (by_number number (run_in words')) factor' × (words' ≡ words_after number (words_of (run_in words')) words)
 
 pub record SweepsWords (words : List ℕ) (t : CostTable) (k : ℕ) (factor : List Float) (number : ℕ) (words' : List ℕ) (factor' : List Float) : Type 0 where
   pub short_words : length words < run_words → (number ≡ 31) × (words' ≡ words) × (factor' ≡ factor)
@@ -100,5 +56,5 @@ pub record FinishesWords (words : List ℕ) (t : CostTable) (width draw_count : 
   pub short_words : length words < run_words → (number ≡ 31) × (b' ≡ b) × (dual' ≡ dual) × (workspace' ≡ workspace) × (result' ≡ result)
   pub short_result : length result < result_words → (number ≡ 31) × (b' ≡ b) × (dual' ≡ dual) × (workspace' ≡ workspace) × (result' ≡ result)
   pub finishes : run_words ≤ length words → result_words ≤ length result
-      → (x : FinishResult) × Finishes (run_in words) t width draw_count draws factor b dual workspace (finished_by number x) b' dual' workspace'
+      → (x : FinishResult) × Finishes (run_in words) t width draw_count draws factor b dual workspace (by_number number x) b' dual' workspace'
       × (result' ≡ words_after number (result_words_of x) result)

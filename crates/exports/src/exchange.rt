@@ -11,13 +11,11 @@ pub extern "C" fn wagonplan_raw_exchange_rule(words: &mut [u64], rule: u64, numb
     if words.len() < RUN_WORDS {
         return 31;
     }
-    let run = run_in(words);
-    let exchanged = exchange_rule(run, byte_in(rule), number);
-    let answer = exchanged.number;
-    if answer != 0 {
-        return answer;
+    match exchange_rule(run_in(words), byte_in(rule), number) {
+        Ok(run) => {
+            put_run(run, words);
+            0
+        }
+        Err(refusal) => refusal.number(),
     }
-    let after = exchanged.run;
-    put_run(after, words);
-    0
 }

@@ -7,9 +7,10 @@ ghost use Rattle.maxcut_oracle.specs.Whole.{whole_multipliers};
 ghost use Rattle.factor_calls.specs.Numbers.{rounded_number, dual_number, divided_number};
 ghost use Rattle.factor_calls.specs.Equation8.{divided_multipliers};
 ghost use Rattle.factor_calls.specs.Answers.{RoundsFactor, Multiplies};
-ghost use Rattle.exports.specs.Answers.{eighths_by, Stays};
+ghost use Rattle.exports.specs.Answers.{by_number, Stays};
 
-use table_calls::Eighths;
+use crate::answers::hand_over;
+use refusal::number_in;
 
 #[unsafe(no_mangle)]
 pub extern "C" fn wagonplan_raw_compute_rounded_sol(
@@ -28,19 +29,12 @@ pub extern "C" fn wagonplan_raw_compute_rounded_sol(
     ensures rounds_factor { RoundsFactor (rounded_number m count rows.now cols.now values.now rank (length factor.now) draw_count (length draws.now) (length out.old))
         (rounded_objective factor.now (rank_meant m rank) m draws.now (table_of count rows.now cols.now values.now) draw_count)
         (rounded_sol factor.now (rank_meant m rank) m draws.now (table_of count rows.now cols.now values.now) draw_count)
-        out.old (eighths_by result objective.new) out.new }
+        out.old (by_number result objective.new) out.new }
     ensures stays { Stays result objective.old objective.new }
 {
-    let answer = factor_calls::compute_rounded_sol(
+    hand_over(factor_calls::compute_rounded_sol(
         m, count, rows, cols, values, rank, factor, draw_count, draws, out,
-    );
-    match answer {
-        Eighths::Value(v) => {
-            *objective = v;
-            0
-        }
-        Eighths::Refused(k) => k,
-    }
+    ), objective)
 }
 
 #[unsafe(no_mangle)]
@@ -58,7 +52,7 @@ pub extern "C" fn wagonplan_raw_dual_variables(
         (whole_multipliers (table_of count rows.now cols.now values.now) m (rank_meant m rank) factor.now)
         out.old result out.new }
 {
-    factor_calls::dual_variables(m, count, rows, cols, values, rank, factor, out)
+    number_in(factor_calls::dual_variables(m, count, rows, cols, values, rank, factor, out))
 }
 
 #[unsafe(no_mangle)]
@@ -76,5 +70,5 @@ pub extern "C" fn wagonplan_raw_dual_variables_divided(
         (divided_multipliers (table_of count rows.now cols.now values.now) m rank factor.now)
         out.old result out.new }
 {
-    factor_calls::dual_variables_divided(m, count, rows, cols, values, rank, factor, out)
+    number_in(factor_calls::dual_variables_divided(m, count, rows, cols, values, rank, factor, out))
 }

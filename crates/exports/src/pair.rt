@@ -1,10 +1,12 @@
 // The reduced pair.
 ghost use Rattle.reduced.specs.Submatrix.{slices_of, Reduces};
 ghost use Rattle.reduced.specs.Lift.{Lifts};
-ghost use Rattle.exports.specs.Answers.{reduced_by, Stays};
+ghost use Rattle.exports.specs.Answers.{by_number, Stays};
 
-use reduced::from_principal_submatrix::{Reduced, from_principal_submatrix};
+use crate::answers::hand_over;
+use reduced::from_principal_submatrix::from_principal_submatrix;
 use reduced::lift_solution::lift_solution;
+use refusal::number_in;
 
 #[unsafe(no_mangle)]
 pub extern "C" fn wagonplan_raw_from_principal_submatrix(
@@ -21,10 +23,10 @@ pub extern "C" fn wagonplan_raw_from_principal_submatrix(
     entries: &mut usize,
 ) -> u8
     ensures reduces { Reduces size count (slices_of rows.now cols.now values.now) variable_map.now fixed_index.now (slices_of out_rows.old out_cols.old out_values.old)
-        (reduced_by result entries.new) (slices_of out_rows.new out_cols.new out_values.new) }
+        (by_number result entries.new) (slices_of out_rows.new out_cols.new out_values.new) }
     ensures stays { Stays result entries.old entries.new }
 {
-    let answer = from_principal_submatrix(
+    hand_over(from_principal_submatrix(
         size,
         count,
         rows,
@@ -35,14 +37,7 @@ pub extern "C" fn wagonplan_raw_from_principal_submatrix(
         out_rows,
         out_cols,
         out_values,
-    );
-    match answer {
-        Reduced::Count(found) => {
-            *entries = found;
-            0
-        }
-        Reduced::Refused(k) => k,
-    }
+    ), entries)
 }
 
 #[unsafe(no_mangle)]
@@ -57,12 +52,12 @@ pub extern "C" fn wagonplan_raw_lift_solution(
     ensures { Lifts size variable_map.now fixed_index.now fixed_value.now reduced_solution.now
         lifted.old result lifted.new }
 {
-    lift_solution(
+    number_in(lift_solution(
         size,
         variable_map,
         fixed_index,
         fixed_value,
         reduced_solution,
         lifted,
-    )
+    ))
 }

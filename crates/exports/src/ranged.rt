@@ -7,7 +7,7 @@ ghost use Rattle.exports.specs.RangedWords.{ranged_words, ranged_words_of, Range
 use crate::words::{RESULT_WORDS, RUN_WORDS, put_words, result_words, run_in};
 use ieee::bits::bits_of_signed;
 use ranged_finish::finish::finish_ranged;
-use ranged_finish::{RangedFinished, RangedResult};
+use ranged_finish::RangedResult;
 
 // Three more than a finish's result.
 const RANGED_WORDS: usize = RESULT_WORDS + 3;
@@ -94,10 +94,10 @@ pub extern "C" fn wagonplan_raw_finish_ranged(
         workspace,
     );
     match finished {
-        RangedFinished::Result(x) => {
+        Ok(x) => {
             put_ranged(x, res);
             0
         }
-        RangedFinished::Refused(k) => k,
+        Err(refusal) => refusal.number(),
     }
 }

@@ -8,11 +8,10 @@ use crate::words::{
     RESULT_WORDS, RUN_WORDS, SETTING_WORDS, byte_in, count_in, put_result, put_run, run_in,
 };
 use ieee::bits::double_of;
-use run_contract::{Finished, Opened, Swept};
-use run_record::{OpenSettings, Run};
+use run_record::OpenSettings;
 use sdp_solver::finish::finish;
 use sdp_solver::open::open;
-use sdp_solver::sweep::sweep;
+use sdp_solver::sweep::sweep_run;
 
 #[unsafe(no_mangle)]
 pub extern "C" fn wagonplan_raw_open(
@@ -48,30 +47,12 @@ pub extern "C" fn wagonplan_raw_open(
     };
     let opened = open(n, count, rows, cols, values, c, asked, numbers, factor);
     match opened {
-        Opened::Started(run) => {
+        Ok(run) => {
             put_run(run, words);
             0
         }
-        Opened::Refused(k) => k,
+        Err(refusal) => refusal.number(),
     }
-}
-
-// The sweep call on a record in a local, from a record to the record after it: whoever calls this needs no walk by hand.
-fn sweep_kept(
-    mut run: Run,
-    n: usize,
-    count: usize,
-    rows: &[u16],
-    cols: &[u16],
-    values: &[i64],
-    c: &[i64],
-    k: u32,
-    factor: &mut [f64],
-) -> Swept
-    ensures { Sweeps run (cost_table n count rows.now cols.now values.now c.now) k factor.old result.number result.run factor.new }
-{
-    let number = sweep(&mut run, n, count, rows, cols, values, c, k, factor);
-    Swept { run, number }
 }
 
 #[unsafe(no_mangle)]
@@ -92,15 +73,13 @@ pub extern "C" fn wagonplan_raw_sweep(
     if words.len() < RUN_WORDS {
         return 31;
     }
-    let run = run_in(words);
-    let swept = sweep_kept(run, n, count, rows, cols, values, c, k, factor);
-    let number = swept.number;
-    if number != 0 {
-        return number;
+    match sweep_run(run_in(words), n, count, rows, cols, values, c, k, factor) {
+        Ok(run) => {
+            put_run(run, words);
+            0
+        }
+        Err(refusal) => refusal.number(),
     }
-    let after = swept.run;
-    put_run(after, words);
-    0
 }
 
 #[unsafe(no_mangle)]
@@ -149,10 +128,10 @@ pub extern "C" fn wagonplan_raw_finish(
         workspace,
     );
     match finished {
-        Finished::Result(x) => {
+        Ok(x) => {
             put_result(x, res);
             0
         }
-        Finished::Refused(k) => k,
+        Err(refusal) => refusal.number(),
     }
 }

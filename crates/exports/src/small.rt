@@ -1,8 +1,8 @@
 // Small houses in full.
 ghost use Rattle.exhaustive.specs.Contract.{Walks};
-ghost use Rattle.exports.specs.Answers.{walked_by, Stays};
+ghost use Rattle.exports.specs.Answers.{by_number, Stays};
 
-use exhaustive::{Walked, least_choice};
+use exhaustive::least_choice;
 
 #[unsafe(no_mangle)]
 pub extern "C" fn wagonplan_raw_least_choice(
@@ -16,18 +16,16 @@ pub extern "C" fn wagonplan_raw_least_choice(
     cost: &mut i64,
     visited: &mut u64,
 ) -> u8
-    ensures walks { Walks n count rows.now cols.now values.now c.now b.old (walked_by result cost.new visited.new) b.new }
+    ensures walks { Walks n count rows.now cols.now values.now c.now b.old (by_number result (record { cost = cost.new; visited = visited.new })) b.new }
     ensures stays { Stays result cost.old cost.new × Stays result visited.old visited.new }
 {
     let walked = least_choice(n, count, rows, cols, values, c, b);
     match walked {
-        Walked::Result(found) => {
-            let least = found.cost;
-            *cost = least;
-            let many = found.visited;
-            *visited = many;
+        Ok(found) => {
+            *cost = found.cost;
+            *visited = found.visited;
             0
         }
-        Walked::Refused(k) => k,
+        Err(refusal) => refusal.number(),
     }
 }

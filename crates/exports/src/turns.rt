@@ -8,6 +8,7 @@ ghost use Rattle.exports.specs.TurnWords.{hall_words, runs_in, halls_in, early_n
 
 use crate::words::{RUN_WORDS, put_run, run_in};
 use limits::MOST_RUNS;
+use refusal::Refusal;
 use run_record::{Run, Stage};
 use several_runs::HallSize;
 use several_runs::numbers::{bad_count, bad_turn};
@@ -17,22 +18,22 @@ use step_rules::StepRule;
 pub const HALL_WORDS: usize = 2;
 
 // What is refused before a record is read.
-fn early_number(sweeps: u32, run_count: usize, words: usize, sizes: usize) -> u8
-    ensures { result ≡ early_number sweeps run_count words sizes }
+fn early_number(sweeps: u32, run_count: usize, words: usize, sizes: usize) -> Result<(), Refusal>
+    ensures { numbered result ≡ early_number sweeps run_count words sizes }
 {
     if bad_turn(sweeps) {
-        return 25;
+        return Err(Refusal::TurnSweeps);
     }
     if bad_count(run_count) {
-        return 26;
+        return Err(Refusal::TurnRuns);
     }
     if words < RUN_WORDS * run_count {
-        return 31;
+        return Err(Refusal::Slice);
     }
     if sizes < HALL_WORDS * run_count {
-        return 31;
+        return Err(Refusal::Slice);
     }
-    0
+    Ok(())
 }
 
 // A place without a run.
@@ -113,20 +114,18 @@ pub extern "C" fn wagonplan_raw_turn(
     ensures { TurnsWords sweeps run_count words.old sizes.now rows.now cols.now values.now c.now
         factors.old result words.new factors.new }
 {
-    let early = early_number(sweeps, run_count, words.len(), sizes.len());
-    if early != 0 {
-        return early;
+    if let Err(refusal) = early_number(sweeps, run_count, words.len(), sizes.len()) {
+        return refusal.number();
     }
     let runs = runs_in(run_count, words);
     let halls = halls_in(run_count, sizes);
-    let turned = turn(
+    match turn(
         run_count, runs, halls, sweeps, rows, cols, values, c, factors,
-    );
-    let number = turned.number;
-    if number != 0 {
-        return number;
+    ) {
+        Ok(after) => {
+            put_runs(run_count, after, words);
+            0
+        }
+        Err(refusal) => refusal.number(),
     }
-    let after = turned.runs;
-    put_runs(run_count, after, words);
-    0
 }
