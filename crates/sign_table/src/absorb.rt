@@ -29,7 +29,11 @@ fn stored_column(n: usize, count: usize, rows: &[u16], cols: &[u16], i: usize, k
     requires { (count ≤ length rows.now) × (count ≤ length cols.now) }
     ensures { result ≡ stored_column n count (elem rows.now) (elem cols.now) i k }
 {
-    if in_row(count, rows, i, k) { wide(cols[k]) } else { n }
+    if in_row(count, rows, i, k) {
+        wide(cols[k])
+    } else {
+        n
+    }
 }
 
 // The next kept column of row i, from j on; n where there is none.
@@ -48,7 +52,11 @@ pub fn next_column(
     ensures { result ≡ next_column n count (elem rows.now) (elem cols.now) (elem_z c.now) i j k }
 {
     let stored = stored_column(n, count, rows, cols, i, k);
-    if c[i] != 0 && j <= i && i < stored { i } else { stored }
+    if c[i] != 0 && j <= i && i < stored {
+        i
+    } else {
+        stored
+    }
 }
 
 // The entry after k where k stands at (i, j), else k.
@@ -56,7 +64,11 @@ pub fn after_here(count: usize, rows: &[u16], cols: &[u16], i: usize, j: usize, 
     requires { (count ≤ length rows.now) × (count ≤ length cols.now) }
     ensures { result ≡ after_here count (elem rows.now) (elem cols.now) i j k }
 {
-    if is_here(count, rows, cols, i, j, k) { k + 1 } else { k }
+    if is_here(count, rows, cols, i, j, k) {
+        k + 1
+    } else {
+        k
+    }
 }
 
 // The value of entry k where it stands at (i, j), else 0.
@@ -72,7 +84,11 @@ fn stored_value(
     requires { Lent count rows.now cols.now values.now }
     ensures { result ≡ cond (is_here count (elem rows.now) (elem cols.now) i j k) (elem_z values.now k) (pos 0) }
 {
-    if is_here(count, rows, cols, i, j, k) { values[k] } else { 0 }
+    if is_here(count, rows, cols, i, j, k) {
+        values[k]
+    } else {
+        0
+    }
 }
 
 // What the linear costs add at (i, j).

@@ -1,19 +1,12 @@
 -- The float bound: its terms by cases, and its sums turn by turn.
-use mathlib.Core.Path.{◌≡◌, refl}
-use mathlib.Core.Bool.{true, false}
-use Prim.Native.Nat.{ℕ, suc, ◌+◌, ◌^◌, ◌≤◌}
-use native.Mathlib.Omega.{arith}
+use mathlib.Core.Path.{◌≡◌}
+use Prim.Native.Nat.{ℕ, ◌+◌, ◌^◌, ◌≤◌}
 use native.Mathlib.Numerals.{add-one}
-use borrow.Author.Tests.{eq-eqb, ne_eqb, ltb-true}
+use borrow.Author.Tests.{eq-eqb, ne_eqb}
 use lib.Dec.{T, le→leb}
-use lib.IntN.{ℤ, pos, negsuc, nat_abs, ◌-ℤ◌, +ℤ_idl}
-use lib.Signed.{lt_z}
-use mir.Syntax.{w64}
-use mir.Val.{SFits}
+use lib.IntN.{ℤ, pos, nat_abs}
 use lib.Ieee.{Float, binary64, in_float, neg}
 use Rattle.ieee.specs.Floats.{◌+ᶠ◌, eighth_of}
-use Rattle.laws.proofs.Integer.{lt_z_false, fits_abs}
-use Rattle.limits.specs.Limits.{most_sign_magnitude}
 use Rattle.tables.specs.Table.{Table}
 use Rattle.tables.specs.Bound.{bound_term, bound_sum, magnitude_sum}
 

@@ -7,7 +7,7 @@ use Rattle.laws.proofs.Integer.{held}
 use Rattle.laws.specs.Lists.{elem_z}
 use lib.Ieee.{of_bits}
 use native.Mathlib.Omega.{arith}
-use mathlib.Core.Path.{◌≡◌, refl, ap, ◌∙◌}
+use mathlib.Core.Path.{refl, ◌∙◌}
 use Rattle.tables.proofs.bound.bound_sum.Goals as goal
 
 pub loop-k-init : goal.loop-k-init

@@ -1,5 +1,4 @@
 -- `tables::bound::entrywise_lower_bound` meets its contract.
-use Rattle.tables.proofs.BoundSums.{small_float}
 use Rattle.tables.specs.Bound.{entrywise, margin}
 use lib.Ieee.{of_bits}
 use Rattle.tables.proofs.bound.entrywise_lower_bound.Goals as goal

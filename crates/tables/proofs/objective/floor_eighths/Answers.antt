@@ -4,7 +4,7 @@ use Rattle.tables.specs.Table.{table_of}
 use Rattle.laws.proofs.Sums.{turn_fits, turn_is}
 use Rattle.laws.specs.Sum as S
 use native.Mathlib.Omega.{arith}
-use mathlib.Core.Path.{◌≡◌, refl}
+use mathlib.Core.Path.{refl}
 use Rattle.tables.proofs.objective.floor_eighths.Goals as goal
 
 pub loop-k-init : goal.loop-k-init

@@ -3,7 +3,6 @@ use Rattle.tables.proofs.Shares.{value_small}
 use Rattle.tables.specs.Table.{table_of}
 use Rattle.laws.proofs.Integer.{held}
 use Rattle.laws.specs.Lists.{elem_z}
-use mathlib.Core.Path.{◌∙◌}
 use Rattle.tables.proofs.objective.floor_term.Goals as goal
 
 pub entry_least-requires : goal.entry_least-requires

@@ -4,7 +4,7 @@ use Rattle.laws.proofs.Sums.{turn_fits, turn_is}
 use Rattle.laws.specs.Lists.{elem_z}
 use Rattle.laws.specs.Sum as S
 use native.Mathlib.Omega.{arith}
-use mathlib.Core.Path.{◌≡◌, refl}
+use mathlib.Core.Path.{refl}
 use Rattle.tables.proofs.objective.linear_cost.Goals as goal
 
 pub loop-i-init : goal.loop-i-init

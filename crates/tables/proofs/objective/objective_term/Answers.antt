@@ -3,8 +3,6 @@ use Rattle.tables.proofs.Shares.{value_small}
 use Rattle.tables.specs.Table.{table_of}
 use Rattle.laws.proofs.Integer.{held}
 use Rattle.laws.specs.Lists.{elem_z}
-use native.Mathlib.Omega.{arith}
-use mathlib.Core.Path.{◌∙◌}
 use Rattle.tables.proofs.objective.objective_term.Goals as goal
 
 pub entry_share-requires : goal.entry_share-requires

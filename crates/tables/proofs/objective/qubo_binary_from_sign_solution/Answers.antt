@@ -1,5 +1,5 @@
 -- `tables::objective::qubo_binary_from_sign_solution` meets its contract.
-use Rattle.laws.proofs.MapFirst.{fill_none, fill_more, fill_all}
+use Rattle.laws.proofs.MapFirst.{fill_none, fill_more}
 use lib.ListN.{length-set}
 use native.Mathlib.Omega.{arith}
 use mathlib.Core.Path.{refl}
