@@ -9,6 +9,3 @@ float_from_bits-x c = not_nan _ (omega arith)
 
 pub float_from_bits-y : goal.float_from_bits-y
 float_from_bits-y c = not_nan _ (omega arith)
-
-pub float_to_bits-result : goal.float_to_bits-result
-float_to_bits-result c = equal_itself _ c.if-s.false

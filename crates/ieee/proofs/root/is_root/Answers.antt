@@ -8,12 +8,6 @@ use Rattle.ieee.proofs.Patterns.{root_pattern}
 use Rattle.ieee.proofs.Halves.{Halved, halved}
 use Rattle.ieee.proofs.root.is_root.Goals as goal
 
-pub returns-then-f : goal.returns-then-f
-returns-then-f c e = never e
-
-pub float_to_bits-bits : goal.float_to_bits-bits
-float_to_bits-bits c = equal_itself _ c.if-f.false
-
 pub returns-then-bits-s : goal.returns-then-bits-s
 returns-then-bits-s c e = never e
 
