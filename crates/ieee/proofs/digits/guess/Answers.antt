@@ -1,6 +1,5 @@
 -- `ieee::digits::guess` meets its contract. Assumes nothing.
 use Rattle.std.proofs.Common.{arith}
-use Rattle.ieee.proofs.Nans.{equal_itself}
 use Rattle.ieee.proofs.Patterns.{not_nan}
 use Rattle.ieee.proofs.digits.guess.Goals as goal
 
