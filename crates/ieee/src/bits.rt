@@ -8,7 +8,7 @@ pub fn double_of(bits: u64) -> f64
     ensures { result ≡ double_of bits }
 {
     if 0x7ff0_0000_0000_0000 < bits % 0x8000_0000_0000_0000 {
-        return 0.0 / 0.0;
+        return f64::NAN;
     }
     f64::from_bits(bits)
 }
@@ -17,7 +17,7 @@ pub fn double_of(bits: u64) -> f64
 pub fn bits_of(x: f64) -> u64
     ensures { result ≡ bits_of x }
 {
-    if x != x {
+    if x.is_nan() {
         return 0x7ff8_0000_0000_0000;
     }
     f64::to_bits(x)
@@ -27,20 +27,12 @@ pub fn bits_of(x: f64) -> u64
 pub fn signed_of(bits: u64) -> i64
     ensures { result ≡ signed_of bits }
 {
-    if bits < 0x8000_0000_0000_0000 {
-        bits as i64
-    } else {
-        -1 - ((0xffff_ffff_ffff_ffff - bits) as i64)
-    }
+    bits.cast_signed()
 }
 
 // The 64 bits of a signed number, in two's complement.
 pub fn bits_of_signed(x: i64) -> u64
     ensures { result ≡ bits_of_signed x }
 {
-    if x < 0 {
-        0xffff_ffff_ffff_ffff - ((-1 - x) as u64)
-    } else {
-        x as u64
-    }
+    x.cast_unsigned()
 }

@@ -64,7 +64,7 @@ fn is_root(b: u64, f: f64) -> bool
     requires { (0 < b) × (b < 0x7ff0000000000000) }
     ensures { result ≡ true → f ≡ sqrt_of (from_bits binary64 b) }
 {
-    if f != f {
+    if f.is_nan() {
         return false;
     }
     let bits = f64::to_bits(f);

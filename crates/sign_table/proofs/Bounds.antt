@@ -5,7 +5,7 @@ use Prim.Native.Nat.{ℕ, ◌+◌, ◌*◌, ◌^◌, ◌<◌, ◌≤◌}
 use native.Mathlib.Nat.{le_trans}
 use native.Mathlib.Omega.{arith}
 use lib.Dec.{eqb}
-use lib.IntN.{ℤ, pos, nat_abs, neg_ℤ, ◌+ℤ◌, ◌-ℤ◌, ◌*ℤ◌, +ℤ_idl}
+use lib.IntN.{ℤ, pos, nat_abs, ◌+ℤ◌, ◌-ℤ◌, ◌*ℤ◌}
 use lib.Signed.{mag}
 use mir.Syntax.{w64}
 use mir.Val.{SFits, to_z, of_z}
@@ -85,9 +85,6 @@ module _ (v : ℤ) (fits : SFits w64 v) (small : nat_abs v ≤ 2 ^ 60) where
   pub negated_fits : SFits w64 (pos 0 -ℤ to_z w64 (of_z w64 v))
   negated_fits = rw (to_z-of_z fits) (negation_fits v (omega arith))
 
-  pub negated_is : to_z w64 (of_z w64 (pos 0 -ℤ to_z w64 (of_z w64 v))) ≡ neg_ℤ v
-  negated_is = to_z-of_z negated_fits ∙ rw (to_z-of_z fits) (+ℤ_idl (neg_ℤ v))
-
 -- a row's sum and twice its linear cost
 module _ (a : ℕ) (s r linear : ℤ) (acc : to_z w64 a ≡ s) (ok : mag r < 2 ^ 63) (is : r ≡ pos 2 *ℤ linear) (small : nat_abs s ≤ 2 ^ 60) (low : nat_abs linear ≤ 2 ^ 59) where
   pub summed_fits : SFits w64 (to_z w64 a +ℤ to_z w64 (of_z w64 r))
@@ -95,6 +92,3 @@ module _ (a : ℕ) (s r linear : ℤ) (acc : to_z w64 a ≡ s) (ok : mag r < 2 ^
 
   pub summed_is : to_z w64 (of_z w64 (to_z w64 a +ℤ to_z w64 (of_z w64 r))) ≡ s +ℤ pos 2 *ℤ linear
   summed_is = to_z-of_z summed_fits ∙ rw (acc, held r ok, is)
-
-pub twice_fits : (v : ℤ) → nat_abs v ≤ 2 ^ 59 → SFits w64 (pos 2 *ℤ v)
-twice_fits v h = fits_abs (pos 2 *ℤ v) (omega (arith, abs_mul (pos 2) v))

@@ -2,15 +2,12 @@
 use mathlib.Core.Path.{◌≡◌, refl, sym, ◌∙◌, ap, ap₂}
 use mathlib.Core.Logic.{inl, inr}
 use mathlib.Core.Bool.{Bool, true, false, not, cond}
-use Prim.Native.Nat.{ℕ, zero, suc, ◌+◌, ◌-◌, ◌^◌, ◌<◌, ◌≤◌}
+use Prim.Native.Nat.{ℕ, zero, suc, ◌+◌, ◌<◌, ◌≤◌}
 use native.Mathlib.Decide.{ℕ_discrete, dec_lt, dec_le}
 use native.Mathlib.Omega.{arith}
 use borrow.Author.Tests.{eq-eqb, ne_eqb, lt-ltb, le-ltb, le-leb, lt-leb}
 use lib.Dec.{eqb, ltb, leb}
-use lib.Signed.{mag}
-use mir.Syntax.{w64}
-use mir.Val.{of_z}
-use lib.IntN.{ℤ, pos, negsuc, ◌+ℤ◌, ◌*ℤ◌, +ℤ_idr}
+use lib.IntN.{ℤ, pos, ◌+ℤ◌, ◌*ℤ◌, +ℤ_idr}
 use Rattle.laws.specs.Sum.{sum, only}
 use Rattle.laws.proofs.Any.{never}
 use Rattle.laws.proofs.Sums.{sum_ext, sum_add, sum_only, sum_swap, sum_zero}
@@ -312,26 +309,3 @@ row_total_lem {n} {h} c {i} r below =
     ∙ sum_ext h.count _ _ (λ l b.
     only_sum n (h.row l) i (λ j. only (h.column l) j (h.value l)) ∙ ap (only (h.row l) i) (sum_only n (h.column l) (λ j. h.value l) (r.cols_in l b))))
     (sum_only n i (λ j. pos 2 *ℤ c i) below)
-
--- ---- the code's cases
-
-module _ (n count : ℕ) (row column : ℕ → ℕ) (c : ℕ → ℤ) (i j k : ℕ) {s : ℕ} (is : s ≡ stored_column n count row column i k) where
-  pub next_zero : is_zero (c i) ≡ true → s ≡ next_column n count row column c i j k
-  unfolding next_column
-  next_zero z = rw z is
-
-  pub next_diagonal : is_zero (c i) ≡ false → j ≤ i → i < s → i ≡ next_column n count row column c i j k
-  unfolding next_column
-  next_diagonal z a b = rw (z, le-leb j i a, ← is, lt-ltb i s b)
-
-  pub next_stored : is_zero (c i) ≡ false → j ≤ i → s ≤ i → s ≡ next_column n count row column c i j k
-  unfolding next_column
-  next_stored z a b = rw (z, le-leb j i a, ← is, le-ltb i s b)
-
-  pub next_past : is_zero (c i) ≡ false → i < j → s ≡ next_column n count row column c i j k
-  unfolding next_column
-  next_past z a = rw (z, lt-leb j i a) is
-
-pub zero_bits : (v : ℤ) → mag v < 2 ^ 63 → eqb (of_z w64 v) 0 ≡ is_zero v
-zero_bits (pos n) h = refl
-zero_bits (negsuc n) h = let b : n < 2 ^ 63 = h in ne_eqb (2 ^ 64 - suc n) 0 (λ e. omega arith) ∙ sym (ne_eqb (suc n) 0 (λ e. omega arith))

@@ -13,6 +13,7 @@ use refusal::Refusal;
 use tables::check::{hall_number, table_number};
 
 // The number of a call on a sign table.
+#[tactic(auto, unfolding(laws::specs::Refusal::first, laws::specs::Refusal::or_else))]
 pub fn checked_table(
     short: bool,
     m: usize,
@@ -40,6 +41,7 @@ pub fn checked_table(
 }
 
 // The number of a call on (H, c).
+#[tactic(auto, unfolding(laws::specs::Refusal::first, laws::specs::Refusal::or_else))]
 pub fn checked_hall(
     short: bool,
     n: usize,

@@ -7,24 +7,19 @@ ghost use Rattle.table_calls.specs.Answer.{kept_if_refused};
 ghost use Rattle.table_calls.specs.Numbers.{decode_short, decode_number};
 
 use refusal::Refusal;
-use tables::check::{bad_signs, too_short};
+use tables::check::bad_signs;
 use tables::objective;
 
 // 31 of `qubo_binary_from_sign_solution`, for m signs and a choice of so many bytes.
+#[tactic(auto, unfolding(crate::specs::Numbers::decode_short, laws::specs::Refusal::any_of, laws::specs::Refusal::short))]
 fn decode_short(m: usize, signs: &[u8], b: &[u8]) -> bool
     ensures { result ≡ decode_short m signs.now b.now }
 {
-    let bad = bad_signs(m);
-    if bad {
-        return false;
-    }
-    if too_short(bad, m, signs.len()) {
-        return true;
-    }
-    too_short(bad, m - 1, b.len())
+    !bad_signs(m) && (signs.len() < m || b.len() < m - 1)
 }
 
 // The number of `qubo_binary_from_sign_solution`.
+#[tactic(auto, unfolding(crate::specs::Numbers::decode_number, laws::specs::Refusal::first, laws::specs::Refusal::or_else))]
 fn decode_number(m: usize, signs: &[u8], b: &[u8]) -> Result<(), Refusal>
     ensures { numbered result ≡ decode_number m signs.now b.now }
 {

@@ -17,6 +17,7 @@ use tables::check::{bad_size, short_table, too_short};
 use tables::objective;
 
 // 31 of `eval_qubo_objective`.
+#[tactic(auto, unfolding(crate::specs::Numbers::cost_short, laws::specs::Refusal::any_of))]
 fn cost_short(
     n: usize,
     count: usize,
@@ -28,13 +29,9 @@ fn cost_short(
 ) -> bool
     ensures { result ≡ cost_short n count rows.now cols.now values.now c.now b.now }
 {
-    if short_table(MOST_ENTRIES, count, rows, cols, values) {
-        return true;
-    }
-    if too_short(MOST_WAGONS < n, n, c.len()) {
-        return true;
-    }
-    too_short(MOST_WAGONS < n, n, b.len())
+    short_table(MOST_ENTRIES, count, rows, cols, values)
+        || too_short(MOST_WAGONS < n, n, c.len())
+        || too_short(MOST_WAGONS < n, n, b.len())
 }
 
 // The cost of a choice as bytes, 0 for 0 and any other for 1, in eighths.
@@ -56,6 +53,7 @@ pub fn eval_qubo_objective(
 }
 
 // 31 of the slices for the sign table, by their lengths.
+#[tactic(auto, unfolding(crate::specs::Numbers::room_short, laws::specs::Refusal::any_of, laws::specs::Refusal::short))]
 fn room_short(n: usize, count: usize, rows: usize, cols: usize, values: usize) -> bool
     ensures { result ≡ room_short n count rows cols values }
 {
@@ -63,16 +61,11 @@ fn room_short(n: usize, count: usize, rows: usize, cols: usize, values: usize) -
         return false;
     }
     let needed = count + 3 * n + 1;
-    if rows < needed {
-        return true;
-    }
-    if cols < needed {
-        return true;
-    }
-    values < needed
+    rows < needed || cols < needed || values < needed
 }
 
 // 31 of `qubo_sign_table`.
+#[tactic(auto, unfolding(crate::specs::Numbers::sign_short, laws::specs::Refusal::any_of))]
 fn sign_short(
     n: usize,
     count: usize,
@@ -87,13 +80,9 @@ fn sign_short(
     ensures { result ≡ sign_short n count rows.now cols.now values.now c.now to_rows.now
         to_cols.now to_values.now }
 {
-    if short_table(MOST_ENTRIES, count, rows, cols, values) {
-        return true;
-    }
-    if too_short(MOST_WAGONS < n, n, c.len()) {
-        return true;
-    }
-    room_short(n, count, to_rows.len(), to_cols.len(), to_values.len())
+    short_table(MOST_ENTRIES, count, rows, cols, values)
+        || too_short(MOST_WAGONS < n, n, c.len())
+        || room_short(n, count, to_rows.len(), to_cols.len(), to_values.len())
 }
 
 // `absorb_linear_terms_into_hessian`, then `qubo_hessian_to_sign_matrix`: the sign table of (H, c), in eighths, into the first places of the lent slices.

@@ -13,6 +13,7 @@ use tables::check::{bad_signs, short_table, too_short};
 use tables::{bound, objective};
 
 // 31 of `obj_rounded`.
+#[tactic(auto, unfolding(crate::specs::Numbers::objective_short, laws::specs::Refusal::any_of))]
 fn objective_short(
     m: usize,
     count: usize,
@@ -23,10 +24,8 @@ fn objective_short(
 ) -> bool
     ensures { result ≡ objective_short m count rows.now cols.now values.now signs.now }
 {
-    if short_table(MOST_SIGN_ENTRIES, count, rows, cols, values) {
-        return true;
-    }
-    too_short(bad_signs(m), m, signs.len())
+    short_table(MOST_SIGN_ENTRIES, count, rows, cols, values)
+        || too_short(bad_signs(m), m, signs.len())
 }
 
 // The objective of signs as bytes, 0 for + and any other for −, in eighths.

@@ -1,5 +1,5 @@
 -- What the checks show: the mirror search, and that nothing is refused exactly where the table is as it should be.
-use Prim.Native.Nat.{ℕ, zero, suc, ◌+◌, ◌-◌, ◌*◌, ◌^◌, ◌<◌, ◌≤◌, min}
+use Prim.Native.Nat.{ℕ, zero, suc, ◌+◌, ◌-◌, ◌*◌, ◌<◌, ◌≤◌, min}
 use mathlib.Core.Path.{◌≡◌, refl, sym, ap, ◌∙◌}
 use mathlib.Core.Bool.{Bool, true, false, not, ◌&&◌}
 use mathlib.Core.List.{List, [], ◌∷◌}
@@ -8,13 +8,10 @@ use native.Mathlib.Omega.{arith}
 use native.Mathlib.Numerals.{add-one}
 use native.Mathlib.Nat.{eq-or-lt_of_le}
 use native.Mathlib.Decide.{ℕ_discrete, dec_lt}
-use borrow.Author.Tests.{eq-eqb, ne_eqb, eqb-true, eqb-false, ltb-false, leb-false, lt-ltb, le-ltb, lt-leb, not-false}
+use borrow.Author.Tests.{eq-eqb, ne_eqb, eqb-true, ltb-false, leb-false, lt-ltb, le-ltb, lt-leb, not-false}
 use lib.ListN.{length}
 use lib.Dec.{eqb, ltb}
 use lib.IntN.{ℤ, pos, negsuc}
-use lib.Signed.{mag}
-use mir.Syntax.{w64}
-use mir.Val.{of_z}
 use Rattle.laws.specs.Sum.{total}
 use Rattle.laws.specs.Lists.{any_below}
 use Rattle.laws.specs.Refusal.{◌if◌, or_else, first, short}

@@ -1,12 +1,15 @@
 -- `ieee::sqrt` meets its contract. Assumes nothing.
-use Rattle.std.proofs.Common.{◌≡◌, ℕ, ◌^◌, not, T, sym, refl, ap, ◌∙◌, subst, arith}
+use Rattle.std.proofs.Common.{◌≡◌, ℕ, ◌^◌, Bool, true, not, T, sym, refl, ap, ◌∙◌, subst, arith}
 use lib.Ieee.{Float, binary64, nan, div, fits, is_nan, of_bits, to_bits}
-use lib.Ieee.Compare.{differs_from_itself}
 use lib.Ieee.Bits.{of_bits-to_bits, to_bits-lt}
 use Rattle.ieee.specs.Sqrt.{sqrt_of}
-use Rattle.ieee.proofs.Nans.{equal_itself}
+use Rattle.ieee.proofs.Nans.{is_nan_lem}
 use Rattle.ieee.proofs.Patterns.{no_root}
 use Rattle.ieee.proofs.sqrt.Goals as goal
+
+-- a double is read back from its bits
+held : {x : Float} → fits binary64 x ≡ true → of_bits binary64 (to_bits binary64 x) ≡ x
+held {x} f = of_bits-to_bits binary64 x (subst T (sym f) tt)
 
 -- a value whose pattern b is a root's own stays
 kept : {x : Float} {b : ℕ} → of_bits binary64 (to_bits binary64 x) ≡ x → to_bits binary64 x ≡ b → of_bits binary64 b ≡ sqrt_of (of_bits binary64 b) → x ≡ sqrt_of x
@@ -24,57 +27,31 @@ negative-zero-root : of_bits binary64 (2 ^ 63) ≡ sqrt_of (of_bits binary64 (2 
 unfolding sqrt_of of_bits
 negative-zero-root = refl
 
-pub returns-then-x : goal.returns-then-x
-returns-then-x c = let e : c.args.x ≡ nan = differs_from_itself c.args.x (subst T (sym c.if-x.true) tt) in rw e (unfold sqrt_of in refl)
-
-pub float_to_bits-b : goal.float_to_bits-b
-float_to_bits-b c = equal_itself c.args.x c.if-x.false
+pub returns-then-is_nan : goal.returns-then-is_nan
+returns-then-is_nan c = let e : c.args.x ≡ nan = is_nan_lem c.args.x (sym c.is_nan.ensures.value ∙ c.if-is_nan.true) in rw e (unfold sqrt_of in refl)
 
 pub returns-then-b-eq0 : goal.returns-then-b-eq0
 returns-then-b-eq0 c =
-    let fitting : T (fits binary64 c.args.x) =
-    subst T (sym c.well_formed.0.1) tt in
-    let held : of_bits binary64 (to_bits binary64 c.args.x) ≡ c.args.x =
-    of_bits-to_bits binary64 c.args.x (fitting) in
-    kept (held) c.if-b-eq0.true zero-root
-
-pub nearest-requires : goal.nearest-requires
-nearest-requires c = omega (arith, c.if-b-eq0.false)
+    kept (held c.well_formed.0.1) c.if-b-eq0.true zero-root
 
 pub returns-then-b-lt-INFINITY : goal.returns-then-b-lt-INFINITY
 returns-then-b-lt-INFINITY c =
-    let fitting : T (fits binary64 c.args.x) =
-    subst T (sym c.well_formed.0.1) tt in
-    let held : of_bits binary64 (to_bits binary64 c.args.x) ≡ c.args.x =
-    of_bits-to_bits binary64 c.args.x (fitting) in
-    c.nearest.ensures ∙ ap sqrt_of (held)
+    c.nearest.ensures ∙ ap sqrt_of (held c.well_formed.0.1)
 
 pub returns-then-b-eq-INFINITY : goal.returns-then-b-eq-INFINITY
 returns-then-b-eq-INFINITY c =
-    let fitting : T (fits binary64 c.args.x) =
-    subst T (sym c.well_formed.0.1) tt in
-    let held : of_bits binary64 (to_bits binary64 c.args.x) ≡ c.args.x =
-    of_bits-to_bits binary64 c.args.x (fitting) in
-    kept (held) c.if-b-eq-INFINITY.true infinity-root
+    kept (held c.well_formed.0.1) c.if-b-eq-INFINITY.true infinity-root
 
 pub returns-then-b : goal.returns-then-b
 returns-then-b c =
-    let fitting : T (fits binary64 c.args.x) =
-    subst T (sym c.well_formed.0.1) tt in
-    let held : of_bits binary64 (to_bits binary64 c.args.x) ≡ c.args.x =
-    of_bits-to_bits binary64 c.args.x (fitting) in
-    kept (held) c.if-b.true negative-zero-root
+    kept (held c.well_formed.0.1) c.if-b.true negative-zero-root
 
 pub returns : goal.returns
 unfolding div of_bits
 returns c =
-    let fitting : T (fits binary64 c.args.x) =
-    subst T (sym c.well_formed.0.1) tt in
-    let held : of_bits binary64 (to_bits binary64 c.args.x) ≡ c.args.x =
-    of_bits-to_bits binary64 c.args.x (fitting) in
     let x = c.args.x in
     let b = to_bits binary64 x in
-    let is = held in
+    let is = held c.well_formed.0.1 in
     let number : T (not (is_nan (of_bits binary64 b))) =
-    subst (λ (y : Float). T (not (is_nan y))) (sym is) (equal_itself x c.if-x.false) in
-    sym (no_root b (omega (arith, c.if-b-eq-INFINITY.false, c.if-b-lt-INFINITY.false)) c.if-b.false (to_bits-lt binary64 x (fitting)) number) ∙ ap sqrt_of is
+    subst (λ (y : Float). T (not (is_nan y))) (sym is) (subst (λ (t : Bool). T (not t)) (sym (sym c.is_nan.ensures.value ∙ c.if-is_nan.false)) tt) in
+    sym (no_root b (omega (arith, c.if-b-eq-INFINITY.false, c.if-b-lt-INFINITY.false)) c.if-b.false (to_bits-lt binary64 x (subst T (sym c.well_formed.0.1) tt)) number) ∙ ap sqrt_of is

@@ -1,6 +1,5 @@
 -- `ieee::digits::guess` meets its contract. Assumes nothing.
 use Rattle.std.proofs.Common.{arith}
-use Rattle.ieee.proofs.Nans.{equal_itself}
 use Rattle.ieee.proofs.Patterns.{not_nan}
 use Rattle.ieee.proofs.digits.guess.Goals as goal
 
@@ -9,6 +8,3 @@ float_from_bits-x c = not_nan _ (omega arith)
 
 pub float_from_bits-y : goal.float_from_bits-y
 float_from_bits-y c = not_nan _ (omega arith)
-
-pub float_to_bits-result : goal.float_to_bits-result
-float_to_bits-result c = equal_itself _ c.if-s.false

@@ -2,23 +2,9 @@
 use Rattle.std.proofs.Common.{◌≡◌, ℕ, ◌+◌, ◌-◌, ◌*◌, ◌%◌, ◌^◌, T, sym, ap, ◌∙◌, subst, arith}
 use lib.Ieee.{binary64, of_bits, to_bits}
 use lib.Ieee.Bits.{of_bits-to_bits}
-use Rattle.laws.proofs.Any.{never}
-use Rattle.ieee.proofs.Nans.{equal_itself}
 use Rattle.ieee.proofs.Patterns.{root_pattern}
 use Rattle.ieee.proofs.Halves.{Halved, halved}
 use Rattle.ieee.proofs.root.is_root.Goals as goal
-
-pub returns-then-f : goal.returns-then-f
-returns-then-f c e = never e
-
-pub float_to_bits-bits : goal.float_to_bits-bits
-float_to_bits-bits c = equal_itself _ c.if-f.false
-
-pub returns-then-bits-s : goal.returns-then-bits-s
-returns-then-bits-s c e = never e
-
-pub is_rounded-requires : goal.is_rounded-requires
-is_rounded-requires c = (omega arith, omega arith)
 
 pub returns : goal.returns
 returns c e =

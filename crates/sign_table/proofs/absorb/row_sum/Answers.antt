@@ -7,40 +7,16 @@ use Rattle.laws.specs.Lists.{elem, elem_z}
 use Rattle.laws.specs.Sum as S
 use borrow.Author.Tests.{eq-eqb}
 use native.Mathlib.Nat.{le_trans}
-use native.Mathlib.Omega.{arith}
 use mathlib.Core.Path.{refl, sym, ◌∙◌}
 use Rattle.sign_table.proofs.absorb.row_sum.Goals as goal
-
-pub loop-sum-init : goal.loop-sum-init
-loop-sum-init c = (c.requires.5, sym c.requires.6)
-
-pub offset_bounds-values-k : goal.offset_bounds-values-k
-offset_bounds-values-k c = let a = c.args in
-    let here = in_row_true a.count (elem a.rows.now) a.i c.loop-sum.k (sym c.in_row.ensures ∙ c.loop-sum-test.true) in omega arith
-
-pub bounds-values-k : goal.bounds-values-k
-bounds-values-k c = let a = c.args in
-    let here = in_row_true a.count (elem a.rows.now) a.i c.loop-sum.k (sym c.in_row.ensures ∙ c.loop-sum-test.true) in omega arith
 
 pub overflow_add-sum : goal.overflow_add-sum
 overflow_add-sum c = let a = c.args in
     let here = in_row_true a.count (elem a.rows.now) a.i c.loop-sum.k (sym c.in_row.ensures ∙ c.loop-sum-test.true) in turn_fits (row_held a.count (elem a.rows.now) (elem_z a.values.now) a.i c.requires.3) c.loop-sum.k c.loop-sum.sum-bits (elem_z a.values.now c.loop-sum.k) here.0 c.loop-sum.invariant.1 c.sum-1.given (sym (only_yes (elem a.rows.now c.loop-sum.k) a.i (elem_z a.values.now c.loop-sum.k) here.1))
 
-pub overflow_add-k : goal.overflow_add-k
-overflow_add-k c = let a = c.args in
-    let here = in_row_true a.count (elem a.rows.now) a.i c.loop-sum.k (sym c.in_row.ensures ∙ c.loop-sum-test.true) in omega arith
-
-pub loop-sum-smaller : goal.loop-sum-smaller
-loop-sum-smaller c = let a = c.args in
-    let here = in_row_true a.count (elem a.rows.now) a.i c.loop-sum.k (sym c.in_row.ensures ∙ c.loop-sum-test.true) in omega arith
-
 pub loop-sum-preserved : goal.loop-sum-preserved
 loop-sum-preserved c = let a = c.args in
     let here = in_row_true a.count (elem a.rows.now) a.i c.loop-sum.k (sym c.in_row.ensures ∙ c.loop-sum-test.true) in (row_step _ _ _ _ c.loop-sum.invariant.0 here.0 here.1, turn_is (row_held a.count (elem a.rows.now) (elem_z a.values.now) a.i c.requires.3) c.loop-sum.k c.loop-sum.sum-bits (elem_z a.values.now c.loop-sum.k) here.0 c.loop-sum.invariant.1 c.sum-1.given (sym (only_yes (elem a.rows.now c.loop-sum.k) a.i (elem_z a.values.now c.loop-sum.k) here.1)))
-
-pub linear_value-requires : goal.linear_value-requires
-linear_value-requires c = let p = c.requires in
-    (p.2, p.4)
 
 pub overflow_add-result : goal.overflow_add-result
 overflow_add-result c = let a = c.args in

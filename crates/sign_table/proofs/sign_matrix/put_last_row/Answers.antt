@@ -1,5 +1,5 @@
 -- `sign_table::sign_matrix::put_last_row` meets its contract.
-use Rattle.sign_table.proofs.Built.{LastInv, last_begin, last_turn, last_room, last_fits, last_done, row_asks, room_on, sum_back, sum_small}
+use Rattle.sign_table.proofs.Built.{LastInv, last_begin, last_turn, last_room, last_fits, row_asks, room_on, sum_back, sum_small}
 use Rattle.sign_table.proofs.Cursor.{row_start_lem}
 use Rattle.sign_table.proofs.Bounds.{linear_small}
 use native.Mathlib.Omega.{arith}
@@ -35,6 +35,3 @@ loop-i-preserved c = let p = c.requires in
     let back = sum_back p.2 c.loop-i-test.true c.row_sum-s.ensures in
     let edge = (rw back at c.put_negated-at.ensures) in
     (λ t e. last_total (last_turn p.2 (c.loop-i.invariant.0 c.loop-i.total-bits refl) c.loop-i-test.true c.row_sum-s.ensures edge.0 edge.1 refl) e, omega (arith, c.loop-i.invariant.1), omega (arith, c.loop-i.invariant.2), omega (arith, c.loop-i.invariant.3))
-
-pub returns : goal.returns
-returns c = last_done c.requires.2 (c.loop-i.invariant.0 c.loop-i.total-bits refl) c.loop-i-test.false

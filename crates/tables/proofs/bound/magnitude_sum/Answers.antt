@@ -1,5 +1,5 @@
 -- `tables::bound::magnitude_sum` meets its contract.
-use mathlib.Core.Path.{◌≡◌, refl, ◌∙◌, ap}
+use mathlib.Core.Path.{refl, ◌∙◌, ap}
 use mathlib.Core.List.{[]}
 use native.Mathlib.Omega.{arith}
 use lib.IntN.{pos, nat_abs, neg_ℤ}

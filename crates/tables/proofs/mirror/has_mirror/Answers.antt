@@ -1,5 +1,4 @@
 -- `tables::mirror::has_mirror` meets its contract.
-use Rattle.std.specs.Prelude.{nat_lt}
 use borrow.Author.Tests.{le-ltb}
 use mathlib.Core.Path.{◌∙◌}
 use Rattle.tables.specs.Table.{table_of}

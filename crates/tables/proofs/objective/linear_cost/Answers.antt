@@ -4,7 +4,7 @@ use Rattle.laws.proofs.Sums.{turn_fits, turn_is}
 use Rattle.laws.specs.Lists.{elem_z}
 use Rattle.laws.specs.Sum as S
 use native.Mathlib.Omega.{arith}
-use mathlib.Core.Path.{◌≡◌, refl}
+use mathlib.Core.Path.{refl}
 use Rattle.tables.proofs.objective.linear_cost.Goals as goal
 
 pub loop-i-init : goal.loop-i-init
@@ -18,6 +18,3 @@ overflow_add-sum c = let a = c.args in
 pub loop-i-preserved : goal.loop-i-preserved
 loop-i-preserved c = let a = c.args in
     (omega arith, turn_is (linear_held a.n (elem_z a.c.now) a.b.now c.requires.2) c.loop-i.i c.loop-i.sum-bits c.linear_term-sum.result c.loop-i-test.true c.loop-i.invariant.1 c.linear_term-sum.type_inv c.linear_term-sum.ensures)
-
-pub returns : goal.returns
-returns c = let e : c.loop-i.i ≡ c.args.n = omega arith in rw (← e) c.loop-i.invariant.1
