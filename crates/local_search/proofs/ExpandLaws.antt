@@ -1,6 +1,6 @@
 -- A level that takes in children one by one. Assumes nothing.
 use Prim.Native.Nat.{ℕ, zero, suc, ◌+◌, ◌*◌, ◌-◌, ◌≤◌, ◌<◌}
-use native.Mathlib.Nat.{zero-mul}
+use native.Mathlib.Nat.{zero-mul, suc-mul, mul-le-mul_right}
 use native.Mathlib.Omega.{arith}
 use native.Mathlib.Numerals.{add-one}
 use mathlib.Core.Bool.{Bool, true, false, cond}
@@ -174,3 +174,7 @@ module _ (m : ℕ) (os : List ℤ) (s : List ℕ) (b : Choice) where
   least_one_more k now after x h p q e =
       q ∙ ap₂ better p e ∙ sym (best_snoc b (choice_at m os s k) (level_of m k os s))
       ∙ ap (best below b) (sym (level_snoc m k os s h)) ∙ ap (λ (n : ℕ). best below b (level_of m n os s)) (sym (add-one k))
+
+-- the room that one of `count` rows takes
+pub part_room : {k count long : ℕ} (m : ℕ) → k < count → count * m ≤ long → k * m + m ≤ long
+part_room {k = k} m p q = omega (arith, mul-le-mul_right m p, suc-mul k m, q)

@@ -40,8 +40,7 @@ pub fn entry_limit(objectives: &[i64], count: usize, width: usize, objective: i6
     if count < width {
         return objective;
     }
-    let last = objectives[count - 1];
-    if last < objective { last } else { objective }
+    objective.min(objectives[count - 1])
 }
 
 // The first child from `from` on that enters the level, or `m` where there is none.
@@ -58,14 +57,12 @@ pub fn next_child(
     ensures { FirstFrom (below_limit changes.now objective (limit_of width count objectives.now objective)) from m result }
 {
     let limit = entry_limit(objectives, count, width, objective);
-    let mut i = from;
-    while i < m {
+    for i in from..m {
         if objective + changes[i] < limit {
             return i;
         }
-        i += 1;
     }
-    i
+    m
 }
 
 // Puts the parent's children in, by index.
@@ -86,6 +83,7 @@ pub fn expand_parent(
 {
     let mut kept = count;
     let mut i = next_child(changes, objective, 0, m, objectives, kept, width);
+    // A `while`: the next child is the one that enters the level as it then stands, so that nothing is counted.
     while i < m {
         kept = consider_child(
             changes, objective, parent, i, objectives, signs, kept, width,

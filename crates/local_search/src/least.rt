@@ -1,34 +1,24 @@
 // The first of least objective.
-ghost use Rattle.std.specs.Prelude.{◌≡◌, ◌*◌, ◌≤◌, length};
+ghost use Rattle.std.specs.Prelude.{◌≡◌, ◌*◌, ◌≤◌, cond, length};
+ghost use Rattle.std.specs.Int.Signed.{lt_z};
 ghost use Rattle.local_search.specs.LocalSearch.{best};
 ghost use Rattle.local_search.specs.Level.{below, level_of};
-ghost use Rattle.local_search.specs.Children.{parent_of, better};
+ghost use Rattle.local_search.specs.Children.{parent_of};
 
-use crate::rows::copy_row;
 use sign_words::words::copy;
 
-// The better of the choice kept so far and another; of equals the one kept so far.
-pub fn keep_better(least: i64, kept: &mut [u8], objective: i64, row: &[u8]) -> i64
+// The better of the choice kept so far and another, in bytes or in words; of equals the one kept so far. It is `better` of the two (`better_kept` in
+// proofs/Better).
+pub fn keep_better<T: Copy>(least: i64, kept: &mut [T], objective: i64, row: &[T]) -> i64
     requires { length kept.old ≡ length row.now }
-    ensures { parent_of result kept.new ≡ better (parent_of least kept.old) (parent_of objective row.now) }
+    ensures least_after { result ≡ cond (lt_z objective least) objective least }
+    ensures kept_after { kept.new ≡ cond (lt_z objective least) row.now kept.old }
 {
     if objective < least {
-        copy_row(kept, row);
-        return objective;
-    }
-    least
-}
-
-// The same of choices in words.
-fn keep_words(held: i64, kept: &mut [u64], objective: i64, row: &[u64]) -> i64
-    requires { length kept.old ≡ length row.now }
-    ensures { parent_of result kept.new ≡ better (parent_of held kept.old) (parent_of objective row.now) }
-{
-    if objective < held {
         copy(kept, row);
         return objective;
     }
-    held
+    least
 }
 
 // The first of least objective among the choice kept so far and the level's.
@@ -48,7 +38,7 @@ pub fn keep_least(
         let at = k * m;
         let end = at + m;
         let objective = objectives[k];
-        low = keep_words(low, kept, objective, &signs[at..end]);
+        low = keep_better(low, kept, objective, &signs[at..end]);
     }
     low
 }

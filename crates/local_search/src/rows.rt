@@ -2,7 +2,6 @@
 ghost use Rattle.std.specs.Prelude.{◌≡◌, ◌+◌, ◌*◌, ◌≤◌, ◌<◌, length, get_or};
 ghost use Rattle.sign_words.specs.Signs.{flip_byte, flip_sign};
 ghost use Rattle.sign_words.specs.Packed.{flip_in};
-ghost use Rattle.local_search.specs.Level.{shifted};
 
 use sign_words::words::{copy, flip_in};
 
@@ -12,16 +11,6 @@ pub fn sign_at(row: &[u8], i: usize) -> u8
     ensures { result ≡ get_or row.now i 0 }
 {
     row[i]
-}
-
-// A choice's signs, copied.
-pub fn copy_row(row: &mut [u8], parent: &[u8])
-    requires { length row.old ≡ length parent.now }
-    ensures { row.new ≡ parent.now }
-{
-    for k in 0..parent.len() {
-        row[k] = parent[k];
-    }
 }
 
 // The other sign.
@@ -46,16 +35,4 @@ pub fn copy_flip(row: &mut [u64], parent: &[u64], i: usize)
 {
     copy(row, parent);
     flip_in(row, i);
-}
-
-// Moves the words from `from` up to `to` by `m` places up.
-pub fn shift_signs(signs: &mut [u64], from: usize, to: usize, m: usize)
-    requires { (from ≤ to) × (to + m ≤ length signs.old) }
-    ensures { signs.new ≡ shifted m from to signs.old }
-{
-    let mut j = to;
-    while from < j {
-        j -= 1;
-        signs[j + m] = signs[j];
-    }
 }

@@ -11,19 +11,14 @@ use Rattle.tables.specs.Table.{Table}
 use Rattle.sign_words.specs.Signs.{Binary}
 use Rattle.sign_words.proofs.PackedLaws.{tabulate_binary}
 use Rattle.sign_search.specs.Search.{objective_in, beam_search}
-use mir.Syntax.{w64}
-use mir.Val.{to_z, of_z}
-use mir.Facts.{to_z-of_z}
-use Rattle.sign_search.specs.Clauses.{Sound, Found-by}
-use Rattle.sign_search.proofs.Lawful.{objective_fits}
+use Rattle.sign_search.specs.Clauses.{Found-by}
 use Rattle.sdp_local_search.specs.BeamSearch.{sign_byte, sign_bytes}
-use Rattle.sdp_local_search.specs.declared.BeamSearched.TheVariants.{Found as Answer}
+use Rattle.sdp_local_search.specs.Call.{Answer}
 
 -- what the search found, as it is answered
-pub answered : {m : ℕ} (t : Table) (width : ℕ) (from : List ℕ) (least : ℤ) (rounds : ℕ) (kept : List ℕ) → Sound m t → Found-by t width from least rounds kept
-    → Answer (to_z w64 (of_z w64 least)) rounds ≡ Answer (objective_in t (beam_search t width from).answer) (beam_search t width from).rounds
-answered t width from least rounds kept sound p =
-    ap₂ Answer (ap (λ (z : ℤ). to_z w64 (of_z w64 z)) (p.least_is ∙ ap (objective_in t) p.answer_is) ∙ to_z-of_z (objective_fits sound.mirrors sound.small (beam_search t width from).answer)) p.rounds_are
+pub answered : (t : Table) (width : ℕ) (from : List ℕ) (least : ℤ) (rounds : ℕ) (kept : List ℕ) → Found-by t width from least rounds kept
+    → Answer least rounds ≡ Answer (objective_in t (beam_search t width from).answer) (beam_search t width from).rounds
+answered t width from least rounds kept p = ap₂ Answer (p.least_is ∙ ap (objective_in t) p.answer_is) p.rounds_are
 
 -- the first m bytes of `out`, as they come back
 pub written : (m : ℕ) (kept answer out : List ℕ) → length kept ≡ m → kept ≡ answer → kept ++ drop (m - 0) out ≡ over answer out

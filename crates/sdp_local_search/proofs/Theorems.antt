@@ -16,9 +16,9 @@ use Rattle.local_search.specs.Level.{flip_byte, flip_sign}
 use Rattle.sign_search.specs.Search.{Mirrors, objective_in, beam_search}
 use Rattle.sign_search.proofs.Theorems.{answer_long, answer_keeps, no_flip_lowers, rounds_fall}
 use Rattle.sdp_local_search.specs.BeamSearch.{base_limits, sign_byte, sign_bytes}
-use Rattle.sdp_local_search.specs.Call.{call_number, BeamSearches}
-use Rattle.sdp_local_search.specs.declared.BeamSearched.{BeamSearched}
-use Rattle.sdp_local_search.specs.declared.BeamSearched.TheVariants.{Found as Answer}
+use Rattle.std.specs.Prelude.{Result}
+use Rattle.sign_search.specs.declared.search.Searched.{Searched}
+use Rattle.sdp_local_search.specs.Call.{Answer, call_number, BeamSearches}
 use Rattle.sdp_local_search.proofs.Numbers.{call_ready}
 
 -- ---- bytes 0 and 1
@@ -55,7 +55,7 @@ start_long m start = length_tabulate (λ i. sign_byte (elem start i)) m
 
 -- ---- the call
 
-module _ {m count : ℕ} {rows cols : List ℕ} {values : List ℤ} {width : ℕ} {start out workspace out' workspace' : List ℕ} {r : BeamSearched}
+module _ {m count : ℕ} {rows cols : List ℕ} {values : List ℤ} {width : ℕ} {start out workspace out' workspace' : List ℕ} {r : Result Searched ℕ}
     (call : BeamSearches base_limits m count rows cols values width start out workspace out' workspace' r)
     (none : call_number base_limits m count rows cols values width start out workspace ≡ 0) (some : 1 ≤ width) where
   abbrev table : Table

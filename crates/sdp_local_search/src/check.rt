@@ -1,9 +1,11 @@
-// The numbers of the call: 31, 13 to 16, 19. Nothing is written.
+// What the call refuses: 31, 13 to 16, 19. Nothing is written.
 ghost use Rattle.std.specs.Prelude.{◌≡◌, length};
 ghost use Rattle.tables.specs.Table.{table_of};
+ghost use Rattle.refusal.specs.Number.{numbered};
 ghost use Rattle.sdp_local_search.specs.BeamSearch.{base_limits, search_short, search_refusal};
 
 use limits::{MOST_SIGN_ENTRIES, MOST_SIGN_MAGNITUDE, MOST_SIGNS, MOST_WIDTH, SEARCH_WORKSPACE};
+use refusal::Refusal;
 use tables::check::{short_table, table_number, too_short};
 
 // 31: a slice is too short; the lengths are those of the slices behind the table's.
@@ -31,7 +33,7 @@ fn search_short(
     too_short(false, SEARCH_WORKSPACE, workspace)
 }
 
-// The first number that applies; the lengths are those of the other slices.
+// The first refusal that applies; the lengths are those of the other slices.
 pub fn search_refusal(
     m: usize,
     count: usize,
@@ -42,15 +44,15 @@ pub fn search_refusal(
     start: usize,
     out: usize,
     workspace: usize,
-) -> u8
-    ensures { result ≡ search_refusal base_limits m width
+) -> Result<(), Refusal>
+    ensures { numbered result ≡ search_refusal base_limits m width
         (search_short base_limits m count (length rows.now) (length cols.now) (length values.now) start out workspace)
         (table_of count rows.now cols.now values.now) }
 {
     if search_short(m, count, rows, cols, values, start, out, workspace) {
-        return 31;
+        return Err(Refusal::Slice);
     }
-    let table = table_number(
+    table_number(
         MOST_SIGNS,
         MOST_SIGN_ENTRIES,
         MOST_SIGN_MAGNITUDE,
@@ -59,12 +61,9 @@ pub fn search_refusal(
         rows,
         cols,
         values,
-    );
-    if table != 0 {
-        return table;
-    }
+    )?;
     if MOST_WIDTH < width {
-        return 19;
+        return Err(Refusal::Search);
     }
-    0
+    Ok(())
 }

@@ -4,21 +4,18 @@
 mod check;
 mod signs;
 
+ghost use Rattle.refusal.specs.Number.{in_numbers};
 ghost use Rattle.sdp_local_search.specs.BeamSearch.{base_limits};
 ghost use Rattle.sdp_local_search.specs.Call.{BeamSearches};
 
 use crate::check::search_refusal;
 use crate::signs::search_from;
 use limits::SEARCH_WORKSPACE;
+use refusal::Refusal;
+use sign_search::search::Searched;
 
-// What the call answers: the answer's objective in eighths and the rounds, or the number that applies.
-#[derive(Drop)]
-pub enum BeamSearched {
-    Found(i64, u64),
-    Refused(u8),
-}
-
-// 01's local search from the first m signs of `start`, of which any byte but 0 is −. The signs of the answer go to `out`, as 0 and 1.
+// 01's local search from the first m signs of `start`, of which any byte but 0 is −. The signs of the answer go to `out`, as 0 and 1; its objective
+// in eighths and the rounds are answered.
 // The workspace holds a level: 1,024 words at least; a longer one keeps its tail.
 pub fn beam_search(
     m: usize,
@@ -30,11 +27,11 @@ pub fn beam_search(
     start: &[u8],
     out: &mut [u8],
     workspace: &mut [u64],
-) -> BeamSearched
+) -> Result<Searched, Refusal>
     ensures { BeamSearches base_limits m count rows.now cols.now values.now width start.now out.old
-        workspace.old out.new workspace.new result }
+        workspace.old out.new workspace.new (in_numbers result) }
 {
-    let refusal = search_refusal(
+    search_refusal(
         m,
         count,
         rows,
@@ -44,10 +41,7 @@ pub fn beam_search(
         start.len(),
         out.len(),
         workspace.len(),
-    );
-    if refusal != 0 {
-        return BeamSearched::Refused(refusal);
-    }
+    )?;
     let found = search_from(
         count,
         rows,
@@ -58,5 +52,5 @@ pub fn beam_search(
         &mut out[0..m],
         &mut workspace[0..SEARCH_WORKSPACE],
     );
-    BeamSearched::Found(found.least, found.rounds)
+    Ok(found)
 }

@@ -11,7 +11,7 @@ use sign_search::search::{Searched, search_signs};
 fn sign_byte(x: u8) -> u8
     ensures { result ≡ sign_byte x }
 {
-    if x == 0 { 0 } else { 1 }
+    u8::from(x != 0)
 }
 
 // The first signs of `start`, as many as `kept` holds, each as 0 or 1.

@@ -16,9 +16,7 @@ pub fn clear(changes: &mut [i64], m: usize)
     requires { m ≤ length changes.old }
     ensures { changes.new ≡ fill (λ i. pos 0) m changes.old }
 {
-    for i in 0..m {
-        changes[i] = 0;
-    }
+    changes[..m].fill(0);
 }
 
 // A value times a sign's byte.

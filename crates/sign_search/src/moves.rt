@@ -18,17 +18,7 @@ fn row_start(entries: usize, rows: &[u16], i: usize) -> usize
     requires { (entries ≤ length rows.now) × Climbs entries (elem rows.now) }
     ensures { RowStart entries (elem rows.now) i result }
 {
-    let mut low = 0;
-    let mut high = entries;
-    while low < high {
-        let mid = low + (high - low) / 2;
-        if wide(rows[mid]) < i {
-            low = mid + 1;
-        } else {
-            high = mid;
-        }
-    }
-    low
+    rows[..entries].partition_point(|row| (*row as usize) < i)
 }
 
 // Eight times a value times both signs.
@@ -126,6 +116,7 @@ pub fn move_to(
 {
     let m = current.len();
     let mut i = sign_apart(current_row, target, 0);
+    // A `while`: the next sign is found from the words, so that nothing is counted.
     while i < m {
         flip_at_hand(
             entries,

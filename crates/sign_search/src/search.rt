@@ -64,6 +64,7 @@ pub fn search_levels(
         entries, rows, cols, values, objective, current, kept, changes, objectives, signs, flips,
         most,
     );
+    // A `while`: it goes on as long as a level has choices, so that nothing is counted but the rounds.
     while 0 < count {
         least = keep_least(objectives, signs, count, least, kept);
         count = advance(

@@ -1,7 +1,5 @@
 // Which children the search may take: those of the first signs, as many as may flip, that lie near enough to the start.
-ghost use Rattle.std.specs.Prelude.{◌≡◌, cond, suc, ◌*◌, ◌^◌, ◌≤◌, ◌<◌, eqb, length, take};
-ghost use Rattle.std.specs.Int.Bits.{bit_xor};
-ghost use Rattle.std.specs.Int.Count.{ones};
+ghost use Rattle.std.specs.Prelude.{◌≡◌, true, false, cond, suc, ◌*◌, ◌≤◌, ◌<◌, eqb, length, take};
 ghost use Rattle.sign_words.specs.Signs.{sign_digit};
 ghost use Rattle.sign_words.specs.Packed.{unpacked};
 ghost use Rattle.sign_words.specs.Distance.{places_apart};
@@ -12,45 +10,22 @@ ghost use Rattle.sign_search.specs.Within.{goes_back, stays_near};
 ghost use Rattle.sign_search.specs.Clauses.{BothPacked};
 
 use local_search::children::{consider_child, expand_parent};
+use sign_words::distance::distance;
 use sign_words::words::sign_in;
 
-// 1 where two signs differ, else 0.
-fn differs(x: u8, y: u8) -> usize
-    ensures { (result ≡ cond (eqb (sign_digit x) (sign_digit y)) 0 1) × (result ≤ 1) }
+// Whether two signs differ.
+fn differs(x: u8, y: u8) -> bool
+    ensures { result ≡ cond (eqb (sign_digit x) (sign_digit y)) false true }
 {
-    if x == 0 {
-        if y == 0 {
-            return 0;
-        }
-        return 1;
-    }
-    if y == 0 { 1 } else { 0 }
+    (x == 0) != (y == 0)
 }
 
-// The number of ones in a word.
-fn ones_in(w: u64) -> usize
-    ensures { (result ≡ ones w) × (result ≤ 64) }
-{
-    u64::count_ones(w) as usize
-}
-
-// In how many bits two words differ.
-fn bits_apart(a: u64, b: u64) -> usize
-    ensures { (result ≡ ones (bit_xor a b)) × (result ≤ 64) × (a < 2 ^ 64) × (b < 2 ^ 64) }
-{
-    ones_in(a ^ b)
-}
-
-// In how many signs a choice, which is in `current` too, differs from the start, word by word.
+// In how many signs a choice, which is in `current` too, differs from the start.
 fn places_apart(current: &[u8], parent: &[u64], origin: &[u64]) -> usize
     requires { (length parent.now ≡ length origin.now) × (length parent.now < 65536) × BothPacked current.now parent.now origin.now }
     ensures { result ≡ places_apart current.now (unpacked (length current.now) origin.now) }
 {
-    let mut sum: usize = 0;
-    for k in 0..parent.len() {
-        sum += bits_apart(parent[k], origin[k]);
-    }
-    sum
+    distance(parent, origin) as usize
 }
 
 // Puts child `i` of the parent in, where it goes back to the start's sign.
@@ -73,7 +48,7 @@ fn back_child(
         (level_of (length parent.now) result objectives.new signs.new) result }
 {
     let sign = sign_in(origin, i);
-    if differs(current[i], sign) == 0 {
+    if !differs(current[i], sign) {
         return count;
     }
     consider_child(

@@ -1,5 +1,8 @@
 -- `beam_search` meets its contract: a refusal lends nothing on, and the search is lent what it writes and no more. Assumes nothing.
-use mathlib.Core.Path.{◌≡◌, refl, sym, ◌∙◌}
+use mathlib.Core.Path.{◌≡◌, refl, sym, ap, ◌∙◌}
+use Rattle.refusal.specs.Number.{in_numbers}
+use Rattle.refusal.proofs.Passed.{passed, some_number}
+use Rattle.sdp_local_search.specs.Call.{number_of}
 use native.Mathlib.Omega.{arith}
 use Prim.Native.Nat.{◌-◌}
 use lib.ListN.{length, take, drop}
@@ -13,33 +16,34 @@ use Rattle.sdp_local_search.proofs.Numbers.{call_ready}
 use Rattle.sdp_local_search.proofs.Calls.{answered, written, tail_kept}
 use Rattle.sdp_local_search.proofs.beam_search.Goals as goal
 
-pub returns-then-refusal-ne0 : goal.returns-then-refusal-ne0
-returns-then-refusal-ne0 c = record {
-  numbered = c.search_refusal-refusal.ensures;
-  refused = λ n. (refl, refl);
-  answers = λ e. absurd (c.if-refusal-ne0.true (c.search_refusal-refusal.ensures ∙ e));
-  writes = λ e. absurd (c.if-refusal-ne0.true (c.search_refusal-refusal.ensures ∙ e));
-  kept = refl;
-}
+pub returns-in_err-search_refusal : goal.returns-in_err-search_refusal
+returns-in_err-search_refusal c = let out = ap in_numbers (passed c.from_residual.ensures.1) in
+    record {
+      numbered = ap number_of out ∙ c.in_err-search_refusal.ensures;
+      refused = λ n. (refl, refl);
+      answers = λ e. absurd (some_number _ (c.in_err-search_refusal.ensures ∙ e));
+      writes = λ e. absurd (some_number _ (c.in_err-search_refusal.ensures ∙ e));
+      kept = refl;
+    }
 
 pub slice_bounds-search_from-end : goal.slice_bounds-search_from-end
 slice_bounds-search_from-end c =
     let a = c.args in
     let k = call_ready a.m a.count a.rows.now a.cols.now a.values.now a.width (length a.start.now) (length a.out.now) (length a.workspace.now)
-    (sym c.search_refusal-refusal.ensures ∙ c.if-refusal-ne0.false) in
+    (sym c.in_ok-search_refusal.ensures) in
     k.out_there
 
 pub slice_bounds-search_from-end-2 : goal.slice_bounds-search_from-end-2
 slice_bounds-search_from-end-2 c =
     let a = c.args in
     let k = call_ready a.m a.count a.rows.now a.cols.now a.values.now a.width (length a.start.now) (length a.out.now) (length a.workspace.now)
-    (sym c.search_refusal-refusal.ensures ∙ c.if-refusal-ne0.false) in
+    (sym c.in_ok-search_refusal.ensures) in
     k.workspace_there
 
 pub search_from-found-requires : goal.search_from-found-requires
 search_from-found-requires c = let a = c.args in
     let k = call_ready a.m a.count a.rows.now a.cols.now a.values.now a.width (length a.start.now) (length a.out.now) (length a.workspace.now)
-    (sym c.search_refusal-refusal.ensures ∙ c.if-refusal-ne0.false) in
+    (sym c.in_ok-search_refusal.ensures) in
     let m : length (take (a.m - 0) (drop 0 a.out.now)) ≡ a.m = part_size a.m a.out.now k.out_there in
     let n : length (take (search_workspace - 0) (drop 0 a.workspace.now)) ≡ search_workspace = part_size search_workspace a.workspace.now k.workspace_there in (
       rw (m, n) (record { signs_few = k.signs_few; width_few = omega (arith, k.width_few); level_room = omega arith }),
@@ -50,11 +54,10 @@ search_from-found-requires c = let a = c.args in
 
 pub returns : goal.returns
 returns c = let a = c.args in
-    let e = c.if-refusal-ne0.false in
     let k = call_ready a.m a.count a.rows.now a.cols.now a.values.now a.width (length a.start.now) (length a.out.now) (length a.workspace.now)
-    (sym c.search_refusal-refusal.ensures ∙ c.if-refusal-ne0.false) in
+    (sym c.in_ok-search_refusal.ensures) in
     let v = c.search_from-found in
-    let none = sym c.search_refusal-refusal.ensures ∙ e in
+    let none = sym c.in_ok-search_refusal.ensures in
     let t = table_of a.count a.rows.now a.cols.now a.values.now in
     let from = sign_bytes a.m a.start.now in
     let m : length (take (a.m - 0) (drop 0 a.out.now)) ≡ a.m = part_size a.m a.out.now k.out_there in
@@ -62,7 +65,7 @@ returns c = let a = c.args in
     record {
       numbered = sym none;
       refused = λ n. absurd (n none);
-      answers = λ z. answered t a.width from v.result.least v.result.rounds v.new.kept k.sound found;
+      answers = λ z. answered t a.width from v.result.least v.result.rounds v.new.kept found;
       writes = λ z. written a.m v.new.kept (beam_search t a.width from).answer a.out.now (v.auto.kept ∙ m) found.answer_is;
       kept = tail_kept search_workspace v.new.workspace a.workspace.now (v.auto.workspace ∙ part_size search_workspace a.workspace.now k.workspace_there);
     }

@@ -17,7 +17,7 @@ pub entry_limit-limit-requires : goal.entry_limit-limit-requires
 entry_limit-limit-requires c = (c.requires.3, c.requires.4)
 
 pub loop-i-init : goal.loop-i-init
-loop-i-init c = (omega arith, c.requires.0, λ j p q. absurd (omega arith))
+loop-i-init c = (c.requires.0, λ j p q. absurd (omega arith))
 
 pub overflow_add-objective : goal.overflow_add-objective
 overflow_add-objective c = rw (to_z-of_z c.ranges.objective, to_z-of_z {w = w64} (sfits_of c.t13-1.given)) (c.requires.2 c.loop-i.i (omega arith))
@@ -35,9 +35,9 @@ returns-then-objective-changes c =
     let limit = to_z w64 (of_z w64 c.entry_limit-limit.result) in
     same_first c.args.changes.now _ _ _ _ c.args.from c.args.m l.i (to_z-of_z c.ranges.objective) (limit_is)
     (record {
-      onward = l.invariant.0;
-      inside = l.invariant.1;
-      passed = l.invariant.2;
+      onward = l.auto.i;
+      inside = l.invariant.0;
+      passed = l.invariant.1;
       found = λ h. sym (ap (λ (z : ℤ). lt_z z limit) (summed)) ∙ c.if-objective-changes.true;
     })
 
@@ -50,9 +50,8 @@ loop-i-preserved c =
     to_z-of_z fits ∙ ap (λ (z : ℤ). o +ℤ z) (to_z-of_z {w = w64} (sfits_of c.t13-1.given)) in
     let l = c.loop-i in
     let limit = to_z w64 (of_z w64 c.entry_limit-limit.result) in (
-      omega (arith, l.invariant.0),
       omega arith,
-      one_more_passed (below_limit c.args.changes.now (to_z w64 (of_z w64 c.args.objective)) limit) c.args.from l.i l.invariant.2
+      one_more_passed (below_limit c.args.changes.now (to_z w64 (of_z w64 c.args.objective)) limit) c.args.from l.i l.invariant.1
           (sym (ap (λ (z : ℤ). lt_z z limit) (summed)) ∙ c.if-objective-changes.false),
     )
 
@@ -61,5 +60,5 @@ returns c =
     let limit_is : let a = c.args in to_z w64 (of_z w64 c.entry_limit-limit.result) ≡ limit_of a.width a.count a.objectives.now a.objective =
     held c.entry_limit-limit.result c.entry_limit-limit.type_inv ∙ rw (to_z-of_z c.ranges.objective) at c.entry_limit-limit.ensures in
     let l = c.loop-i in
-    same_first c.args.changes.now _ _ _ _ c.args.from c.args.m l.i (to_z-of_z c.ranges.objective) (limit_is)
-    (record { onward = l.invariant.0; inside = l.invariant.1; passed = l.invariant.2; found = λ h. absurd (omega arith) })
+    same_first c.args.changes.now _ _ _ _ c.args.from c.args.m c.args.m (to_z-of_z c.ranges.objective) (limit_is)
+    (record { onward = c.requires.0; inside = omega arith; passed = λ j p q. l.invariant.1 j p (omega arith); found = λ h. absurd (omega arith) })

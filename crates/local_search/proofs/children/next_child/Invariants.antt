@@ -1,11 +1,8 @@
-use Prim.Native.Nat.{ℕ, ◌≤◌, ◌<◌, ◌-◌}
+use Prim.Native.Nat.{ℕ, ◌≤◌, ◌<◌}
 use mathlib.Core.Bool.{false}
 use mathlib.Core.Path.{◌≡◌}
 use Rattle.local_search.specs.Enters.{below_limit}
 use Rattle.local_search.proofs.children.next_child.Given as goal
 
 abbrev pub invariant-loop-i : goal.invariant-loop-i
-invariant-loop-i l = (l.from ≤ l.i) × (l.i ≤ l.m) × ((j : ℕ) → l.from ≤ j → j < l.i → below_limit l.changes (l.objective) (l.limit) j ≡ false)
-
-abbrev pub decreases-loop-i : goal.decreases-loop-i
-decreases-loop-i l = l.m - l.i
+invariant-loop-i l = (l.i ≤ l.m) × ((j : ℕ) → l.from ≤ j → j < l.i → below_limit l.changes (l.objective) (l.limit) j ≡ false)

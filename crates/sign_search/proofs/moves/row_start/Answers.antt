@@ -1,21 +1,19 @@
-use native.Mathlib.Omega.{arith}
-use Rattle.sign_search.proofs.TurnLaws.{rows_below, rows_above}
+use Rattle.std.proofs.Common.{rules, arith, take, get_or, ltb, ltb-true, ltb-false}
+use Rattle.std.proofs.lemmas.List.Sorted.{IsPartitionPoint-from_clause, IsPartitionedBy-ltb, IsNonDecreasingBy-from_default}
+use Rattle.std.proofs.Math.Seq.{length-take-le, get_or-take}
 use Rattle.sign_search.proofs.moves.row_start.Goals as goal
 
-pub loop-low-init : goal.loop-low-init
-loop-low-init c = (omega arith, omega arith, (λ j h. absurd (omega arith)), (λ j h l. absurd (omega arith)))
-
-pub offset_bounds-rows-mid : goal.offset_bounds-rows-mid
-offset_bounds-rows-mid c = omega (arith, c.requires.0)
-
-pub bounds-rows-mid : goal.bounds-rows-mid
-bounds-rows-mid c = omega (arith, c.requires.0)
-
-pub loop-low-preserved-then-wide-i : goal.loop-low-preserved-then-wide-i
-loop-low-preserved-then-wide-i c = let inv = c.loop-low.invariant in (omega arith, inv.1, rows_below c.requires.1 c.args.i _ (omega arith) (omega (arith, c.wide.ensures)), inv.3)
-
-pub loop-low-preserved : goal.loop-low-preserved
-loop-low-preserved c = let inv = c.loop-low.invariant in (omega arith, omega arith, inv.2, rows_above c.requires.1 c.args.i _ (omega (arith, c.wide.ensures)))
-
 pub returns : goal.returns
-returns c = let inv = c.loop-low.invariant in record { inside = omega arith; behind = inv.2; ahead = λ k h l. inv.3 k (omega arith) l }
+returns c = let a = c.args in
+    let n = a.entries in
+    let long = length-take-le n a.rows.now c.requires.0 in
+    let rising = IsNonDecreasingBy-from_default (λ r. r) (take n a.rows.now) 0
+    (λ j k le lt. rw (get_or-take n a.rows.now j 0 (omega (arith, long)), get_or-take n a.rows.now k 0 (omega (arith, long))) (c.requires.1.climb j k le (omega (arith, long)))) in
+    let point = IsPartitionPoint-from_clause (λ r. ltb r a.i) (take n a.rows.now) c.partition_point.result c.partition_point.ensures.partitioned
+    (IsPartitionedBy-ltb (λ r. r) (take n a.rows.now) a.i rising) (λ x r q k. search rules) in
+    let inside = c.partition_point.ensures.bound in
+    record {
+      inside = omega (arith, long);
+      behind = λ k h. omega (arith, get_or-take n a.rows.now k 0 (omega (arith, long)), ltb-true (get_or (take n a.rows.now) k 0) a.i (point.0 k 0 (omega arith) h));
+      ahead = λ k h l. omega (arith, get_or-take n a.rows.now k 0 l, ltb-false (get_or (take n a.rows.now) k 0) a.i (point.1 k 0 h (omega (arith, long))));
+    }

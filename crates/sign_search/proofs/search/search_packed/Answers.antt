@@ -24,7 +24,7 @@ pub copy-requires : goal.copy-requires
 copy-requires c = simp length-take (omega (arith, c.requires.2))
 
 pub slice_bounds-search_levels-end-5 : goal.slice_bounds-search_levels-end-5
-slice_bounds-search_levels-end-5 c = part-fits (length c.args.kept.now) c.args.kept.now c.copy.new.words _ refl c.copy.ensures
+slice_bounds-search_levels-end-5 c = part-fits (length c.args.kept.now) c.args.kept.now c.copy.new.to _ refl c.copy.ensures
 
 pub search_levels-requires : goal.search_levels-requires
 search_levels-requires c = let r = c.requires.0 in

@@ -36,7 +36,7 @@ pub shape_of-current : goal.shape_of-current
 shape_of-current c = c.unpack.auto.signs ∙ c.search_packed-found.auto.current
 
 pub shape_of-current_row : goal.shape_of-current_row
-shape_of-current_row c = c.search_packed-found.auto.current_row ∙ c.copy.auto.words
+shape_of-current_row c = c.search_packed-found.auto.current_row ∙ c.copy.auto.to
 
 pub shape_of-level : goal.shape_of-level
 shape_of-level c = c.search_packed-found.auto.level

@@ -1,5 +1,4 @@
 use Prim.Native.Nat.{ℕ, ◌<◌}
-use native.Mathlib.Omega.{arith}
 use mathlib.Core.Bool.{Bool, true, false, cond}
 use mathlib.Core.List.{List, [], ◌∷◌}
 use mathlib.Core.Path.{◌≡◌, refl, sym, ap, ◌∙◌, subst}
@@ -19,35 +18,23 @@ use Rattle.sign_search.specs.Within.{apart_at, goes_back}
 use Rattle.sign_search.proofs.NearLaws.{whole, never}
 use Rattle.sign_search.proofs.within.back_child.Goals as goal
 
-abbrev unlike : Bool → ℕ
-unlike e = cond e 0 1
+module _ (changes : List ℤ) (x p : List ℕ) (c : Choice) (i : ℕ) {r : Bool} (is : r ≡ apart_at x p i) where
+  left_out : r ≡ false → goes_back changes x p c i ≡ false
+  left_out z = ap (λ (b : Bool). cond (improves_c (change_of changes) c i) b false) (sym is ∙ z) ∙ never (improves_c (change_of changes) c i)
 
-stays : (e : Bool) → unlike e ≡ 0 → cond e false true ≡ false
-stays true z = refl
-stays false z = absurd (omega (arith, z))
-
-goes : (e : Bool) → (unlike e ≡ 0 → ⊥) → cond e false true ≡ true
-goes true z = absurd (z refl)
-goes false z = refl
-
-module _ (changes : List ℤ) (x p : List ℕ) (c : Choice) (i r : ℕ) (is : r ≡ cond (eqb (sign_digit (elem x i)) (sign_digit (elem p i))) 0 1) where
-  left_out : r ≡ 0 → goes_back changes x p c i ≡ false
-  unfolding apart_at
-  left_out z = ap (λ (b : Bool). cond (improves_c (change_of changes) c i) b false) (stays (eqb (sign_digit (elem x i)) (sign_digit (elem p i))) (sym is ∙ z)) ∙ never (improves_c (change_of changes) c i)
-
-  taken_in : (r ≡ 0 → ⊥) → improves_c (change_of changes) c i ≡ goes_back changes x p c i
-  unfolding apart_at
-  taken_in d = sym (ap (λ (b : Bool). cond (improves_c (change_of changes) c i) b false) (goes (eqb (sign_digit (elem x i)) (sign_digit (elem p i))) (λ z. d (is ∙ z))) ∙ whole (improves_c (change_of changes) c i))
+  taken_in : r ≡ true → improves_c (change_of changes) c i ≡ goes_back changes x p c i
+  taken_in d = sym (ap (λ (b : Bool). cond (improves_c (change_of changes) c i) b false) (sym is ∙ d) ∙ whole (improves_c (change_of changes) c i))
 
 -- the start's sign, read from its words
-sign-is : (m : ℕ) (x origin : List ℕ) (i r s : ℕ) → i < m → r ≡ cond (eqb (sign_digit (elem x i)) (sign_digit s)) 0 1 → s ≡ sign_in origin i
-    → r ≡ cond (eqb (sign_digit (elem x i)) (sign_digit (elem (unpacked m origin) i))) 0 1
-sign-is m x origin i r s h e is = e ∙ ap (λ (t : ℕ). cond (eqb (sign_digit (elem x i)) (sign_digit t)) 0 1) (is ∙ sym (elem_unpacked m origin i h))
+sign-is : (m : ℕ) (x origin : List ℕ) (i : ℕ) {r : Bool} {s : ℕ} → i < m → r ≡ cond (eqb (sign_digit (elem x i)) (sign_digit s)) false true → s ≡ sign_in origin i
+    → r ≡ apart_at x (unpacked m origin) i
+unfolding apart_at
+sign-is m x origin i h e is = e ∙ ap (λ (t : ℕ). cond (eqb (sign_digit (elem x i)) (sign_digit t)) false true) (is ∙ sym (elem_unpacked m origin i h))
 
-pub returns-then-differs-eq0 : goal.returns-then-differs-eq0
-returns-then-differs-eq0 c = let a = c.args in
+pub returns-then-not-differs : goal.returns-then-not-differs
+returns-then-not-differs c = let a = c.args in
     no_child a.width _ _ a.count a.i a.changes.now (goes_back a.changes.now a.current.now (unpacked (length a.current.now) a.origin.now)) (parent_of a.objective a.parent.now)
-    (left_out a.changes.now a.current.now (unpacked (length a.current.now) a.origin.now) (parent_of a.objective a.parent.now) a.i c.differs.result (sign-is (length a.current.now) a.current.now a.origin.now a.i c.differs.result c.sign_in-sign.result c.requires.2 c.differs.ensures.0 c.sign_in-sign.ensures) c.if-differs-eq0.true) refl c.requires.0.used
+    (left_out a.changes.now a.current.now (unpacked (length a.current.now) a.origin.now) (parent_of a.objective a.parent.now) a.i (sign-is (length a.current.now) a.current.now a.origin.now a.i c.requires.2 c.differs.ensures c.sign_in-sign.ensures) c.if-not-differs.true) refl c.requires.0.used
 
 pub consider_child-requires : goal.consider_child-requires
 consider_child-requires c = (rw (to_z-of_z c.ranges.objective) c.requires.0, c.requires.1)
@@ -59,4 +46,4 @@ returns c = let a = c.args in
     let taken = rw (to_z-of_z c.ranges.objective) at k.ensures.kept in
     subst (λ (b : Bool). Kept a.width (level_of (length a.parent.now) a.count a.objectives.now a.signs.now) (cond b (flip_w a.changes.now a.i parent ∷ []) [])
     (level_of (length a.parent.now) k.result k.new.objectives k.new.signs) k.result)
-    (taken_in a.changes.now a.current.now (unpacked (length a.current.now) a.origin.now) parent a.i c.differs.result (sign-is (length a.current.now) a.current.now a.origin.now a.i c.differs.result c.sign_in-sign.result c.requires.2 c.differs.ensures.0 c.sign_in-sign.ensures) c.if-differs-eq0.false) taken
+    (taken_in a.changes.now a.current.now (unpacked (length a.current.now) a.origin.now) parent a.i (sign-is (length a.current.now) a.current.now a.origin.now a.i c.requires.2 c.differs.ensures c.sign_in-sign.ensures) c.if-not-differs.false) taken
