@@ -10,6 +10,8 @@ use lib.Signed.{◌≤ℤ◌}
 use lib.Ieee.{Float}
 use lib.ListN.{length}
 use borrow.Author.Tests.{le-ltb}
+use Rattle.std.specs.Prelude.{Result, Ok, Err}
+use Rattle.std.specs.Result.{result_unwrap_or}
 use Rattle.laws.proofs.Any.{any_head, any_rest}
 use Rattle.laws.proofs.Integer.{integers}
 use Rattle.limits.specs.Limits.{most_wagons, most_entries}
@@ -20,15 +22,12 @@ use Rattle.sign_table.proofs.Theorems.{floor_le_choice}
 use Rattle.run_record.specs.declared.Run.{Run}
 use Rattle.run_record.specs.CostTable.{quadratic, linear}
 use Rattle.finalize.specs.Finalize.{floor_eighths}
-use Rattle.run_contract.specs.Calls.{finish_lengths, Finishes}
-use Rattle.run_contract.specs.declared.Finished.TheVariants as F
+use Rattle.run_contract.specs.Calls.{answer_number, finish_lengths, Finishes}
 use Rattle.sdp_solver.specs.Usable.{Usable}
 use Rattle.ranged_finish.specs.Ranged.{RangedTable, ranged_table, low_of, high_of, Within}
 use Rattle.ranged_finish.specs.Numbers.{ranged_number, ranged_short, ranged_finish_number}
-use Rattle.ranged_finish.specs.Call.{ranged_number_of, Figures, Ranges, RangedFinishes}
+use Rattle.ranged_finish.specs.Call.{Figures, Ranges, RangedFinishes}
 use Rattle.ranged_finish.specs.declared.RangedResult.{RangedResult}
-use Rattle.ranged_finish.specs.declared.RangedFinished.{RangedFinished}
-use Rattle.ranged_finish.specs.declared.RangedFinished.TheVariants as R
 use Rattle.ranged_finish.proofs.Mono.{cost_mono}
 use Rattle.ranged_finish.proofs.Halls.{low_hall, low_number, high_number}
 use Rattle.ranged_finish.proofs.Ranging.{low_in, high_in}
@@ -59,29 +58,24 @@ module _ (t : RangedTable) where
 
 -- ---- the call's contract
 
-result_or : RangedResult → RangedFinished → RangedResult
-result_or d (R.Result x) = x
-result_or d (R.Refused k) = d
-
 module _ (run : Run) (t : RangedTable) (width draw_count : ℕ) (draws factor : List Float) (b : List ℕ) (dual : List Float) (workspace : List ℕ) where
   pub ranged_refused : (k : ℕ) → k ≡ ranged_finish_number run t width draw_count (finish_lengths draws factor b dual workspace) → (k ≡ 0 → ⊥)
-      → RangedFinishes run t width draw_count draws factor b dual workspace (R.Refused k) b dual workspace
+      → RangedFinishes run t width draw_count draws factor b dual workspace (Err k) b dual workspace
   ranged_refused k e n =
       record {
         numbered = e;
         refused = λ z. (refl, refl, refl);
         given = λ z. absurd (n z);
-        finished = λ x is. absurd (n (ap ranged_number_of is));
-        figures = λ x is. absurd (n (ap ranged_number_of is));
-        ranges = λ x is. absurd (n (ap ranged_number_of is));
+        finished = λ x is. absurd (n (ap answer_number is));
+        figures = λ x is. absurd (n (ap answer_number is));
+        ranges = λ x is. absurd (n (ap answer_number is));
       }
 
   pub ranged_finishes : (x : RangedResult) {b' : List ℕ} {dual' : List Float} {workspace' : List ℕ}
       → ranged_finish_number run t width draw_count (finish_lengths draws factor b dual workspace) ≡ 0
-      → Finishes run (high_of t) width draw_count draws factor b dual workspace (F.Result x.result) b' dual' workspace'
+      → Finishes run (high_of t) width draw_count draws factor b dual workspace (Ok x.result) b' dual' workspace'
       → Figures t b' x.low x.high x.low_floor
-      → RangedFinishes run t width draw_count draws factor b dual workspace (R.Result x) b' dual' workspace'
-  unfolding result_or
+      → RangedFinishes run t width draw_count draws factor b dual workspace (Ok x) b' dual' workspace'
   ranged_finishes x {b'} {dual'} {workspace'} ok f g =
       let r : Ranges t b' x.low x.high x.low_floor = ranges_hold t b' (ranged_ok run t width draw_count (finish_lengths draws factor b dual workspace) ok) g in
       record {
@@ -89,9 +83,9 @@ module _ (run : Run) (t : RangedTable) (width draw_count : ℕ) (draws factor : 
         refused = λ n. absurd (n refl);
         given = λ z. (x, refl);
         finished = λ y is.
-            subst (λ (z : RangedResult). Finishes run (high_of t) width draw_count draws factor b dual workspace (F.Result z.result) b' dual' workspace') (ap (result_or x) is) f;
-        figures = λ y is. subst (λ (z : RangedResult). Figures t b' z.low z.high z.low_floor) (ap (result_or x) is) g;
-        ranges = λ y is. subst (λ (z : RangedResult). Ranges t b' z.low z.high z.low_floor) (ap (result_or x) is) r;
+            subst (λ (z : RangedResult). Finishes run (high_of t) width draw_count draws factor b dual workspace (Ok z.result) b' dual' workspace') (ap (λ (r : Result RangedResult ℕ). result_unwrap_or r x) is) f;
+        figures = λ y is. subst (λ (z : RangedResult). Figures t b' z.low z.high z.low_floor) (ap (λ (r : Result RangedResult ℕ). result_unwrap_or r x) is) g;
+        ranges = λ y is. subst (λ (z : RangedResult). Ranges t b' z.low z.high z.low_floor) (ap (λ (r : Result RangedResult ℕ). result_unwrap_or r x) is) r;
       }
 
 -- ---- where no slice of the ranged table is short

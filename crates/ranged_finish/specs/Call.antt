@@ -1,24 +1,16 @@
 -- What the call `finish_ranged` promises: the finish on the high table, the choice's low and high figures, the low table's floor, and what these
 -- mean for every table within the ranges.
-use Rattle.std.specs.Prelude.{◌≡◌, List, ℕ, Float, ℤ, ◌≤ℤ◌}
+use Rattle.std.specs.Prelude.{◌≡◌, List, ℕ, Float, ℤ, ◌≤ℤ◌, Result, Ok}
 use Rattle.tables.specs.Table.{value_at}
 use Rattle.tables.specs.Cost.{cost_eighths, choice_at}
 use Rattle.run_record.specs.declared.Run.{Run}
 use Rattle.run_record.specs.CostTable.{CostTable, quadratic, linear}
 use Rattle.run_record.specs.Numbers.{cost_table_number}
 use Rattle.finalize.specs.Finalize.{cost_of, floor_eighths}
-use Rattle.run_contract.specs.Calls.{finish_lengths, Finishes}
-use Rattle.run_contract.specs.declared.Finished.TheVariants as F
+use Rattle.run_contract.specs.Calls.{answer_number, finish_lengths, Finishes}
 use Rattle.ranged_finish.specs.Ranged.{RangedTable, with_values, low_of, high_of, Within}
 use Rattle.ranged_finish.specs.Numbers.{ranged_finish_number}
 use Rattle.ranged_finish.specs.declared.RangedResult.{RangedResult}
-use Rattle.ranged_finish.specs.declared.RangedFinished.{RangedFinished}
-use Rattle.ranged_finish.specs.declared.RangedFinished.TheVariants as R
-
--- 01's number of an answer, 0 where the call is accepted
-abbrev pub ranged_number_of : RangedFinished → ℕ
-ranged_number_of (R.Result x) = 0
-ranged_number_of (R.Refused number) = number
 
 -- the cost of a choice under a table, in eighths
 abbrev pub cost_under : CostTable → List ℕ → ℤ
@@ -51,13 +43,13 @@ pub record Ranges (t : RangedTable) (b : List ℕ) (low high floor : ℤ) : Type
 
 -- from the record and the lent slices to the answer and the slices at exit
 pub record RangedFinishes (run : Run) (t : RangedTable) (width draw_count : ℕ) (draws factor : List Float) (b : List ℕ) (dual : List Float) (workspace : List ℕ)
-    (answer : RangedFinished) (b' : List ℕ) (dual' : List Float) (workspace' : List ℕ) : Type 0 where
-  pub numbered : ranged_number_of answer ≡ ranged_finish_number run t width draw_count (finish_lengths draws factor b dual workspace)
-  pub refused : (ranged_number_of answer ≡ 0 → ⊥) → (b' ≡ b) × (dual' ≡ dual) × (workspace' ≡ workspace)
+    (answer : Result RangedResult ℕ) (b' : List ℕ) (dual' : List Float) (workspace' : List ℕ) : Type 0 where
+  pub numbered : answer_number answer ≡ ranged_finish_number run t width draw_count (finish_lengths draws factor b dual workspace)
+  pub refused : (answer_number answer ≡ 0 → ⊥) → (b' ≡ b) × (dual' ≡ dual) × (workspace' ≡ workspace)
   -- where no number applies there is a result
-  pub given : ranged_number_of answer ≡ 0 → (x : RangedResult) × (answer ≡ R.Result x)
+  pub given : answer_number answer ≡ 0 → (x : RangedResult) × (answer ≡ Ok x)
   -- all that a finish promises, of the high table: demand 3 too
-  pub finished : (x : RangedResult) → answer ≡ R.Result x
-      → Finishes run (high_of t) width draw_count draws factor b dual workspace (F.Result x.result) b' dual' workspace'
-  pub figures : (x : RangedResult) → answer ≡ R.Result x → Figures t b' x.low x.high x.low_floor
-  pub ranges : (x : RangedResult) → answer ≡ R.Result x → Ranges t b' x.low x.high x.low_floor
+  pub finished : (x : RangedResult) → answer ≡ Ok x
+      → Finishes run (high_of t) width draw_count draws factor b dual workspace (Ok x.result) b' dual' workspace'
+  pub figures : (x : RangedResult) → answer ≡ Ok x → Figures t b' x.low x.high x.low_floor
+  pub ranges : (x : RangedResult) → answer ≡ Ok x → Ranges t b' x.low x.high x.low_floor

@@ -1,14 +1,15 @@
 // The finish over costs known within ranges: on the high table, with the choice's figures at both ends.
-ghost use Rattle.std.specs.Prelude.{◌≡◌};
+ghost use Rattle.std.specs.Prelude.{◌≡◌, Ok};
+ghost use Rattle.refusal.specs.Number.{in_numbers};
 ghost use Rattle.run_contract.specs.Calls.{finish_lengths, Finishes};
-ghost use Rattle.run_contract.specs.declared.Finished.TheVariants.{Result};
 ghost use Rattle.ranged_finish.specs.Ranged.{ranged_table, high_of};
 ghost use Rattle.ranged_finish.specs.Numbers.{ranged_finish_number};
 ghost use Rattle.ranged_finish.specs.Call.{Figures, RangedFinishes};
 
+use crate::RangedResult;
 use crate::figures::floor_of;
 use crate::number::ranged_finish_number;
-use crate::{RangedFinished, RangedResult};
+use refusal::Refusal;
 use run_record::Run;
 use run_record::lengths::FinishSlices;
 use sdp_solver::finish::finish_accepted;
@@ -36,7 +37,7 @@ fn finish_ranged_accepted(
     requires { ranged_finish_number run (ranged_table n count rows.now cols.now low.now high.now low_c.now high_c.now) width draw_count (finish_lengths draws.now factor.now b.old dual_variables.old workspace.old) ≡ 0 }
     ensures finished { Finishes run (high_of (ranged_table n count rows.now cols.now low.now high.now low_c.now high_c.now))
         width draw_count draws.now factor.now b.old dual_variables.old workspace.old
-        (Result result.result) b.new dual_variables.new workspace.new }
+        (Ok result.result) b.new dual_variables.new workspace.new }
     ensures figures { Figures (ranged_table n count rows.now cols.now low.now high.now low_c.now high_c.now) b.new result.low result.high result.low_floor }
 {
     let result = finish_accepted(
@@ -84,10 +85,10 @@ pub fn finish_ranged(
     b: &mut [u8],
     dual_variables: &mut [f64],
     workspace: &mut [u64],
-) -> RangedFinished
+) -> Result<RangedResult, Refusal>
     ensures { RangedFinishes run (ranged_table n count rows.now cols.now low.now high.now low_c.now high_c.now)
         width draw_count draws.now factor.now b.old dual_variables.old workspace.old
-        result b.new dual_variables.new workspace.new }
+        (in_numbers result) b.new dual_variables.new workspace.new }
 {
     let lent = FinishSlices {
         draws: draws.len(),
@@ -96,13 +97,10 @@ pub fn finish_ranged(
         dual: dual_variables.len(),
         workspace: workspace.len(),
     };
-    let number = ranged_finish_number(
+    ranged_finish_number(
         run, n, count, rows, cols, low, high, low_c, high_c, width, draw_count, lent,
-    );
-    if number != 0 {
-        return RangedFinished::Refused(number);
-    }
-    RangedFinished::Result(finish_ranged_accepted(
+    )?;
+    Ok(finish_ranged_accepted(
         run,
         n,
         count,

@@ -16,10 +16,3 @@ pub struct RangedResult {
     pub high: i64,
     pub low_floor: i64,
 }
-
-// What the call answers: the result, or the number that applies.
-#[derive(Drop)]
-pub enum RangedFinished {
-    Result(RangedResult),
-    Refused(u8),
-}

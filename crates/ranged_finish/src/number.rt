@@ -1,12 +1,14 @@
-// The number of the ranged finish: 31 to 33, 18 and 19 are those of the finish on the high table, the numbers between them those of the ranged table.
+// What a ranged finish refuses: 31 to 33, 18 and 19 are those of the finish on the high table, the numbers between them those of the ranged table.
 // Nothing is written.
 ghost use Rattle.std.specs.Prelude.{◌≡◌};
+ghost use Rattle.refusal.specs.Number.{numbered};
 ghost use Rattle.run_record.specs.Lengths.{lengths_of};
 ghost use Rattle.ranged_finish.specs.Ranged.{ranged_table};
 ghost use Rattle.ranged_finish.specs.Numbers.{ranged_short, ranged_finish_number};
 
 use crate::ranges::ranged_number;
 use limits::{MOST_ENTRIES, MOST_WAGONS};
+use refusal::{Refusal, number_in};
 use run_record::Run;
 use run_record::lengths::FinishSlices;
 use run_record::numbers::finish_number;
@@ -37,7 +39,7 @@ fn ranged_short(
     too_short(MOST_WAGONS < n, n, high_c.len())
 }
 
-// The number that a ranged finish answers, or 0.
+// What a ranged finish refuses.
 pub fn ranged_finish_number(
     run: Run,
     n: usize,
@@ -51,21 +53,18 @@ pub fn ranged_finish_number(
     width: usize,
     draw_count: usize,
     lent: FinishSlices,
-) -> u8
-    ensures { result ≡ ranged_finish_number run (ranged_table n count rows.now cols.now low.now high.now low_c.now high_c.now) width draw_count (lengths_of lent) }
+) -> Result<(), Refusal>
+    ensures { numbered result ≡ ranged_finish_number run (ranged_table n count rows.now cols.now low.now high.now low_c.now high_c.now) width draw_count (lengths_of lent) }
 {
     if ranged_short(n, count, rows, cols, low, high, low_c, high_c) {
-        return 31;
+        return Err(Refusal::Slice);
     }
-    let number = finish_number(
+    let finish = finish_number(
         run, n, count, rows, cols, high, high_c, width, draw_count, lent,
     );
-    if 30 < number {
-        return number;
+    if 30 < number_in(finish) {
+        return finish;
     }
-    let table = ranged_number(n, count, rows, cols, low, high, low_c, high_c);
-    if table != 0 {
-        return table;
-    }
-    number
+    ranged_number(n, count, rows, cols, low, high, low_c, high_c)?;
+    finish
 }

@@ -1,15 +1,17 @@
-// The first number of a ranged table: 13, 14, 23 of an entry, 15, 23 of a c, 16. Each is a pass of its own and writes nothing.
+// What is refused of a ranged table, the first of: 13, 14, 23 of an entry, 15, 23 of a c, 16. Each is a pass of its own and writes nothing.
 ghost use Rattle.std.specs.Prelude.{◌≡◌, ◌||◌, ◌+◌, ◌*◌, ◌≤◌, ◌<◌, ◌^◌, min, length, ltb};
 ghost use Rattle.std.specs.Int.Signed.{lt_z};
 ghost use Rattle.laws.specs.Sum.{total};
 ghost use Rattle.laws.specs.Lists.{elem, elem_z};
 ghost use Rattle.limits.specs.Limits.{most_wagons, most_entries};
+ghost use Rattle.refusal.specs.Number.{numbered};
 ghost use Rattle.tables.specs.Table.{table_of, Lent};
 ghost use Rattle.tables.specs.Check.{Placed, unmirrored};
 ghost use Rattle.ranged_finish.specs.Ranged.{ranged_table};
 ghost use Rattle.ranged_finish.specs.Numbers.{above, larger, ranged_number};
 
 use limits::{MOST_ENTRIES, MOST_MAGNITUDE, MOST_WAGONS};
+use refusal::Refusal;
 use tables::check::{abs_of, bad_order, bad_size};
 use tables::mirror::unmirrored;
 
@@ -98,7 +100,7 @@ fn ranges_unmirrored(count: usize, rows: &[u16], cols: &[u16], low: &[i64], high
     unmirrored(count, rows, cols, high)
 }
 
-// The first number of a ranged table, or 0.
+// What is refused of a ranged table.
 pub fn ranged_number(
     n: usize,
     count: usize,
@@ -108,27 +110,27 @@ pub fn ranged_number(
     high: &[i64],
     low_c: &[i64],
     high_c: &[i64],
-) -> u8
+) -> Result<(), Refusal>
     requires { (count ≤ most_entries → Lent count rows.now cols.now low.now × (count ≤ length high.now)) × (n ≤ most_wagons → (n ≤ length low_c.now) × (n ≤ length high_c.now)) }
-    ensures { result ≡ ranged_number (ranged_table n count rows.now cols.now low.now high.now low_c.now high_c.now) }
+    ensures { numbered result ≡ ranged_number (ranged_table n count rows.now cols.now low.now high.now low_c.now high_c.now) }
 {
     if bad_size(0, MOST_WAGONS, MOST_ENTRIES, n, count) {
-        return 13;
+        return Err(Refusal::Size);
     }
     if bad_order(n, count, rows, cols) {
-        return 14;
+        return Err(Refusal::Entry);
     }
     if above(count, low, high) {
-        return 23;
+        return Err(Refusal::Range);
     }
     if ranges_unmirrored(count, rows, cols, low, high) {
-        return 15;
+        return Err(Refusal::Mirror);
     }
     if above(n, low_c, high_c) {
-        return 23;
+        return Err(Refusal::Range);
     }
     if ranges_too_large(MOST_MAGNITUDE, n, count, low, high, low_c, high_c) {
-        return 16;
+        return Err(Refusal::Magnitude);
     }
-    0
+    Ok(())
 }

@@ -7,6 +7,8 @@ use lib.IntN.{ℤ}
 use lib.Ieee.{Float}
 use lib.ListN.{length, take, drop}
 use lib.Seq.{length-take-le, drop_at}
+use Rattle.std.specs.Prelude.{Result, Ok}
+use Rattle.std.specs.Result.{result_unwrap_or}
 use Rattle.ieee.specs.Floats.{◌+ᶠ◌}
 use Rattle.limits.specs.Limits.{search_workspace}
 use Rattle.run_record.specs.declared.Run.{Run}
@@ -18,11 +20,9 @@ use Rattle.finalize.specs.Clauses.{Finalizes}
 use Rattle.finalize.specs.Demand3.{Demand3}
 use Rattle.finalize.proofs.Demand3.{demand3}
 use Rattle.run_contract.specs.declared.FinishResult.{FinishResult}
-use Rattle.run_contract.specs.declared.Finished.TheVariants.{Result}
 use Rattle.run_contract.specs.Calls.{used, finish_lengths, finish_result, Finishes}
 use Rattle.run_contract.proofs.Accepting.{Finishable, finish_accepted}
 use Rattle.run_contract.proofs.Bounded.{bounded}
-use Rattle.run_contract.proofs.Chains.{result_or}
 
 module _ (run : Run) (t : CostTable) (width draw_count : ℕ) (draws factor : List Float) (b : List ℕ) (dual : List Float) (workspace : List ℕ) {b' : List ℕ} {dual' : List Float}
     {diagonal bound : Float} {floor rounded cost : ℤ} {rounds : ℕ}
@@ -57,16 +57,16 @@ module _ (run : Run) (t : CostTable) (width draw_count : ℕ) (draws factor : Li
 
   -- of the workspace the front alone was lent on
   pub finishes : (front : List ℕ) → length front ≡ length (take search_workspace workspace)
-      → Finishes run t width draw_count draws factor b dual workspace (Result made_result) b' dual' (front ++ drop search_workspace workspace)
+      → Finishes run t width draw_count draws factor b dual workspace (Ok made_result) b' dual' (front ++ drop search_workspace workspace)
   finishes front e =
       record {
         numbered = sym ok;
         refused = λ n. absurd (n refl);
-        accepted = λ z. (ap (λ (x : FinishResult). Result x) result_is, figures.choice_is, figures.multipliers_are);
+        accepted = λ z. (ap Ok result_is, figures.choice_is, figures.multipliers_are);
         kept = drop_at front (drop search_workspace workspace) search_workspace (e ∙ length-take-le search_workspace workspace accepted.fits.space_room);
         demand_3 = λ x e w.
             subst (λ (x : FinishResult). Demand3 t.n (quadratic t) (linear t) run.rank (take (used run) factor) draws draw_count width b' x.floor x.rounded_cost x.cost x.rounds)
-            (ap (result_or made_result) e) (demand3 accepted.hall run.rank _ _ _ _ w figures);
+            (ap (λ (r : Result FinishResult ℕ). result_unwrap_or r made_result) e) (demand3 accepted.hall run.rank _ _ _ _ w figures);
         bound_under = λ x e b''.
-            subst (λ (x : FinishResult). AtMostEighths x.float_bound (cost_of t.n (quadratic t) (linear t) b'')) (ap (result_or made_result) e) (rw figures.bound_is (bounded accepted.hall b''));
+            subst (λ (x : FinishResult). AtMostEighths x.float_bound (cost_of t.n (quadratic t) (linear t) b'')) (ap (λ (r : Result FinishResult ℕ). result_unwrap_or r made_result) e) (rw figures.bound_is (bounded accepted.hall b''));
       }

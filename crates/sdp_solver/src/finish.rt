@@ -1,13 +1,14 @@
 // The finish call: rounding, search and figures of a stopped run.
 ghost use Rattle.run_record.specs.CostTable.{cost_table};
-ghost use Rattle.std.specs.Prelude.{◌≡◌};
+ghost use Rattle.std.specs.Prelude.{◌≡◌, Ok};
+ghost use Rattle.refusal.specs.Number.{in_numbers};
 ghost use Rattle.run_record.specs.Numbers.{finish_number};
-ghost use Rattle.run_contract.specs.declared.Finished.TheVariants.{Result};
 ghost use Rattle.run_contract.specs.Calls.{finish_lengths, Finishes};
 
 use finalize::finalize;
 use limits::SEARCH_WORKSPACE;
-use run_contract::{FinishResult, Finished};
+use refusal::Refusal;
+use run_contract::FinishResult;
 use run_record::Run;
 use run_record::lengths::FinishSlices;
 use run_record::numbers::finish_number;
@@ -32,7 +33,7 @@ pub fn finish_accepted(
     requires { finish_number run (cost_table n count rows.now cols.now values.now c.now) width draw_count
         (finish_lengths draws.now factor.now b.old dual_variables.old workspace.old) ≡ 0 }
     ensures { Finishes run (cost_table n count rows.now cols.now values.now c.now) width draw_count draws.now factor.now b.old dual_variables.old workspace.old
-        (Result result) b.new dual_variables.new workspace.new }
+        (Ok result) b.new dual_variables.new workspace.new }
 {
     let rank = run.rank;
     let figures = finalize(
@@ -82,9 +83,9 @@ pub fn finish(
     b: &mut [u8],
     dual_variables: &mut [f64],
     workspace: &mut [u64],
-) -> Finished
+) -> Result<FinishResult, Refusal>
     ensures { Finishes run (cost_table n count rows.now cols.now values.now c.now) width draw_count draws.now factor.now b.old dual_variables.old workspace.old
-        result b.new dual_variables.new workspace.new }
+        (in_numbers result) b.new dual_variables.new workspace.new }
 {
     let lent = FinishSlices {
         draws: draws.len(),
@@ -93,13 +94,10 @@ pub fn finish(
         dual: dual_variables.len(),
         workspace: workspace.len(),
     };
-    let number = finish_number(
+    finish_number(
         run, n, count, rows, cols, values, c, width, draw_count, lent,
-    );
-    if number != 0 {
-        return Finished::Refused(number);
-    }
-    Finished::Result(finish_accepted(
+    )?;
+    Ok(finish_accepted(
         run,
         n,
         count,

@@ -1,17 +1,17 @@
 // The open call: the start's factor, and the record of a run over it.
-ghost use Rattle.std.specs.Prelude.{◌≡◌, ◌+◌, ◌*◌, length};
+ghost use Rattle.std.specs.Prelude.{◌≡◌, ◌+◌, ◌*◌, length, Ok};
+ghost use Rattle.refusal.specs.Number.{in_numbers};
 ghost use Rattle.maxcut_oracle.specs.Table.{work_objective};
 ghost use Rattle.run_record.specs.CostTable.{cost_table};
 ghost use Rattle.run_sweep.specs.Work.{sign_table_of};
 ghost use Rattle.run_contract.specs.Calls.{first_stage, asked_of, open_number_of, Opens};
-ghost use Rattle.run_contract.specs.declared.Opened.TheVariants.{Started};
 ghost use Rattle.sdp_solver.specs.Usable.{Usable};
 
 use super::work::call_work;
 use finalize::room;
 use initialize::prepare_initial_factor;
 use maxcut_oracle::objective::obj;
-use run_contract::Opened;
+use refusal::Refusal;
 use run_limits::{draws_follow, rank_meant};
 use run_record::numbers::open_number;
 use run_record::{OpenSettings, Run, Stage};
@@ -81,7 +81,7 @@ pub fn open_accepted(
 ) -> Run
     requires { open_number_of (asked_of (cost_table n count rows.now cols.now values.now c.now) asked numbers.now) (length factor.old) ≡ 0 }
     ensures { Opens (asked_of (cost_table n count rows.now cols.now values.now c.now) asked numbers.now)
-        factor.old (Started result) factor.new }
+        factor.old (Ok result) factor.new }
 {
     let size = n + 1;
     let meant = rank_meant(size, asked.rank);
@@ -124,11 +124,11 @@ pub fn open(
     asked: OpenSettings,
     numbers: &[f64],
     factor: &mut [f64],
-) -> Opened
+) -> Result<Run, Refusal>
     ensures { Opens (asked_of (cost_table n count rows.now cols.now values.now c.now) asked numbers.now)
-        factor.old result factor.new }
+        factor.old (in_numbers result) factor.new }
 {
-    let refusal = open_number(
+    open_number(
         n,
         count,
         rows,
@@ -138,9 +138,6 @@ pub fn open(
         asked,
         numbers.len(),
         factor.len(),
-    );
-    if refusal != 0 {
-        return Opened::Refused(refusal);
-    }
-    Opened::Started(open_accepted(n, count, rows, cols, values, c, asked, numbers, factor))
+    )?;
+    Ok(open_accepted(n, count, rows, cols, values, c, asked, numbers, factor))
 }

@@ -1,6 +1,8 @@
 // The sweep call: up to k sweeps over the table given.
 ghost use Rattle.std.specs.Prelude.{◌≡◌, ◌+◌, ◌*◌, ◌≤◌, length};
+ghost use Rattle.std.specs.Result.{result_unwrap_or};
 ghost use Rattle.limits.specs.Limits.{most_signs, most_rank};
+ghost use Rattle.refusal.specs.Number.{numbered};
 ghost use Rattle.factor.specs.Shapes.{Shaped, ObjFits};
 ghost use Rattle.run_record.specs.CostTable.{cost_table};
 ghost use Rattle.run_sweep.specs.Work.{work, call_work};
@@ -11,7 +13,7 @@ ghost use Rattle.sdp_solver.specs.Usable.{Usable};
 
 use super::work::call_work;
 use finalize::room;
-use run_contract::Swept;
+use refusal::Refusal;
 use run_record::Run;
 use run_record::numbers::sweep_number;
 use run_sweep::sweeps_up_to;
@@ -94,7 +96,7 @@ pub fn sweep_accepted(
     )
 }
 
-// The sweep call by value: the number, and the record after it.
+// The sweep call by value: the record after it.
 pub fn sweep_run(
     run: Run,
     n: usize,
@@ -105,22 +107,15 @@ pub fn sweep_run(
     c: &[i64],
     k: u32,
     factor: &mut [f64],
-) -> Swept
-    ensures { Sweeps run (cost_table n count rows.now cols.now values.now c.now) k factor.old result.number result.run factor.new }
+) -> Result<Run, Refusal>
+    ensures { Sweeps run (cost_table n count rows.now cols.now values.now c.now) k factor.old (numbered result) (result_unwrap_or result run) factor.new }
 {
-    let number = sweep_number(run, n, count, rows, cols, values, c, factor.len());
-    if number != 0 {
-        return Swept { run, number };
-    }
+    sweep_number(run, n, count, rows, cols, values, c, factor.len())?;
     let used = run.size * run.rank;
-    let next = sweep_accepted(run, n, count, rows, cols, values, c, k, &mut factor[..used]);
-    Swept {
-        run: next,
-        number: 0,
-    }
+    Ok(sweep_accepted(run, n, count, rows, cols, values, c, k, &mut factor[..used]))
 }
 
-// The sweep call on the caller's own record; its number.
+// The sweep call on the caller's own record.
 pub fn sweep(
     run: &mut Run,
     n: usize,
@@ -131,11 +126,10 @@ pub fn sweep(
     c: &[i64],
     k: u32,
     factor: &mut [f64],
-) -> u8
+) -> Result<(), Refusal>
     ensures { Sweeps run.old (cost_table n count rows.now cols.now values.now c.now) k factor.old
-        result run.new factor.new }
+        (numbered result) run.new factor.new }
 {
-    let swept = sweep_run(*run, n, count, rows, cols, values, c, k, &mut *factor);
-    *run = swept.run;
-    swept.number
+    *run = sweep_run(*run, n, count, rows, cols, values, c, k, &mut *factor)?;
+    Ok(())
 }

@@ -8,11 +8,11 @@ use mathlib.Core.List.{List, ◌∷◌}
 use native.Mathlib.Omega.{arith}
 use lib.ListN.{length, take}
 use lib.Ieee.{Float}
+use Rattle.std.specs.Prelude.{Ok}
 use Rattle.ieee.specs.Floats.{at}
 use Rattle.laws.specs.Lists.{over, tabulate}
 use Rattle.laws.proofs.Made.{length_tabulate, get_d_tabulate}
 use Rattle.run_record.specs.declared.Run.{Run}
-use Rattle.run_contract.specs.declared.Opened.TheVariants as O
 use Rattle.run_contract.specs.Calls.{Settings, Opens, open_number_of, open_run, start_factor, used}
 use Rattle.run_contract.specs.Chain.{kept_after}
 use Rattle.run_contract.proofs.Allowed.{lends_agree}
@@ -20,13 +20,13 @@ use Rattle.several_runs.specs.Turn.{Tables, blank, run_at, joined, Turns}
 use Rattle.several_runs.specs.Shared.{TurnCall, TurnSeen, seen_of, TurnChain, turns, OpenedAll}
 
 pub opened_any : (count : ℕ) (o : ℕ → Settings) (runs : List Run) (lent left : ℕ → List Float) → count ≤ length runs
-    → ((i : ℕ) → i < count → Opens (o i) (lent i) (O.Started (run_at runs i)) (left i))
+    → ((i : ℕ) → i < count → Opens (o i) (lent i) (Ok (run_at runs i)) (left i))
     → OpenedAll count o runs (joined (λ i. take (used (run_at runs i)) (left i)) count)
 opened_any count o runs lent left room opens = record { room = room; lent = lent; left = left; opens = opens; kept_are = refl }
 
 -- an open that no number refuses, lent so many numbers
-open_one : (o : Settings) (factor : List Float) (run : Run) → open_number_of o (length factor) ≡ 0 → run ≡ open_run o → Opens o factor (O.Started run) (over (start_factor o) factor)
-open_one o factor run ok e = record { numbered = sym ok; refused = λ n. absurd (n refl); accepted = λ _. (ap O.Started e, refl) }
+open_one : (o : Settings) (factor : List Float) (run : Run) → open_number_of o (length factor) ≡ 0 → run ≡ open_run o → Opens o factor (Ok run) (over (start_factor o) factor)
+open_one o factor run ok e = record { numbered = sym ok; refused = λ n. absurd (n refl); accepted = λ _. (ap Ok e, refl) }
 
 pub opened_some : (count : ℕ) (o : ℕ → Settings) (lent : ℕ → List Float) → ((i : ℕ) → i < count → open_number_of (o i) (length (lent i)) ≡ 0)
     → (runs : List Run) × (kept : List Float) × OpenedAll count o runs kept

@@ -1,11 +1,10 @@
 -- What a caller sees who makes a list of turns on the same runs and tables, each doing anything that its `ensures` allows; the plain runs that
 -- share them; and what is claimed of every list. Definitions only.
-use Rattle.std.specs.Prelude.{ℕ, ◌+◌, ◌≤◌, ◌<◌, ◌≡◌, cond, List, [], ◌∷◌, ◌++◌, ◌⊎◌, eqb, length, take, drop, Float}
+use Rattle.std.specs.Prelude.{ℕ, ◌+◌, ◌≤◌, ◌<◌, ◌≡◌, cond, List, [], ◌∷◌, ◌++◌, ◌⊎◌, eqb, length, take, drop, Float, Ok}
 use Rattle.laws.specs.Lists.{tabulate}
 use Rattle.run_record.specs.declared.Stage.TheVariants.{Stopped}
 use Rattle.run_record.specs.declared.Run.{Run}
 use Rattle.run_sweep.specs.Work.{Work, call_work}
-use Rattle.run_contract.specs.declared.Opened.TheVariants as O
 use Rattle.run_contract.specs.Calls.{Settings, Opens, used, Exchanges}
 use Rattle.run_contract.specs.PlainRun.{Plain, FinishCall, ExchangeCall, exchange, plain_open, plain_sweeps, plain_after, record_of, finish_of}
 use Rattle.run_contract.specs.Chain.{Lends, kept_after}
@@ -54,7 +53,7 @@ pub record OpenedAll (count : ℕ) (o : ℕ → Settings) (runs : List Run) (kep
   pub room : count ≤ length runs
   pub lent : ℕ → List Float
   pub left : ℕ → List Float
-  pub opens : (i : ℕ) → i < count → Opens (o i) (lent i) (O.Started (run_at runs i)) (left i)
+  pub opens : (i : ℕ) → i < count → Opens (o i) (lent i) (Ok (run_at runs i)) (left i)
   pub kept_are : kept ≡ joined (λ i. take (used (run_at runs i)) (left i)) count
 
 -- ---- the plain runs

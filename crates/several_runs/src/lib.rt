@@ -7,19 +7,9 @@ pub mod numbers; // numbers.rt: the turn's number
 mod shares; // shares.rt: who gets how many sweeps
 pub mod turn; // turn.rt: the call
 
-use limits::MOST_RUNS;
-use run_record::Run;
-
 // A run's table: n wagons, and how many entries.
 #[derive(Clone, Copy)]
 pub struct HallSize {
     pub n: usize,
     pub count: usize,
-}
-
-// The records after a turn, and its number; refused, the records as they came.
-#[derive(Drop)]
-pub struct Turned {
-    pub runs: [Run; MOST_RUNS],
-    pub number: u8,
 }

@@ -1,12 +1,14 @@
-// The turn's number.
+// What a turn refuses.
 ghost use Rattle.std.specs.Prelude.{◌≡◌, ◌≤◌};
 ghost use Rattle.limits.specs.Limits.{most_runs};
+ghost use Rattle.refusal.specs.Number.{numbered};
 ghost use Rattle.laws.specs.Refusal.{first_of};
 ghost use Rattle.several_runs.specs.Turn.{run_at, tables_of, bad_turn, bad_count, number_at, turn_number};
 
 use super::HallSize;
 use super::member::number_at;
 use limits::{LEAST_TURN, MOST_RUNS, MOST_TURN};
+use refusal::Refusal;
 use run_record::Run;
 
 // 25.
@@ -29,7 +31,7 @@ pub fn bad_count(run_count: usize) -> bool
     MOST_RUNS < run_count
 }
 
-// The first number of a run, in order.
+// What is refused of the first run that is refused.
 fn members_number(
     run_count: usize,
     runs: [Run; MOST_RUNS],
@@ -39,9 +41,9 @@ fn members_number(
     values: &[i64],
     c: &[i64],
     factors: usize,
-) -> u8
+) -> Result<(), Refusal>
     requires { run_count ≤ most_runs }
-    ensures { result ≡ first_of (number_at (run_at runs) (tables_of halls rows.now cols.now values.now c.now) factors) run_count }
+    ensures { numbered result ≡ first_of (number_at (run_at runs) (tables_of halls rows.now cols.now values.now c.now) factors) run_count }
 {
     let mut entries: usize = 0;
     let mut costs: usize = 0;
@@ -49,20 +51,17 @@ fn members_number(
     for i in 0usize..run_count {
         let run = runs[i];
         let hall = halls[i];
-        let number = number_at(
+        number_at(
             run, hall, entries, costs, at, rows, cols, values, c, factors,
-        );
-        if number != 0 {
-            return number;
-        }
+        )?;
         entries += hall.count;
         costs += hall.n;
         at += run.size * run.rank;
     }
-    0
+    Ok(())
 }
 
-// The turn's number, 0 where it is accepted.
+// What a turn refuses.
 pub fn turn_number(
     run_count: usize,
     runs: [Run; MOST_RUNS],
@@ -73,14 +72,14 @@ pub fn turn_number(
     values: &[i64],
     c: &[i64],
     factors: usize,
-) -> u8
-    ensures { result ≡ turn_number sweeps run_count (run_at runs) (tables_of halls rows.now cols.now values.now c.now) factors }
+) -> Result<(), Refusal>
+    ensures { numbered result ≡ turn_number sweeps run_count (run_at runs) (tables_of halls rows.now cols.now values.now c.now) factors }
 {
     if bad_turn(sweeps) {
-        return 25;
+        return Err(Refusal::TurnSweeps);
     }
     if bad_count(run_count) {
-        return 26;
+        return Err(Refusal::TurnRuns);
     }
     members_number(run_count, runs, halls, rows, cols, values, c, factors)
 }

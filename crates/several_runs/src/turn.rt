@@ -1,13 +1,16 @@
 // The turn.
 ghost use Rattle.std.specs.Prelude.{◌≡◌, length};
+ghost use Rattle.std.specs.Result.{result_unwrap_or};
+ghost use Rattle.refusal.specs.Number.{numbered};
 ghost use Rattle.laws.specs.Lists.{over, fill};
 ghost use Rattle.several_runs.specs.Turn.{run_at, tables_of, turn_number, turned_at, joined, Turns};
 
+use super::HallSize;
 use super::member::turn_one;
 use super::numbers::turn_number;
 use super::shares::{open_below, open_one, share_of};
-use super::{HallSize, Turned};
 use limits::MOST_RUNS;
+use refusal::Refusal;
 use run_record::Run;
 
 // A turn that nothing refuses: each run makes up to its share.
@@ -35,12 +38,11 @@ pub fn turn_accepted(
     for i in 0usize..run_count {
         let run = runs[i];
         let hall = halls[i];
-        let stage = run.stage;
-        let k = share_of(stage, sweeps, open, before);
+        let k = share_of(run.stage, sweeps, open, before);
         next[i] = turn_one(
             run, hall, entries, costs, at, k, rows, cols, values, c, factors,
         );
-        before += open_one(stage);
+        before += open_one(run.stage);
         entries += hall.count;
         costs += hall.n;
         at += run.size * run.rank;
@@ -48,7 +50,7 @@ pub fn turn_accepted(
     next
 }
 
-// The turn call: up to eight runs share so many sweeps.
+// The turn call: up to eight runs share so many sweeps; the records after it.
 pub fn turn(
     run_count: usize,
     runs: [Run; MOST_RUNS],
@@ -59,10 +61,10 @@ pub fn turn(
     values: &[i64],
     c: &[i64],
     factors: &mut [f64],
-) -> Turned
-    ensures { Turns sweeps run_count runs (tables_of halls rows.now cols.now values.now c.now) factors.old result.number result.runs factors.new }
+) -> Result<[Run; MOST_RUNS], Refusal>
+    ensures { Turns sweeps run_count runs (tables_of halls rows.now cols.now values.now c.now) factors.old (numbered result) (result_unwrap_or result runs) factors.new }
 {
-    let number = turn_number(
+    turn_number(
         run_count,
         runs,
         halls,
@@ -72,15 +74,8 @@ pub fn turn(
         values,
         c,
         factors.len(),
-    );
-    if number != 0 {
-        return Turned { runs, number };
-    }
-    let next = turn_accepted(
+    )?;
+    Ok(turn_accepted(
         run_count, runs, halls, sweeps, rows, cols, values, c, factors,
-    );
-    Turned {
-        runs: next,
-        number: 0,
-    }
+    ))
 }

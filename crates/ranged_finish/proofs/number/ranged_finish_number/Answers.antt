@@ -1,6 +1,7 @@
 -- `ranged_finish::number::ranged_finish_number` meets its contract. Assumes nothing.
 use mathlib.Core.Path.{sym, ◌∙◌}
 use native.Mathlib.Omega.{arith}
+use Rattle.run_record.proofs.Refused.{handed_on, some_refusal}
 use Rattle.ranged_finish.proofs.Deciding.{short_ranged, by_state, by_table, by_settings}
 use Rattle.ranged_finish.proofs.Theorems.{slices_lent}
 use Rattle.ranged_finish.proofs.number.ranged_finish_number.Goals as goal
@@ -8,17 +9,17 @@ use Rattle.ranged_finish.proofs.number.ranged_finish_number.Goals as goal
 pub returns-then-ranged_short : goal.returns-then-ranged_short
 returns-then-ranged_short c = sym (short_ranged _ _ _ _ _ (sym c.ranged_short.ensures ∙ c.if-ranged_short.true))
 
-pub returns-then-number-gt30 : goal.returns-then-number-gt30
-returns-then-number-gt30 c = let s = sym c.ranged_short.ensures ∙ c.if-ranged_short.false in
-    c.finish_number-number.ensures ∙ by_state _ _ _ _ _ s (omega (arith, c.finish_number-number.ensures, c.if-number-gt30.true))
+pub returns-then-number_in-gt30 : goal.returns-then-number_in-gt30
+returns-then-number_in-gt30 c = let s = sym c.ranged_short.ensures ∙ c.if-ranged_short.false in
+    c.finish_number-finish.ensures ∙ by_state _ _ _ _ _ s (omega (arith, c.number_in.ensures, c.finish_number-finish.ensures, c.if-number_in-gt30.true))
 
-pub ranged_number-table-requires : goal.ranged_number-table-requires
-ranged_number-table-requires c = slices_lent _ _ _ _ _ _ _ _ (sym c.ranged_short.ensures ∙ c.if-ranged_short.false)
+pub ranged_number-requires : goal.ranged_number-requires
+ranged_number-requires c = slices_lent _ _ _ _ _ _ _ _ (sym c.ranged_short.ensures ∙ c.if-ranged_short.false)
 
-pub returns-then-table-ne0 : goal.returns-then-table-ne0
-returns-then-table-ne0 c = let s = sym c.ranged_short.ensures ∙ c.if-ranged_short.false in
-    c.ranged_number-table.ensures ∙ by_table _ _ _ _ _ s (omega (arith, c.finish_number-number.ensures, c.if-number-gt30.false)) (λ z. c.if-table-ne0.true (c.ranged_number-table.ensures ∙ z))
+pub returns-in_err-ranged_number : goal.returns-in_err-ranged_number
+returns-in_err-ranged_number c = let s = sym c.ranged_short.ensures ∙ c.if-ranged_short.false in
+    handed_on _ _ c.from_residual.ensures.1 c.in_err-ranged_number.ensures ∙ by_table _ _ _ _ _ s (omega (arith, c.number_in.ensures, c.finish_number-finish.ensures, c.if-number_in-gt30.false)) (some_refusal _ c.in_err-ranged_number.ensures)
 
 pub returns : goal.returns
 returns c = let s = sym c.ranged_short.ensures ∙ c.if-ranged_short.false in
-    c.finish_number-number.ensures ∙ by_settings _ _ _ _ _ s (sym c.ranged_number-table.ensures ∙ c.if-table-ne0.false)
+    c.finish_number-finish.ensures ∙ by_settings _ _ _ _ _ s (sym c.in_ok-ranged_number.ensures)

@@ -5,10 +5,9 @@ use native.Mathlib.Nat.{le_trans}
 use native.Mathlib.Omega.{arith}
 use lib.ListN.{length}
 use lib.Seq.{length-take-le}
+use Rattle.std.specs.Prelude.{Ok}
 use Rattle.run_limits.proofs.Ranks.{given_under}
-use Rattle.run_record.specs.declared.Run.{Run}
 use Rattle.run_record.specs.CostTable.{cost_table}
-use Rattle.run_contract.specs.declared.Opened.TheVariants.{Started}
 use Rattle.run_contract.specs.Calls.{Settings, asked_of}
 use Rattle.run_contract.proofs.Accepting.{Openable, open_accepted}
 use Rattle.sdp_solver.proofs.Opening.{started, opened}
@@ -115,5 +114,5 @@ returns c =
     record {
       numbered = sym c.requires;
       refused = λ n. absurd (n refl);
-      accepted = λ z. (ap (λ (r : Run). Started r) (opened o c.args.factor.now c.requires c.rank_meant-meant.ensures.0 _ new c.rule_of-step.ensures c.first_stage-stage.ensures c.first_objective-last_objective.ensures), new);
+      accepted = λ z. (ap Ok (opened o c.args.factor.now c.requires c.rank_meant-meant.ensures.0 _ new c.rule_of-step.ensures c.first_stage-stage.ensures c.first_objective-last_objective.ensures), new);
     }

@@ -53,9 +53,6 @@ overflow_mul-at c = let k = cursor_next _ _ _ c.loop-i.invariant.1 (number_good 
 pub overflow_add-at : goal.overflow_add-at
 overflow_add-at c = let k = cursor_next _ _ _ c.loop-i.invariant.1 (number_good _ _ _ _ _ c.requires _ c.loop-i-test.true) in omega (arith, k.factors_room)
 
-pub overflow_add-i : goal.overflow_add-i
-overflow_add-i c = let eight = count_few _ (count_good _ _ _ _ _ c.requires) in omega (arith, eight, c.loop-i-test.true)
-
 pub loop-i-smaller : goal.loop-i-smaller
 loop-i-smaller c = omega (arith, c.loop-i-test.true)
 
