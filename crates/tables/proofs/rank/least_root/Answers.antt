@@ -1,5 +1,5 @@
 -- `tables::rank::least_root` meets its contract: the whole root of t - 1 is the last number whose square is below t.
-use Prim.Native.Nat.{◌+◌}
+use Prim.Native.Nat.{◌+◌, ◌≤◌}
 use native.Mathlib.Nat.{mul-le-mul}
 use native.Mathlib.Omega.{arith}
 use Rattle.tables.proofs.Ranks.{root_below, root_is}
@@ -12,4 +12,4 @@ pub returns-else-t-eq0 : goal.returns-else-t-eq0
 returns-else-t-eq0 c = let r = c.isqrt.result in
     let root = c.isqrt.ensures in
     let below = root_below r c.args.t (omega (arith, root.square_le)) c.requires in
-    (root_is _ (r + 1) (omega (arith, root.next_square_gt)) (λ s h. omega (arith, mul-le-mul {s} {r} {s} {r} (omega arith) (omega arith), root.square_le)), omega (arith, below))
+    (root_is _ (r + 1) (omega (arith, root.next_square_gt)) (λ s h. let le : s ≤ r = omega arith in omega (arith, mul-le-mul le le, root.square_le)), omega (arith, below))
