@@ -1,19 +1,53 @@
 -- Which wagons a list names, and what is meant by two choices that differ in the house.
 --     is_named, unnamed, named_at   a list names its wagons and no other
+--     any_indexed, any_taken        what `any` finds in a list, and in the front of one
 --     differ_house                  whatever differs in every wagon but the pinned ones is meant
 -- Assumes nothing.
-use Prim.Native.Nat.{ℕ, ◌<◌}
+use Prim.Native.Nat.{ℕ, zero, suc, ◌<◌, ◌≤◌}
+use native.Mathlib.Omega.{arith}
 use borrow.Author.Tests.{eq-eqb, ne_eqb, eqb-true}
-use mathlib.Core.Bool.{true, false}
-use mathlib.Core.List.{List}
-use mathlib.Core.Path.{◌≡◌, sym, ◌∙◌}
+use mathlib.Core.Bool.{Bool, true, false, cond, ◌||◌}
+use mathlib.Core.List.{List, [], ◌∷◌}
+use mathlib.Core.Path.{◌≡◌, refl, sym, ap, ap₂, ◌∙◌}
 use lib.Dec.{eqb}
-use lib.ListN.{length}
-use Rattle.laws.specs.Lists.{elem}
+use lib.ListN.{length, take}
+use lib.Seq.{length-take-le, get_or-take}
+use Rattle.std.specs.List.{list_any}
+use Rattle.laws.specs.Lists.{elem, any_below}
 use Rattle.laws.proofs.Any.{never, below_at, below_none, below_true}
 use Rattle.tables.specs.Cost.{choice_at}
 use Rattle.block_search.specs.Blocks.{BlockCall, named}
 use Rattle.block_search.specs.Call.{DifferInHouse}
+
+any_front : (n : ℕ) (p : ℕ → Bool) → any_below (suc n) p ≡ (p 0 || any_below n (λ k. p (suc k)))
+unfolding any_below
+any_front zero p = last (p 0)
+  where
+    last : (a : Bool) → cond a true false ≡ (a || false)
+    last true = refl
+    last false = refl
+any_front (suc n) p = ap (λ t. cond (p (suc n)) true t) (any_front n p) ∙ swap (p (suc n)) (p 0) (any_below n (λ k. p (suc k)))
+  where
+    swap : (a b t : Bool) → cond a true (b || t) ≡ (b || cond a true t)
+    swap true true t = refl
+    swap true false t = refl
+    swap false b t = refl
+
+-- what the library's `any` finds, by index
+pub any_indexed : (p : ℕ → Bool) (xs : List ℕ) → list_any p xs ≡ any_below (length xs) (λ k. p (elem xs k))
+unfolding any_below
+any_indexed p [] = refl
+any_indexed p (x ∷ xs) = ap (λ t. p x || t) (any_indexed p xs) ∙ sym (any_front (length xs) (λ k. p (elem (x ∷ xs) k)))
+
+any_ext : (n : ℕ) (p q : ℕ → Bool) → ((k : ℕ) → k < n → p k ≡ q k) → any_below n p ≡ any_below n q
+unfolding any_below
+any_ext zero p q e = refl
+any_ext (suc n) p q e = ap₂ (λ a t. cond a true t) (e n (omega arith)) (any_ext n p q (λ k h. e k (omega arith)))
+
+pub any_taken : (p : ℕ → Bool) (n : ℕ) (xs : List ℕ) → n ≤ length xs → list_any p (take n xs) ≡ any_below n (λ k. p (elem xs k))
+any_taken p n xs h =
+    any_indexed p (take n xs) ∙ ap (λ m. any_below m (λ k. p (elem (take n xs) k))) (length-take-le n xs h)
+    ∙ any_ext n (λ k. p (elem (take n xs) k)) (λ k. p (elem xs k)) (λ k l. ap p (get_or-take n xs k 0 l))
 
 pub is_named : (list : List ℕ) (i k : ℕ) → k < length list → elem list k ≡ i → named list i ≡ true
 unfolding named

@@ -4,9 +4,14 @@ use native.Mathlib.Omega.{arith}
 use borrow.Author.Tests.{ltb-false, le-ltb}
 use mathlib.Core.Bool.{Bool, true, false}
 use mathlib.Core.List.{List, [], ◌∷◌}
-use mathlib.Core.Path.{◌≡◌, refl, sym, ◌∙◌}
+use mathlib.Core.Path.{◌≡◌, refl, ◌∙◌}
 use lib.IntN.{ℤ}
 use lib.ListN.{length}
+use Rattle.std.specs.Prelude.{Result, Ok, Err}
+use Rattle.std.specs.Result.{is_err}
+use Rattle.refusal.specs.Number.{numbered}
+use Rattle.refusal.specs.declared.Refusal.{Refusal}
+use Rattle.refusal.proofs.Passed.{some_number}
 use Rattle.laws.specs.Sum.{total}
 use Rattle.laws.specs.Lists.{elem, elem_z}
 use Rattle.laws.specs.Refusal.{◌if◌, any_of}
@@ -32,18 +37,14 @@ same_bad n list h = rw (le-ltb most_size n (omega arith)) (go (outside n list) (
     go false true = refl
     go false false = refl
 
-answered : (t : Bool) {x : ℕ} → x ≡ 20 if t → (x ≡ 0 → ⊥) → true ≡ t
-answered true e d = refl
-answered false e d = absurd (d e)
-
-unanswered : (t : Bool) {x : ℕ} → x ≡ 20 if t → x ≡ 0 → false ≡ t
-unanswered t e d = sym (clear t 19 (sym e ∙ d))
-
-pub list_bad : (n : ℕ) (list : List ℕ) {x : ℕ} → n ≤ most_wagons → x ≡ 20 if index_refused most_size n list list → (x ≡ 0 → ⊥) → true ≡ bad_list n list
-list_bad n list h e d = answered (index_refused most_size n list list) e d ∙ same_bad n list h
-
-pub list_good : (n : ℕ) (list : List ℕ) {x : ℕ} → n ≤ most_wagons → x ≡ 20 if index_refused most_size n list list → x ≡ 0 → false ≡ bad_list n list
-list_good n list h e d = unanswered (index_refused most_size n list list) e d ∙ same_bad n list h
+pub list_judged : (n : ℕ) (list : List ℕ) → n ≤ most_wagons → {A : Type 0} (r : Result A Refusal) → numbered r ≡ 20 if index_refused most_size n list list → is_err r ≡ bad_list n list
+list_judged n list h r e = judged (index_refused most_size n list list) r e ∙ same_bad n list h
+  where
+    judged : (t : Bool) {A : Type 0} (r : Result A Refusal) → numbered r ≡ 20 if t → is_err r ≡ t
+    judged true (Ok x) e = absurd (omega arith)
+    judged true (Err x) e = refl
+    judged false (Ok x) e = refl
+    judged false (Err x) e = absurd (some_number x e)
 
 -- ---- the slices are long enough for what is in range
 

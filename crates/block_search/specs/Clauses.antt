@@ -1,5 +1,6 @@
 -- What the functions of a search ask and leave.
-use Rattle.std.specs.Prelude.{ℕ, ◌≤◌, ◌<◌, ◌≡◌, Bool, true, cond, List, [], ◌∷◌, ◌++◌, length, ℤ}
+use Rattle.std.specs.Prelude.{ℕ, ◌≤◌, ◌<◌, ◌≡◌, Bool, true, List, [], ◌∷◌, ◌++◌, length, ℤ, Option, Some, None}
+use Rattle.std.specs.Borrow.{Bor}
 use Rattle.laws.specs.Sum.{total}
 use Rattle.laws.specs.Lists.{elem, elem_z, tabulate}
 use Rattle.limits.specs.Limits.{most_wagons, most_entries, most_magnitude, most_width, most_blocks, search_workspace}
@@ -12,9 +13,14 @@ use Rattle.block_search.specs.Blocks.{named, free_among}
 pub record Low (b : List ℕ) : Type 0 where
   pub low : (i : ℕ) → elem b i ≤ 1
 
--- the wagons that a list names, or, of the whole house, all; a pinned one never
-abbrev pub moved_by : List ℕ → Bool → List ℕ → ℕ → Bool
-moved_by pinned whole list = free_among pinned (λ i. cond whole true (named list i))
+-- the wagons that the block names, or, where there is none, those of the whole house
+abbrev pub asked_by : Option (Bor (List ℕ)) → ℕ → Bool
+asked_by None i = true
+asked_by (Some block) i = named block.now i
+
+-- of these every one that isn't pinned
+abbrev pub moved_by : List ℕ → Option (Bor (List ℕ)) → ℕ → Bool
+moved_by pinned block = free_among pinned (asked_by block)
 
 -- the bytes of b at the free wagons, then the anchor's
 unfoldable pub start_signs : List ℕ → List ℕ → List ℕ

@@ -10,56 +10,52 @@ ghost use Rattle.block_search.specs.Clauses.{HouseFits, PinsFit, ClearFits, move
 
 use crate::search::search_held;
 use limits::MOST_WAGONS;
-use pinned::lift::{copy_states, put_choice};
+use pinned::lift::copy_states;
+use reduced::at_indices::put_each;
 use tables::check::wide;
 
 // Whether a list names wagon i.
 fn names(list: &[u16], i: usize) -> bool
     ensures { result ≡ named list.now i }
 {
-    for k in 0..list.len() {
-        if wide(list[k]) == i {
-            return true;
-        }
-    }
-    false
+    list.iter().any(|wagon| wide(*wagon) == i)
 }
 
-// Whether wagon i is free: the list names it, or the whole house is searched, and it isn't pinned.
-fn is_free(pinned: &[u16], whole: bool, list: &[u16], i: usize) -> bool
-    ensures { result ≡ moved_by pinned.now whole list.now i }
+// Whether wagon i is free: the block names it, or there is none and the whole house is searched, and it isn't pinned.
+fn is_free(pinned: &[u16], block: Option<&[u16]>, i: usize) -> bool
+    ensures { result ≡ moved_by pinned.now block.entry i }
 {
     if names(pinned, i) {
         return false;
     }
-    if whole {
-        return true;
+    match block {
+        Some(list) => names(list, i),
+        None => true,
     }
-    names(list, i)
 }
 
 // The state of wagon i: 2 where it is free, else its byte of b.
-fn state_of(pinned: &[u16], whole: bool, list: &[u16], b: &[u8], i: usize) -> u8
+fn state_of(pinned: &[u16], block: Option<&[u16]>, b: &[u8], i: usize) -> u8
     requires { i < length b.now }
-    ensures { result ≡ cond (moved_by pinned.now whole list.now i) 2 (elem b.now i) }
+    ensures { result ≡ cond (moved_by pinned.now block.entry i) 2 (elem b.now i) }
 {
-    if is_free(pinned, whole, list, i) {
+    if is_free(pinned, block, i) {
         return 2;
     }
     b[i]
 }
 
 // The states of n wagons.
-fn hold(n: usize, pinned: &[u16], whole: bool, list: &[u16], b: &[u8], states: &mut [u8])
+fn hold(n: usize, pinned: &[u16], block: Option<&[u16]>, b: &[u8], states: &mut [u8])
     requires { (n ≤ length b.now) × (n ≤ length states.old) }
-    ensures { states.new ≡ over (held n (moved_by pinned.now whole list.now) b.now) states.old }
+    ensures { states.new ≡ over (held n (moved_by pinned.now block.entry) b.now) states.old }
 {
     for i in 0..n {
-        states[i] = state_of(pinned, whole, list, b, i);
+        states[i] = state_of(pinned, block, b, i);
     }
 }
 
-// The wagons that the list names, or all, but no pinned one, searched from b, which takes the choice found. The fall in eighths.
+// The wagons of a block, or all, but no pinned one, searched from b, which takes the choice found. The fall in eighths.
 fn search_moving(
     n: usize,
     count: usize,
@@ -68,18 +64,17 @@ fn search_moving(
     values: &[i64],
     c: &[i64],
     pinned: &[u16],
-    whole: bool,
-    list: &[u16],
+    block: Option<&[u16]>,
     width: usize,
     b: &mut [u8],
     workspace: &mut [u64],
 ) -> i64
     requires { HouseFits n count rows.now cols.now values.now c.now width b.old (length workspace.old) }
-    ensures { (result ≡ fall_from n (table_of count rows.now cols.now values.now) (elem_z c.now) width (moved_by pinned.now whole list.now) b.old)
-        × (b.new ≡ searched_from n (table_of count rows.now cols.now values.now) (elem_z c.now) width (moved_by pinned.now whole list.now) b.old) }
+    ensures { (result ≡ fall_from n (table_of count rows.now cols.now values.now) (elem_z c.now) width (moved_by pinned.now block.entry) b.old)
+        × (b.new ≡ searched_from n (table_of count rows.now cols.now values.now) (elem_z c.now) width (moved_by pinned.now block.entry) b.old) }
 {
     let mut states = [0u8; MOST_WAGONS];
-    hold(n, pinned, whole, list, b, &mut states);
+    hold(n, pinned, block, b, &mut states);
     search_held(
         n,
         count,
@@ -127,8 +122,7 @@ fn search_blocks(
             values,
             c,
             pinned,
-            false,
-            &wagons[at..end],
+            Some(&wagons[at..end]),
             width,
             b,
             workspace,
@@ -143,7 +137,7 @@ fn first_choice(n: usize, pinned: &[u16], stores: &[u8], present: &[u8], b: &mut
     ensures { b.new ≡ pinned_choice n pinned.now stores.now present.now }
 {
     copy_states(n, present, b);
-    put_choice(pinned, stores, b);
+    put_each(pinned, stores, b);
 }
 
 // The whole of an accepted call: the first choice, each block, then all wagons that aren't pinned.
@@ -176,6 +170,6 @@ pub fn clear_house(
         n, count, rows, cols, values, c, pinned, sizes, wagons, width, b, falls, workspace,
     );
     search_moving(
-        n, count, rows, cols, values, c, pinned, true, pinned, width, b, workspace,
+        n, count, rows, cols, values, c, pinned, None, width, b, workspace,
     );
 }

@@ -5,16 +5,18 @@ mod blocks; // blocks.rt: the first choice, the blocks in turn, the house
 pub mod check; // check.rt: the numbers
 mod search; // search.rt: one search, all other wagons held
 
+ghost use Rattle.refusal.specs.Number.{numbered};
 ghost use Rattle.block_search.specs.Call.{BlockSearches};
 
 use crate::blocks::clear_house;
 use crate::check::block_number;
 use limits::SEARCH_WORKSPACE;
+use refusal::Refusal;
 
 // Each block of `block_wagons` searched in turn, from the present choice with the pinned wagons set to their stores; then all wagons not pinned. A
 // pinned wagon that a block names is taken out of it before the search.
 // Block k has `block_sizes[k]` wagons, which follow those of the block before it. `choice` takes the last choice, `falls` each block's fall in
-// eighths. The workspace has 1,024 words at least; a longer one keeps its tail. 0, or the number that applies.
+// eighths. The workspace has 1,024 words at least; a longer one keeps its tail.
 pub fn block_search(
     n: usize,
     count: usize,
@@ -31,12 +33,12 @@ pub fn block_search(
     choice: &mut [u8],
     falls: &mut [i64],
     workspace: &mut [u64],
-) -> u8
+) -> Result<(), Refusal>
     ensures { BlockSearches n count rows.now cols.now values.now c.now pinned.now stores.now
         present.now block_sizes.now block_wagons.now width choice.old falls.old workspace.old
-        choice.new falls.new workspace.new result }
+        choice.new falls.new workspace.new (numbered result) }
 {
-    let number = block_number(
+    block_number(
         n,
         count,
         rows,
@@ -52,10 +54,7 @@ pub fn block_search(
         choice.len(),
         falls.len(),
         workspace.len(),
-    );
-    if number != 0 {
-        return number;
-    }
+    )?;
     clear_house(
         n,
         count,
@@ -73,5 +72,5 @@ pub fn block_search(
         falls,
         &mut workspace[0..SEARCH_WORKSPACE],
     );
-    0
+    Ok(())
 }

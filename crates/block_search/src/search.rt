@@ -26,13 +26,10 @@ fn start_signs(free: &[u16], b: &[u8], signs: &mut [u8])
     requires { Within (length b.now) free.now × (length signs.old ≡ suc (length free.now)) }
     ensures { signs.new ≡ start_signs free.now b.now }
 {
-    let mut k = 0;
-    while k < free.len() {
-        let wagon = wide(free[k]);
-        signs[k] = b[wagon];
-        k += 1;
+    for k in 0..free.len() {
+        signs[k] = b[wide(free[k])];
     }
-    signs[k] = 0;
+    signs[free.len()] = 0;
 }
 
 // The search on a sign table of f + 1 signs, from the free wagons of b; `found` takes what the answer decodes to. The fall in eighths.

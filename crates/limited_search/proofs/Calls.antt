@@ -22,7 +22,7 @@ use Rattle.limited_search.specs.Numbers.{limited_number}
 use Rattle.limited_search.specs.Search.{limited_found, Leaves}
 use Rattle.limited_search.specs.Near.{Near}
 use Rattle.limited_search.specs.Call.{LimitedSearches}
-use Rattle.limited_search.specs.declared.Limited.TheVariants.{Found as Answer}
+use Rattle.std.specs.Prelude.{Ok}
 use Rattle.limited_search.proofs.Numbers.{hall_good, present_low, width_some}
 use Rattle.limited_search.proofs.Nearness.{near_found}
 
@@ -45,14 +45,14 @@ module _ (n count : ℕ) (rows cols : List ℕ) (values c : List ℤ) (present :
   pub searches : (part part' used : List ℕ) (least : ℤ) (rounds : ℕ) → length part ≡ n → length part' ≡ n → length used ≡ search_workspace
       → Leaves t n present k width part part' least rounds
       → LimitedSearches n count rows cols values c present k width choice workspace (part' ++ drop (n - 0) choice) (used ++ drop (search_workspace - 0) workspace)
-      (Answer (to_z w64 (of_z w64 least)) rounds)
+      (Ok (to_z w64 (of_z w64 least), rounds))
   searches part part' used least rounds whole long fills l =
       let is : part' ≡ choice_of n answer = l.choice_is ∙ choice_whole n answer part whole in
       let wrote : part' ++ drop (n - 0) choice ≡ over (choice_of n answer) choice = written n part' (choice_of n answer) choice long is in
       record {
         numbered = sym none;
         refused = λ q. absurd (q none);
-        answers = λ e. ap₂ Answer (objective_held (hall_sign_table hall) answer l.least_is ∙ l.least_is) l.rounds_are;
+        answers = λ e. ap₂ (λ (x : ℤ) (y : ℕ). Ok (x, y)) (objective_held (hall_sign_table hall) answer l.least_is ∙ l.least_is) l.rounds_are;
         writes = λ e. wrote;
         kept = tail_kept search_workspace used workspace fills;
         near =

@@ -13,9 +13,9 @@ use Rattle.finalize.specs.Finalize.{cost_of}
 use Rattle.finalize.specs.Demand3.{DifferInOne}
 use Rattle.limited_search.specs.Near.{wagons_moved}
 use Rattle.limited_search.specs.Call.{LimitedSearches, number_of}
-use Rattle.limited_search.specs.declared.Limited.{Limited}
+use Rattle.std.specs.Prelude.{Result}
 
-module _ {n count : ℕ} {rows cols : List ℕ} {values c : List ℤ} {p : List ℕ} {k width : ℕ} {choice workspace choice' workspace' : List ℕ} {r : Limited}
+module _ {n count : ℕ} {rows cols : List ℕ} {values c : List ℤ} {p : List ℕ} {k width : ℕ} {choice workspace choice' workspace' : List ℕ} {r : Result (ℤ × ℕ) ℕ}
     (s : LimitedSearches n count rows cols values c p k width choice workspace choice' workspace' r) where
   abbrev pub h : Table
   h = table_of count rows cols values

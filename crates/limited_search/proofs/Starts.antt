@@ -1,17 +1,18 @@
 -- The signs of the present choice, and what the functions of the search leave, put together. Assumes nothing.
-use Prim.Native.Nat.{ℕ, suc, ◌+◌, ◌≤◌, ◌<◌}
+use Prim.Native.Nat.{ℕ, suc, ◌≤◌, ◌<◌}
 use native.Mathlib.Decide.{dec_lt}
 use native.Mathlib.Numerals.{add-one}
 use native.Mathlib.Omega.{arith}
 use borrow.Author.Tests.{lt-ltb, le-ltb}
 use mathlib.Core.Bool.{Bool, cond}
-use mathlib.Core.List.{List}
+use mathlib.Core.List.{List, ◌++◌}
 use mathlib.Core.Path.{◌≡◌, sym, ap, subst, ◌∙◌}
 use lib.Dec.{ltb}
 use lib.IntN.{ℤ}
-use lib.ListN.{length, set}
+use lib.ListN.{length, take, drop, set}
+use lib.Seq.{length-take-le, get_or-take}
 use Rattle.laws.specs.Lists.{elem, over, fill, tabulate}
-use Rattle.laws.proofs.Made.{length_tabulate, get_d_tabulate, tabulate_next, tabulate_all}
+use Rattle.laws.proofs.Made.{length_tabulate, get_d_tabulate, tabulate_get_d, tabulate_next, tabulate_all}
 use Rattle.tables.specs.Table.{Table}
 use Rattle.tables.specs.Cost.{decoded_byte}
 use Rattle.sign_words.specs.Signs.{Binary}
@@ -49,11 +50,13 @@ start_binary n p low = tabulate_binary (sign_of n p) (suc n) (λ i. go i (dec_lt
     go i (yes h) = omega (arith, sign_there n p i h, low i h)
     go i (no d) = let past : n ≤ i = omega arith in omega (arith, sign_behind n p i past)
 
--- ---- the loop that writes them
+-- ---- how they are written
 
-pub signs_next : (n : ℕ) (p : List ℕ) (i : ℕ) (signs₀ signs : List ℕ) → i < n → i < length signs₀ → signs ≡ over (tabulate (sign_of n p) i) signs₀
-    → set signs i (elem p i) ≡ over (tabulate (sign_of n p) (i + 1)) signs₀
-signs_next n p i signs₀ signs h l e = ap (set signs i) (sym (sign_there n p i h)) ∙ tabulate_next (sign_of n p) i signs₀ signs 0 l e
+pub signs_copied : (n : ℕ) (p signs : List ℕ) {front : List ℕ} → n ≤ length p → front ≡ take n p → front ++ drop n signs ≡ over (tabulate (sign_of n p) n) signs
+signs_copied n p signs long e =
+    let copied : tabulate (sign_of n p) n ≡ take n p =
+    sym (tabulate_get_d (take n p) n 0 (sign_of n p) (length-take-le n p long) (λ j h. get_or-take n p j 0 h ∙ sym (sign_there n p j h))) in
+    rw (e, copied, length-take-le n p long)
 
 pub signs_made : (n : ℕ) (p : List ℕ) (i : ℕ) (signs₀ signs : List ℕ) → i ≡ n → length signs₀ ≡ suc n → signs ≡ over (tabulate (sign_of n p) i) signs₀
     → set signs i 0 ≡ present_signs n p

@@ -1,5 +1,5 @@
 -- What `limited_search` answers and leaves in the slices lent to it.
-use Rattle.std.specs.Prelude.{ℕ, List, ◌≡◌, ℤ, length, drop}
+use Rattle.std.specs.Prelude.{ℕ, List, ◌≡◌, ℤ, length, drop, Result, Ok, Err}
 use Rattle.laws.specs.Lists.{elem_z, over}
 use Rattle.limits.specs.Limits.{search_workspace}
 use Rattle.tables.specs.Table.{Table, table_of}
@@ -10,13 +10,11 @@ use Rattle.finalize.specs.Finalize.{choice_of}
 use Rattle.limited_search.specs.Numbers.{limited_number}
 use Rattle.limited_search.specs.Search.{limited_found}
 use Rattle.limited_search.specs.Near.{Near}
-use Rattle.limited_search.specs.declared.Limited.{Limited}
-use Rattle.limited_search.specs.declared.Limited.TheVariants.{Found as Answer, Refused}
 
 -- 01's number of an answer: 0 where the search was made, else the refusal's
-abbrev pub number_of : Limited → ℕ
-number_of (Answer cost rounds) = 0
-number_of (Refused k) = k
+abbrev pub number_of : Result (ℤ × ℕ) ℕ → ℕ
+number_of (Ok found) = 0
+number_of (Err k) = k
 
 module _ (n count : ℕ) (rows cols : List ℕ) (values c : List ℤ) (present : List ℕ) (k width : ℕ) (choice workspace : List ℕ) where
   -- the number for these arguments
@@ -31,13 +29,13 @@ module _ (n count : ℕ) (rows cols : List ℕ) (values c : List ℤ) (present :
   call_found = limited_found call_table n present k width
 
   -- the contract
-  pub record LimitedSearches (choice' workspace' : List ℕ) (r : Limited) : Type 0 where
+  pub record LimitedSearches (choice' workspace' : List ℕ) (r : Result (ℤ × ℕ) ℕ) : Type 0 where
     -- the number is the first that applies
     pub numbered : number_of r ≡ call_number
     -- a refusal leaves every slice as it was
     pub refused : (call_number ≡ 0 → ⊥) → (choice' ≡ choice) × (workspace' ≡ workspace)
     -- where no number applies, the objective and the rounds of the search are answered, and its choice stands in `choice`, whose tail stays
-    pub answers : call_number ≡ 0 → r ≡ Answer (objective_in call_table call_found.answer) call_found.rounds
+    pub answers : call_number ≡ 0 → r ≡ Ok (objective_in call_table call_found.answer, call_found.rounds)
     pub writes : call_number ≡ 0 → choice' ≡ over (choice_of n call_found.answer) choice
     -- of the workspace no more is written than the call asks
     pub kept : drop search_workspace workspace' ≡ drop search_workspace workspace

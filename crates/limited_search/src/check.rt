@@ -1,29 +1,33 @@
 // The numbers of the call: 31, 13 to 16, 27, 28, 19. Nothing is written.
 ghost use Rattle.std.specs.Prelude.{◌≡◌, ◌≤◌, length};
+ghost use Rattle.refusal.specs.Number.{numbered};
 ghost use Rattle.limited_search.specs.Numbers.{move_number, call_short, limited_number};
 
 use block_search::check::{any_above, bad_width, choices_short};
 use limits::{MOST_ENTRIES, MOST_MAGNITUDE, MOST_WAGONS, SEARCH_WORKSPACE};
-use tables::check::{hall_number, short_table, too_short};
+use refusal::Refusal;
+use tables::check::{hall_number, short_table};
 
 // 27, 28, 19.
-fn move_number(n: usize, present: &[u8], k: usize, width: usize) -> u8
+#[tactic(auto, unfolding(crate::specs::Numbers::move_number, laws::specs::Refusal::first, laws::specs::Refusal::or_else))]
+fn move_number(n: usize, present: &[u8], k: usize, width: usize) -> Result<(), Refusal>
     requires { n ≤ length present.now }
-    ensures { result ≡ move_number n present.now k width }
+    ensures { numbered result ≡ move_number n present.now k width }
 {
     if any_above(n, present) {
-        return 27;
+        return Err(Refusal::Present);
     }
     if n < k {
-        return 28;
+        return Err(Refusal::Moves);
     }
     if bad_width(width) {
-        return 19;
+        return Err(Refusal::Search);
     }
-    0
+    Ok(())
 }
 
 // 31.
+#[tactic(auto, unfolding(crate::specs::Numbers::call_short, laws::specs::Refusal::any_of, laws::specs::Refusal::short))]
 fn call_short(
     n: usize,
     count: usize,
@@ -37,13 +41,9 @@ fn call_short(
 ) -> bool
     ensures { result ≡ call_short n count (length rows.now) (length cols.now) (length values.now) c present choice workspace }
 {
-    if short_table(MOST_ENTRIES, count, rows, cols, values) {
-        return true;
-    }
-    if choices_short(n, c, present, choice) {
-        return true;
-    }
-    too_short(false, SEARCH_WORKSPACE, workspace)
+    short_table(MOST_ENTRIES, count, rows, cols, values)
+        || choices_short(n, c, present, choice)
+        || workspace < SEARCH_WORKSPACE
 }
 
 // The first number that applies; the lengths are those of the slices that the call writes.
@@ -59,8 +59,8 @@ pub fn limited_number(
     width: usize,
     choice: usize,
     workspace: usize,
-) -> u8
-    ensures { result ≡ limited_number n count rows.now cols.now values.now c.now present.now k width choice workspace }
+) -> Result<(), Refusal>
+    ensures { numbered result ≡ limited_number n count rows.now cols.now values.now c.now present.now k width choice workspace }
 {
     if call_short(
         n,
@@ -73,9 +73,9 @@ pub fn limited_number(
         choice,
         workspace,
     ) {
-        return 31;
+        return Err(Refusal::Slice);
     }
-    let hall = hall_number(
+    hall_number(
         MOST_WAGONS,
         MOST_ENTRIES,
         MOST_MAGNITUDE,
@@ -85,9 +85,6 @@ pub fn limited_number(
         cols,
         values,
         c,
-    );
-    if hall != 0 {
-        return hall;
-    }
+    )?;
     move_number(n, present, k, width)
 }

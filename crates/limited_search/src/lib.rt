@@ -4,21 +4,16 @@
 mod check;
 mod search;
 
+ghost use Rattle.refusal.specs.Number.{in_numbers};
 ghost use Rattle.limited_search.specs.Call.{LimitedSearches};
 
 use crate::check::limited_number;
 use crate::search::search_limited;
 use limits::SEARCH_WORKSPACE;
-
-// What the call answers: the choice's cost in eighths and the rounds, or the number that applies.
-#[derive(Drop)]
-pub enum Limited {
-    Found(i64, u64),
-    Refused(u8),
-}
+use refusal::Refusal;
 
 // Searches from the first n bytes of `present` by single wagons, over choices in which at most k wagons stand in another store than there; the anchor
-// stays. `choice` takes the choice found, a byte 0 or 1 for each wagon. The workspace holds a level: 1,024 words at least; a longer one keeps its tail.
+// stays. `choice` takes the choice found, a byte 0 or 1 for each wagon; the answer is its cost in eighths and the rounds. The workspace holds a level: 1,024 words at least; a longer one keeps its tail.
 pub fn limited_search(
     n: usize,
     count: usize,
@@ -31,11 +26,11 @@ pub fn limited_search(
     width: usize,
     choice: &mut [u8],
     workspace: &mut [u64],
-) -> Limited
+) -> Result<(i64, u64), Refusal>
     ensures { LimitedSearches n count rows.now cols.now values.now c.now present.now k width
-        choice.old workspace.old choice.new workspace.new result }
+        choice.old workspace.old choice.new workspace.new (in_numbers result) }
 {
-    let number = limited_number(
+    limited_number(
         n,
         count,
         rows,
@@ -47,10 +42,7 @@ pub fn limited_search(
         width,
         choice.len(),
         workspace.len(),
-    );
-    if number != 0 {
-        return Limited::Refused(number);
-    }
+    )?;
     let found = search_limited(
         n,
         count,
@@ -64,5 +56,5 @@ pub fn limited_search(
         &mut choice[0..n],
         &mut workspace[0..SEARCH_WORKSPACE],
     );
-    Limited::Found(found.least, found.rounds)
+    Ok((found.least, found.rounds))
 }

@@ -17,12 +17,8 @@ fn start_signs(n: usize, present: &[u8], signs: &mut [u8])
     requires { (n ≤ length present.now) × (length signs.old ≡ suc n) }
     ensures { signs.new ≡ present_signs n present.now }
 {
-    let mut i = 0;
-    while i < n {
-        signs[i] = present[i];
-        i += 1;
-    }
-    signs[i] = 0;
+    signs[..n].copy_from_slice(&present[..n]);
+    signs[n] = 0;
 }
 
 // The search on a sign table of n + 1 signs; `found` takes what the answer decodes to.

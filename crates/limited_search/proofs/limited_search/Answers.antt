@@ -3,32 +3,33 @@ use mathlib.Core.Path.{◌≡◌, refl, sym, ◌∙◌}
 use native.Mathlib.Omega.{arith}
 use Prim.Native.Nat.{◌-◌}
 use lib.ListN.{length, take, drop}
+use Rattle.refusal.proofs.Passed.{passed, some_number}
 use Rattle.limits.specs.Limits.{search_workspace}
 use Rattle.sign_search.proofs.ExpandLaws.{part_size}
 use Rattle.limited_search.proofs.Numbers.{ready}
 use Rattle.limited_search.proofs.Calls.{searches}
 use Rattle.limited_search.proofs.limited_search.Goals as goal
 
-pub returns-then-number-ne0 : goal.returns-then-number-ne0
-returns-then-number-ne0 c = record {
-  numbered = c.limited_number-number.ensures;
+pub returns-in_err-limited_number : goal.returns-in_err-limited_number
+returns-in_err-limited_number c = let e = c.in_err-limited_number.ensures in rw (passed c.from_residual.ensures.1) (record {
+  numbered = e;
   refused = λ n. (refl, refl);
-  answers = λ e. absurd (c.if-number-ne0.true (c.limited_number-number.ensures ∙ e));
-  writes = λ e. absurd (c.if-number-ne0.true (c.limited_number-number.ensures ∙ e));
+  answers = λ z. absurd (some_number _ (e ∙ z));
+  writes = λ z. absurd (some_number _ (e ∙ z));
   kept = refl;
-  near = λ e. absurd (c.if-number-ne0.true (c.limited_number-number.ensures ∙ e));
-}
+  near = λ z. absurd (some_number _ (e ∙ z));
+})
 
 pub slice_bounds-search_limited-end : goal.slice_bounds-search_limited-end
-slice_bounds-search_limited-end c = let a = c.args in (ready a.n a.count a.rows.now a.cols.now a.values.now a.c.now a.present.now a.k a.width (length a.choice.now) (length a.workspace.now) (sym c.limited_number-number.ensures ∙ c.if-number-ne0.false)).choice_there
+slice_bounds-search_limited-end c = let a = c.args in (ready a.n a.count a.rows.now a.cols.now a.values.now a.c.now a.present.now a.k a.width (length a.choice.now) (length a.workspace.now) (sym c.in_ok-limited_number.ensures)).choice_there
 
 pub slice_bounds-search_limited-end-2 : goal.slice_bounds-search_limited-end-2
-slice_bounds-search_limited-end-2 c = let a = c.args in (ready a.n a.count a.rows.now a.cols.now a.values.now a.c.now a.present.now a.k a.width (length a.choice.now) (length a.workspace.now) (sym c.limited_number-number.ensures ∙ c.if-number-ne0.false)).space_there
+slice_bounds-search_limited-end-2 c = let a = c.args in (ready a.n a.count a.rows.now a.cols.now a.values.now a.c.now a.present.now a.k a.width (length a.choice.now) (length a.workspace.now) (sym c.in_ok-limited_number.ensures)).space_there
 
 pub search_limited-found-requires : goal.search_limited-found-requires
 search_limited-found-requires c =
     let a = c.args in
-    let r = ready a.n a.count a.rows.now a.cols.now a.values.now a.c.now a.present.now a.k a.width (length a.choice.now) (length a.workspace.now) (sym c.limited_number-number.ensures ∙ c.if-number-ne0.false) in
+    let r = ready a.n a.count a.rows.now a.cols.now a.values.now a.c.now a.present.now a.k a.width (length a.choice.now) (length a.workspace.now) (sym c.in_ok-limited_number.ensures) in
     let n : length (take (a.n - 0) (drop 0 a.choice.now)) ≡ a.n = part_size a.n a.choice.now r.choice_there in
     let s : length (take (search_workspace - 0) (drop 0 a.workspace.now)) ≡ search_workspace = part_size search_workspace a.workspace.now r.space_there in
     (r.lent, r.costs_there, r.hall, r.fits _ _ (omega (arith, n)) (omega (arith, s)))
@@ -36,9 +37,9 @@ search_limited-found-requires c =
 pub returns : goal.returns
 returns c =
     let a = c.args in
-    let r = ready a.n a.count a.rows.now a.cols.now a.values.now a.c.now a.present.now a.k a.width (length a.choice.now) (length a.workspace.now) (sym c.limited_number-number.ensures ∙ c.if-number-ne0.false) in
+    let r = ready a.n a.count a.rows.now a.cols.now a.values.now a.c.now a.present.now a.k a.width (length a.choice.now) (length a.workspace.now) (sym c.in_ok-limited_number.ensures) in
     let n : length (take (a.n - 0) (drop 0 a.choice.now)) ≡ a.n = part_size a.n a.choice.now r.choice_there in
     let s : length (take (search_workspace - 0) (drop 0 a.workspace.now)) ≡ search_workspace = part_size search_workspace a.workspace.now r.space_there in
     searches a.n a.count a.rows.now a.cols.now a.values.now a.c.now a.present.now a.k a.width a.choice.now a.workspace.now
-    (sym c.limited_number-number.ensures ∙ c.if-number-ne0.false) (take (a.n - 0) (drop 0 a.choice.now)) c.search_limited-found.new.found c.search_limited-found.new.workspace
+    (sym c.in_ok-limited_number.ensures) (take (a.n - 0) (drop 0 a.choice.now)) c.search_limited-found.new.found c.search_limited-found.new.workspace
     c.search_limited-found.result.least c.search_limited-found.result.rounds n (c.search_limited-found.auto.found ∙ n) (c.search_limited-found.auto.workspace ∙ s) c.search_limited-found.ensures

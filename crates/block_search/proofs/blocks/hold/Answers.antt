@@ -16,7 +16,7 @@ unfolding tabulate
 loop-i-init c = (omega arith, refl, refl)
 
 pub loop-i-preserved : goal.loop-i-preserved
-loop-i-preserved c = (omega arith, ap (λ (v : ℕ). set c.loop-i.states c.loop-i.i v) c.state_of.ensures ∙ tabulate_next (λ j. cond (moved_by c.args.pinned.now c.args.whole c.args.list.now j) 2 (elem c.args.b.now j)) c.loop-i.i c.args.states.now c.loop-i.states 0 (omega (arith, c.requires.1, c.loop-i-test.true)) c.loop-i.invariant.1, search rules)
+loop-i-preserved c = (omega arith, ap (λ (v : ℕ). set c.loop-i.states c.loop-i.i v) c.state_of.ensures ∙ tabulate_next (λ j. cond (moved_by c.args.pinned.now c.args.block j) 2 (elem c.args.b.now j)) c.loop-i.i c.args.states.now c.loop-i.states 0 (omega (arith, c.requires.1, c.loop-i-test.true)) c.loop-i.invariant.1, search rules)
 
 pub returns : goal.returns
 unfolding held

@@ -8,7 +8,7 @@ use Rattle.block_search.specs.Clauses.{moved_by}
 use Rattle.block_search.proofs.blocks.hold.Given as goal
 
 abbrev pub invariant-loop-i : goal.invariant-loop-i
-invariant-loop-i l = (l.i ≤ l.n) × (l.states ≡ over (tabulate (λ j. cond (moved_by l.pinned l.whole l.list j) 2 (elem l.b j)) l.i) l.initial.states) × (length l.states ≡ length l.initial.states)
+invariant-loop-i l = (l.i ≤ l.n) × (l.states ≡ over (tabulate (λ j. cond (moved_by l.pinned l.block j) 2 (elem l.b j)) l.i) l.initial.states) × (length l.states ≡ length l.initial.states)
 
 abbrev pub decreases-loop-i : goal.decreases-loop-i
 decreases-loop-i l = l.n - l.i

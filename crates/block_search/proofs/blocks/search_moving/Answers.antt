@@ -41,6 +41,6 @@ search_held-requires c =
 
 pub returns : goal.returns
 returns c =
-    let cut : take c.args.n c.hold.new.states ≡ held c.args.n (moved_by c.args.pinned.now c.args.whole c.args.list.now) c.args.b.now =
-    ap (take c.args.n) c.hold.ensures ∙ take_at (held c.args.n (moved_by c.args.pinned.now c.args.whole c.args.list.now) c.args.b.now) _ c.args.n (length_states c.args.n (moved_by c.args.pinned.now c.args.whole c.args.list.now) c.args.b.now c.requires.bytes_low) in
-    let p = moving_made c.args.n (table_of c.args.count c.args.rows.now c.args.cols.now c.args.values.now) (elem_z c.args.c.now) c.args.width (moved_by c.args.pinned.now c.args.whole c.args.list.now) c.args.b.now _ _ _ (cut) c.search_held.ensures in (kept c.search_held.result c.search_held.type_inv ∙ p.0, p.1)
+    let cut : take c.args.n c.hold.new.states ≡ held c.args.n (moved_by c.args.pinned.now c.args.block) c.args.b.now =
+    ap (take c.args.n) c.hold.ensures ∙ take_at (held c.args.n (moved_by c.args.pinned.now c.args.block) c.args.b.now) _ c.args.n (length_states c.args.n (moved_by c.args.pinned.now c.args.block) c.args.b.now c.requires.bytes_low) in
+    let p = moving_made c.args.n (table_of c.args.count c.args.rows.now c.args.cols.now c.args.values.now) (elem_z c.args.c.now) c.args.width (moved_by c.args.pinned.now c.args.block) c.args.b.now _ _ _ (cut) c.search_held.ensures in (kept c.search_held.result c.search_held.type_inv ∙ p.0, p.1)

@@ -1,4 +1,6 @@
-use mathlib.Core.Path.{sym, ◌∙◌}
+use mathlib.Core.Path.{sym, ap, ◌∙◌}
+use Rattle.refusal.specs.Number.{numbered}
+use Rattle.refusal.proofs.Passed.{passed, some_number}
 use lib.Dec.{lit<, lit≤}
 use lib.ListN.{length}
 use Rattle.laws.proofs.Refusal.{first_here, first_skip, first_found, first_next, first_last}
@@ -11,21 +13,21 @@ pub returns-then-call_short : goal.returns-then-call_short
 unfolding limited_number
 returns-then-call_short c = sym (first_here 30 _ _ (sym c.call_short.ensures ∙ c.if-call_short.true))
 
-pub hall_number-hall-requires : goal.hall_number-hall-requires
-hall_number-hall-requires c = let a = c.args in
+pub hall_number-requires : goal.hall_number-requires
+hall_number-requires c = let a = c.args in
     let l = slices_long a.n a.count a.rows.now a.cols.now a.values.now (length a.c.now) (length a.present.now) a.choice a.workspace (sym c.call_short.ensures ∙ c.if-call_short.false) in
     (λ h. l.table_long h, λ h. l.costs_long h, lit≤ tt, lit< tt)
 
-pub returns-then-hall-ne0 : goal.returns-then-hall-ne0
+pub returns-in_err-hall_number : goal.returns-in_err-hall_number
 unfolding limited_number
-returns-then-hall-ne0 c = c.hall_number-hall.ensures ∙ sym (first_skip 31 _ _ (sym c.call_short.ensures ∙ c.if-call_short.false) ∙ first_found _ _ (λ e. c.if-hall-ne0.true (c.hall_number-hall.ensures ∙ e)))
+returns-in_err-hall_number c = ap numbered (passed c.from_residual.ensures.1) ∙ c.in_err-hall_number.ensures ∙ sym (first_skip 31 _ _ (sym c.call_short.ensures ∙ c.if-call_short.false) ∙ first_found _ _ (λ e. some_number _ (c.in_err-hall_number.ensures ∙ e)))
 
 pub move_number-requires : goal.move_number-requires
 move_number-requires c = let a = c.args in
     let l = slices_long a.n a.count a.rows.now a.cols.now a.values.now (length a.c.now) (length a.present.now) a.choice a.workspace (sym c.call_short.ensures ∙ c.if-call_short.false) in
-    let ok = hall_accepted (sym c.hall_number-hall.ensures ∙ c.if-hall-ne0.false) in
+    let ok = hall_accepted (sym c.in_ok-hall_number.ensures) in
     l.present_long ok.wagons
 
 pub returns : goal.returns
 unfolding limited_number
-returns c = c.move_number.ensures ∙ sym (first_skip 31 _ _ (sym c.call_short.ensures ∙ c.if-call_short.false) ∙ first_next _ _ (sym c.hall_number-hall.ensures ∙ c.if-hall-ne0.false) ∙ first_last _)
+returns c = c.move_number.ensures ∙ sym (first_skip 31 _ _ (sym c.call_short.ensures ∙ c.if-call_short.false) ∙ first_next _ _ (sym c.in_ok-hall_number.ensures) ∙ first_last _)
