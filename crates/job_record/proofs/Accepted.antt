@@ -16,9 +16,8 @@ use Rattle.limits.specs.Limits.{most_wagons, most_entries, most_start, most_byte
 use Rattle.job_record.specs.Versions.{versions}
 use Rattle.job_record.specs.Fields.{version, wagons, entry_count, entry_at, costs_end, pins_place, pin_at, free_state, pin_count_by, free_by, settings_by, rank_at, most_at, start_at}
 use Rattle.job_record.specs.Number.{pin_number, pins_numbers, pins_numbers_by, job_number}
-use Rattle.job_reader.specs.Bytes.{big_endian, field_at, value_of, place_after}
-use Rattle.job_reader.specs.declared.Field.{Field}
-use Rattle.job_reader.specs.declared.Field.TheVariants.{Value}
+use Rattle.std.specs.Prelude.{Option, Some}
+use Rattle.job_reader.specs.Bytes.{big_endian, field_at, value_of}
 use Rattle.job_record.specs.declared.reading.HeadValues.{HeadValues}
 use Rattle.job_record.specs.declared.reading.SettingsValues.{SettingsValues}
 use Rattle.job_record.specs.Reading.{HeadThere, settings_from, settings_values}
@@ -116,15 +115,12 @@ module _ (s : List ℕ) (e : first (pins_numbers_by versions s) ≡ 0) (t : vers
   unfolding settings_by
   settings_are = rw t
 
-  module _ {at : ℕ} {read : Field} (place : at ≡ pins_place s) (is : read ≡ field_at s at 1) where
-    whole : read ≡ Value (big_endian s at 1) (at + 1)
+  module _ {at : ℕ} {read : Option ℕ} (place : at ≡ pins_place s) (is : read ≡ field_at s at 1) where
+    whole : read ≡ Some (big_endian s at 1)
     whole = field_there s at 1 is (omega (arith, count_there))
 
     pub read_count : value_of read ≡ pin_count s
     read_count = ap value_of whole ∙ ap (λ (p : ℕ). big_endian s p 1) place ∙ count_is
-
-    pub read_next : place_after read at ≡ pins_place s + 1
-    read_next = ap (λ (f : Field). place_after f at) whole ∙ ap (λ (p : ℕ). p + 1) place
 
 -- ---- an accepted record
 
@@ -222,7 +218,7 @@ pub settings_held : (s : List ℕ) → job_number s ≡ 0 → (v : SettingsValue
 settings_held s z v e = settings_values_are s (settings_place s) refl e (fields s z).settings.there
 
 -- its draw count, as it was read
-pub drawn_held : (s : List ℕ) → job_number s ≡ 0 → {at : ℕ} {drawn : Field} → at ≡ draws_place s → drawn ≡ field_at s at 2 → (value_of drawn ≡ big_endian s (draws_place s) 2) × (place_after drawn at ≡ draws_place s + 2)
+pub drawn_held : (s : List ℕ) → job_number s ≡ 0 → {at : ℕ} {drawn : Option ℕ} → at ≡ draws_place s → drawn ≡ field_at s at 2 → value_of drawn ≡ big_endian s (draws_place s) 2
 drawn_held s z {at} e f =
     let there = field_there s at 2 f (omega (arith, e, (fields s z).draws.there)) in
-    (ap value_of there ∙ ap (λ (p : ℕ). big_endian s p 2) e, ap (λ (d : Field). place_after d at) there ∙ ap (λ (p : ℕ). p + 2) e)
+    ap value_of there ∙ ap (λ (p : ℕ). big_endian s p 2) e

@@ -19,8 +19,7 @@ use Rattle.ieee.specs.Floats.{double_of}
 use Rattle.limits.specs.Limits.{most_entries, most_rank, most_width, last_rule, last_start, most_bytes}
 use Rattle.run_limits.specs.Momentum.{is_momentum}
 use Rattle.job_reader.specs.Bytes.{big_endian, field_at, value_of, after, after_all, taken}
-use Rattle.job_reader.specs.declared.Field.{Field}
-use Rattle.job_reader.specs.declared.Field.TheVariants.{Value, Short}
+use Rattle.std.specs.Prelude.{Option, Some, None}
 use Rattle.job_record.specs.declared.reading.HeadFields.{HeadFields}
 use Rattle.job_record.specs.declared.reading.HeadValues.{HeadValues}
 use Rattle.job_record.specs.declared.reading.SettingsFields.{SettingsFields}
@@ -52,8 +51,8 @@ module _ (s : List ℕ) (at : ℕ) (ws : List ℕ) (w : ℕ) where
   pub reached : at + widths ws ≤ length s → taken s at ws w ≡ field_at s (at + widths ws) w
   reached h = ap (λ (m : ℕ). field_at s m w) (behind s at ws h)
 
-  pub there : at + widths ws + w ≤ length s → taken s at ws w ≡ Value (big_endian s (at + widths ws) w) (at + widths ws + w)
-  there h = reached (omega arith) ∙ ap (λ (t : Bool). cond t (Value (big_endian s (at + widths ws) w) (at + widths ws + w)) Short) (le-leb _ _ h)
+  pub there : at + widths ws + w ≤ length s → taken s at ws w ≡ Some (big_endian s (at + widths ws) w)
+  there h = reached (omega arith) ∙ ap (λ (t : Bool). cond t (Some (big_endian s (at + widths ws) w)) None) (le-leb _ _ h)
 
 -- ---- numbers
 
@@ -61,7 +60,7 @@ module _ (s : List ℕ) (at w : ℕ) where
   pub field_judged : (wrong : ℕ → Bool) (k : ℕ) → field_number (field_at s at w) wrong k ≡ first (11 if ends_before s (at + w) ∷ k if wrong (big_endian s at w) ∷ [])
   field_judged wrong k = go (leb (at + w) (length s)) refl
     where
-      go : (t : Bool) → leb (at + w) (length s) ≡ t → field_number (cond t (Value (big_endian s at w) (at + w)) Short) wrong k ≡ first (11 if ends_before s (at + w) ∷ k if wrong (big_endian s at w) ∷ [])
+      go : (t : Bool) → leb (at + w) (length s) ≡ t → field_number (cond t (Some (big_endian s at w)) None) wrong k ≡ first (11 if ends_before s (at + w) ∷ k if wrong (big_endian s at w) ∷ [])
       go true q = moves_on_if 11 (ends_before s (at + w)) (k if wrong (big_endian s at w) ∷ []) (le-ltb (length s) (at + w) (leb-true (at + w) (length s) q)) (answers_last (k if wrong (big_endian s at w)) refl)
       go false q = answers_if 10 (ends_before s (at + w)) (k if wrong (big_endian s at w) ∷ []) (lt-ltb (length s) (at + w) (leb-false (at + w) (length s) q))
 
@@ -72,7 +71,7 @@ module _ (s : List ℕ) (at w : ℕ) where
   pub field_short : is_short (field_at s at w) ≡ ends_before s (at + w)
   field_short = go (leb (at + w) (length s)) refl
     where
-      go : (t : Bool) → leb (at + w) (length s) ≡ t → is_short (cond t (Value (big_endian s at w) (at + w)) Short) ≡ ends_before s (at + w)
+      go : (t : Bool) → leb (at + w) (length s) ≡ t → is_short (cond t (Some (big_endian s at w)) None) ≡ ends_before s (at + w)
       go true q = sym (le-ltb (length s) (at + w) (leb-true (at + w) (length s) q))
       go false q = sym (lt-ltb (length s) (at + w) (leb-false (at + w) (length s) q))
 
@@ -82,34 +81,34 @@ framed s = 11 if not (eqb (4 + big_endian s 0 4) (length s))
 frame_judged_lem : (s : List ℕ) → frame_judged (length s) (field_at s 0 4) ≡ first (11 if ends_before s 4 ∷ framed s ∷ [])
 frame_judged_lem s = go (leb 4 (length s)) refl
   where
-    go : (t : Bool) → leb 4 (length s) ≡ t → frame_judged (length s) (cond t (Value (big_endian s 0 4) 4) Short) ≡ first (11 if ends_before s 4 ∷ framed s ∷ [])
+    go : (t : Bool) → leb 4 (length s) ≡ t → frame_judged (length s) (cond t (Some (big_endian s 0 4)) None) ≡ first (11 if ends_before s 4 ∷ framed s ∷ [])
     go true q = moves_on_if 11 (ends_before s 4) (framed s ∷ []) (le-ltb (length s) 4 (leb-true 4 (length s) q)) (answers_last (framed s) refl)
     go false q = answers_if 10 (ends_before s 4) (framed s ∷ []) (lt-ltb (length s) 4 (leb-false 4 (length s) q))
 
 -- a field that was read, by what a match finds
-module _ {f : Field} {v next : ℕ} (e : f ≡ Value v next) where
+module _ {f : Option ℕ} {v : ℕ} (e : f ≡ Some v) where
   pub field_wrong : (wrong : ℕ → Bool) (k : ℕ) → wrong v ≡ true → k ≡ field_number f wrong k
   field_wrong wrong k t = rw (e, t)
 
   pub field_right : (wrong : ℕ → Bool) (k : ℕ) → wrong v ≡ false → 0 ≡ field_number f wrong k
   field_right wrong k t = rw (e, t)
 
-  pub frame_above : (len : ℕ) → len < next → 11 ≡ frame_judged len f
-  frame_above len h = rw (e, ne_eqb (next + v) len (λ q. omega arith))
+  pub frame_above : (len : ℕ) → len < 4 → 11 ≡ frame_judged len f
+  frame_above len h = rw (e, ne_eqb (4 + v) len (λ q. omega arith))
 
-  pub frame_other : (len : ℕ) → next ≤ len → (v ≡ len - next → ⊥) → 11 ≡ frame_judged len f
-  frame_other len h n = rw (e, ne_eqb (next + v) len (λ q. n (omega arith)))
+  pub frame_other : (len : ℕ) → 4 ≤ len → (v ≡ len - 4 → ⊥) → 11 ≡ frame_judged len f
+  frame_other len h n = rw (e, ne_eqb (4 + v) len (λ q. n (omega arith)))
 
-  pub frame_same : (len : ℕ) → next ≤ len → v ≡ len - next → 0 ≡ frame_judged len f
-  frame_same len h q = rw (e, eq-eqb (next + v) len (omega arith))
+  pub frame_same : (len : ℕ) → 4 ≤ len → v ≡ len - 4 → 0 ≡ frame_judged len f
+  frame_same len h q = rw (e, eq-eqb (4 + v) len (omega arith))
 
 -- the field of w bytes at `at`: its limit, and its value where it is there
-module _ (s : List ℕ) (at w : ℕ) {f : Field} (e : f ≡ field_at s at w) where
+module _ (s : List ℕ) (at w : ℕ) {f : Option ℕ} (e : f ≡ field_at s at w) where
   pub field_limit : (most k : ℕ) {r : ℕ} → r ≡ field_number f (ltb most) k → r ≡ bounded_number s at w most k
-  field_limit most k q = q ∙ ap (λ (g : Field). field_number g (ltb most) k) e ∙ field_bounded s at w most k
+  field_limit most k q = q ∙ ap (λ (g : Option ℕ). field_number g (ltb most) k) e ∙ field_bounded s at w most k
 
-  pub field_there : at + w ≤ length s → f ≡ Value (big_endian s at w) (at + w)
-  field_there h = e ∙ ap (λ (t : Bool). cond t (Value (big_endian s at w) (at + w)) Short) (le-leb _ _ h)
+  pub field_there : at + w ≤ length s → f ≡ Some (big_endian s at w)
+  field_there h = e ∙ ap (λ (t : Bool). cond t (Some (big_endian s at w)) None) (le-leb _ _ h)
 
 -- two lists that agree as far as numbers are 0
 pub follow : (a a' : ℕ) (l l' : List ℕ) → a ≡ a' → (a' ≡ 0 → first l ≡ first l') → first (a ∷ l) ≡ first (a' ∷ l')
@@ -138,8 +137,8 @@ version_judged s = field_judged s 4 1 (λ v. not (known versions v)) 12
 wagons_judged : (s : List ℕ) → 5 ≤ length s
     → field_number (taken s 0 (4 ∷ 1 ∷ []) 1) (ltb (versions.most (value_of (taken s 0 (4 ∷ []) 1)))) 13 ≡ bounded_number s 5 1 (versions.most (version s)) 13
 wagons_judged s h =
-    ap (λ (f : Field). field_number (taken s 0 (4 ∷ 1 ∷ []) 1) (ltb (versions.most (value_of f))) 13) (there s 0 (4 ∷ []) 1 h)
-    ∙ ap (λ (f : Field). field_number f (ltb (versions.most (version s))) 13) (reached s 0 (4 ∷ 1 ∷ []) 1 h) ∙ field_bounded s 5 1 (versions.most (version s)) 13
+    ap (λ (f : Option ℕ). field_number (taken s 0 (4 ∷ 1 ∷ []) 1) (ltb (versions.most (value_of f))) 13) (there s 0 (4 ∷ []) 1 h)
+    ∙ ap (λ (f : Option ℕ). field_number f (ltb (versions.most (version s))) 13) (reached s 0 (4 ∷ 1 ∷ []) 1 h) ∙ field_bounded s 5 1 (versions.most (version s)) 13
 
 head_numbers_lem : (s : List ℕ) → first (head_numbers versions s)
     ≡ first (11 if ltb most_bytes (length s)
@@ -157,9 +156,9 @@ unfolding head_of
 head_judged_lem s =
     follow _ _ _ _ refl (λ _.
     follow _ _ _ _ (frame_judged_lem s) (λ z₁.
-    follow _ _ _ _ (ap (λ (f : Field). field_number f (λ v. not (known versions v)) 12) (reached s 0 (4 ∷ []) 1 (frame_there s z₁)) ∙ version_judged s) (λ z₂.
+    follow _ _ _ _ (ap (λ (f : Option ℕ). field_number f (λ v. not (known versions v)) 12) (reached s 0 (4 ∷ []) 1 (frame_there s z₁)) ∙ version_judged s) (λ z₂.
     follow _ _ _ _ (wagons_judged s (version_there s z₂)) (λ z₃.
-    end_at _ _ (ap (λ (f : Field). field_number f (ltb most_entries) 13) (reached s 0 (4 ∷ 1 ∷ 1 ∷ []) 2 (bounded_passed s 5 1 (versions.most (version s)) 12 z₃).0) ∙ field_bounded s 6 2 most_entries 13)))))
+    end_at _ _ (ap (λ (f : Option ℕ). field_number f (ltb most_entries) 13) (reached s 0 (4 ∷ 1 ∷ 1 ∷ []) 2 (bounded_passed s 5 1 (versions.most (version s)) 12 z₃).0) ∙ field_bounded s 6 2 most_entries 13)))))
     ∙ sym (head_numbers_lem s)
 
 or_step : (a : Bool) {b c : Bool} → (a ≡ true → true ≡ c) → (a ≡ false → b ≡ c) → (a || b) ≡ c
@@ -187,8 +186,8 @@ module _ (s : List ℕ) (at : ℕ) where
   unfolding momentum_number
   rule_judged_lem h =
       let sum : at + 2 + 8 ≡ at + 10 = omega arith in
-      ap (λ (f : Field). field_number f (λ bits. eqb (value_of (taken s at (1 ∷ []) 1)) 4 && not (is_momentum (double_of bits))) 18) (reached s at (1 ∷ 1 ∷ []) 8 h)
-      ∙ ap (λ (f : Field). field_number (field_at s (at + 2) 8) (λ bits. eqb (value_of f) 4 && not (is_momentum (double_of bits))) 18) (there s at (1 ∷ []) 1 (omega arith))
+      ap (λ (f : Option ℕ). field_number f (λ bits. eqb (value_of (taken s at (1 ∷ []) 1)) 4 && not (is_momentum (double_of bits))) 18) (reached s at (1 ∷ 1 ∷ []) 8 h)
+      ∙ ap (λ (f : Option ℕ). field_number (field_at s (at + 2) 8) (λ bits. eqb (value_of f) 4 && not (is_momentum (double_of bits))) 18) (there s at (1 ∷ []) 1 (omega arith))
       ∙ field_judged s (at + 2) 8 (λ bits. eqb (rule_at s at) 4 && not (is_momentum (double_of bits))) 18
       ∙ ap (λ (e : ℕ). first (11 if ends_before s e ∷ 18 if (eqb (rule_at s at) 4 && not (is_momentum (rule_number_at s at))) ∷ [])) sum
 
@@ -200,15 +199,15 @@ module _ (s : List ℕ) (at : ℕ) where
   unfolding settings_from settings_numbers
   settings_judged_lem =
       follow _ _ _ _ (field_bounded s at 1 most_rank 17) (λ z₁. let h₁ = (bounded_passed s at 1 most_rank 16 z₁).0 in
-      follow _ _ _ _ (ap (λ (f : Field). field_number f (ltb last_rule) 18) (reached s at (1 ∷ []) 1 h₁) ∙ field_bounded s (at + 1) 1 last_rule 18) (λ z₂. let h₂ = (bounded_passed s (at + 1) 1 last_rule 17 z₂).0 in
+      follow _ _ _ _ (ap (λ (f : Option ℕ). field_number f (ltb last_rule) 18) (reached s at (1 ∷ []) 1 h₁) ∙ field_bounded s (at + 1) 1 last_rule 18) (λ z₂. let h₂ = (bounded_passed s (at + 1) 1 last_rule 17 z₂).0 in
       follow _ _ _ _ (rule_judged_lem (omega (arith, h₂))) (λ z₃. let h₃ = momentum_there z₃ in
       follow _ _ _ _ (ap (λ (b : Bool). 11 if b) (limits_judged h₃)) (λ z₄. let h₄ = ltb-false (length s) (at + 34) (clear _ 10 z₄) in
-      follow _ _ _ _ (ap (λ (f : Field). field_number f (ltb most_width) 19) (reached s at (1 ∷ 1 ∷ 8 ∷ 4 ∷ 4 ∷ 8 ∷ 8 ∷ []) 1 h₄) ∙ field_bounded s (at + 34) 1 most_width 19) (λ z₅. let h₅ = (bounded_passed s (at + 34) 1 most_width 18 z₅).0 in
-      follow _ _ _ _ (ap (λ (f : Field). field_number f (ltb last_start) 19) (reached s at (1 ∷ 1 ∷ 8 ∷ 4 ∷ 4 ∷ 8 ∷ 8 ∷ 1 ∷ []) 1 (omega (arith, h₅))) ∙ field_bounded s (at + 35) 1 last_start 19) (λ z₆. let h₆ = (bounded_passed s (at + 35) 1 last_start 18 z₆).0 in
-      end_at _ _ (ap (λ (f : Field). 17 if (eqb (value_of f) 1 && eqb (value_of (taken s at [] 1)) 0)) (there s at (1 ∷ 1 ∷ 8 ∷ 4 ∷ 4 ∷ 8 ∷ 8 ∷ 1 ∷ []) 1 (omega (arith, h₆)))
-      ∙ ap (λ (f : Field). 17 if (eqb (start_at s at) 1 && eqb (value_of f) 0)) (there s at [] 1 (omega (arith, h₁)) ∙ first_place))))))))
+      follow _ _ _ _ (ap (λ (f : Option ℕ). field_number f (ltb most_width) 19) (reached s at (1 ∷ 1 ∷ 8 ∷ 4 ∷ 4 ∷ 8 ∷ 8 ∷ []) 1 h₄) ∙ field_bounded s (at + 34) 1 most_width 19) (λ z₅. let h₅ = (bounded_passed s (at + 34) 1 most_width 18 z₅).0 in
+      follow _ _ _ _ (ap (λ (f : Option ℕ). field_number f (ltb last_start) 19) (reached s at (1 ∷ 1 ∷ 8 ∷ 4 ∷ 4 ∷ 8 ∷ 8 ∷ 1 ∷ []) 1 (omega (arith, h₅))) ∙ field_bounded s (at + 35) 1 last_start 19) (λ z₆. let h₆ = (bounded_passed s (at + 35) 1 last_start 18 z₆).0 in
+      end_at _ _ (ap (λ (f : Option ℕ). 17 if (eqb (value_of f) 1 && eqb (value_of (taken s at [] 1)) 0)) (there s at (1 ∷ 1 ∷ 8 ∷ 4 ∷ 4 ∷ 8 ∷ 8 ∷ 1 ∷ []) 1 (omega (arith, h₆)))
+      ∙ ap (λ (f : Option ℕ). 17 if (eqb (start_at s at) 1 && eqb (value_of f) 0)) (there s at [] 1 (omega (arith, h₁)) ∙ first_place))))))))
     where
-      first_place : Value (big_endian s (at + 0) 1) (at + 0 + 1) ≡ Value (rank_at s at) (at + 1)
+      first_place : Some (big_endian s (at + 0) 1) ≡ Some (rank_at s at)
       first_place = let e : at + 0 ≡ at = omega arith in rw e
 
 pub settings_parts : (f : SettingsFields) → first (settings_judged f)
@@ -248,11 +247,11 @@ settings_there s at h =
     record {
       rank = ap value_of (there s at [] 1 (omega arith)) ∙ ap (λ (p : ℕ). big_endian s p 1) e;
       rule = ap value_of (there s at (1 ∷ []) 1 (omega arith));
-      number = ap (λ (f : Field). double_of (value_of f)) (there s at (1 ∷ 1 ∷ []) 8 (omega arith));
+      number = ap (λ (f : Option ℕ). double_of (value_of f)) (there s at (1 ∷ 1 ∷ []) 8 (omega arith));
       most = ap value_of (there s at (1 ∷ 1 ∷ 8 ∷ []) 4 (omega arith));
       minimum = ap value_of (there s at (1 ∷ 1 ∷ 8 ∷ 4 ∷ []) 4 (omega arith));
-      objective = ap (λ (f : Field). double_of (value_of f)) (there s at (1 ∷ 1 ∷ 8 ∷ 4 ∷ 4 ∷ []) 8 (omega arith));
-      stationarity = ap (λ (f : Field). double_of (value_of f)) (there s at (1 ∷ 1 ∷ 8 ∷ 4 ∷ 4 ∷ 8 ∷ []) 8 (omega arith));
+      objective = ap (λ (f : Option ℕ). double_of (value_of f)) (there s at (1 ∷ 1 ∷ 8 ∷ 4 ∷ 4 ∷ []) 8 (omega arith));
+      stationarity = ap (λ (f : Option ℕ). double_of (value_of f)) (there s at (1 ∷ 1 ∷ 8 ∷ 4 ∷ 4 ∷ 8 ∷ []) 8 (omega arith));
       width = ap value_of (there s at (1 ∷ 1 ∷ 8 ∷ 4 ∷ 4 ∷ 8 ∷ 8 ∷ []) 1 (omega arith));
       start = ap value_of (there s at (1 ∷ 1 ∷ 8 ∷ 4 ∷ 4 ∷ 8 ∷ 8 ∷ 1 ∷ []) 1 (omega arith));
       next = behind s at (1 ∷ 1 ∷ 8 ∷ 4 ∷ 4 ∷ 8 ∷ 8 ∷ 1 ∷ 1 ∷ []) h;

@@ -10,4 +10,5 @@ pub mod Pinning
 pub mod Accepted
 pub mod Before
 pub mod Halls
+pub mod Handed
 pub mod Examples

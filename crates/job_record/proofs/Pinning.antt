@@ -26,9 +26,8 @@ use Rattle.laws.proofs.Refusal.{clear, both, first_head, first_rest, each}
 use Rattle.laws.proofs.Refusal as R
 use Rattle.laws.proofs.Following.{answers_if, moves_on_if, answers_last}
 use Rattle.reduced.proofs.Put.{Last, found, none, put_last, length_put}
-use Rattle.job_reader.specs.Bytes.{big_endian, field_at, value_of, place_after}
-use Rattle.job_reader.specs.declared.Field.{Field}
-use Rattle.job_reader.specs.declared.Field.TheVariants.{Value, Short}
+use Rattle.std.specs.Prelude.{Option, Some, None}
+use Rattle.job_reader.specs.Bytes.{big_endian, field_at, value_of}
 use Rattle.job_record.specs.declared.reading.PinFields.{PinFields}
 use Rattle.job_record.specs.Fields.{pin_at, pin_wagon, pin_store, last_store, free_state}
 use Rattle.job_record.specs.Number.{ends_before, bounded_number, pinned_before, pin_number, pins_numbers}
@@ -102,7 +101,7 @@ pub pin_judged_lem : (s : List ℕ) (n place : ℕ) (states : List ℕ) → firs
 unfolding pin_from
 pin_judged_lem s n place states =
     follow _ _ _ _ (field_judged s place 1 (wagon_wrong n states) 21) (λ z. let h = ltb-false (length s) (place + 1) (clear _ 10 (first_head _ _ z)) in
-    ap (λ (f : Field). first (field_number f (ltb last_store) 21 ∷ [])) (reached s place (1 ∷ []) 1 h) ∙ ap (λ (k : ℕ). first (k ∷ [])) (field_bounded s (place + 1) 1 last_store 21))
+    ap (λ (f : Option ℕ). first (field_number f (ltb last_store) 21 ∷ [])) (reached s place (1 ∷ []) 1 h) ∙ ap (λ (k : ℕ). first (k ∷ [])) (field_bounded s (place + 1) 1 last_store 21))
     ∙ three _ _ _
 
 module _ (s : List ℕ) (n at k : ℕ) (before : first_of (pin_number s n at) k ≡ 0) where
@@ -177,27 +176,24 @@ module _ (s : List ℕ) (n at k : ℕ) {states : List ℕ} {place r : ℕ} {pin 
 
 -- ---- the pin count
 
-module _ (s : List ℕ) (n at : ℕ) {f : Field} (read : f ≡ field_at s at 1) where
-  pub count_short : f ≡ Short → 11 ≡ first (pins_numbers s n at)
+module _ (s : List ℕ) (n at : ℕ) {f : Option ℕ} (read : f ≡ field_at s at 1) where
+  pub count_short : f ≡ None → 11 ≡ first (pins_numbers s n at)
   unfolding pins_numbers
   count_short e = answers_if 10 (ends_before s (at + 1)) _ (sym (field_short s at 1) ∙ ap is_short (sym read ∙ e))
 
-  module _ {count next : ℕ} (e : f ≡ Value count next) where
+  module _ {count : ℕ} (e : f ≡ Some count) where
     in_range : ends_before s (at + 1) ≡ false
     in_range = sym (field_short s at 1) ∙ ap is_short (sym read ∙ e)
 
-    is : Value count next ≡ Value (big_endian s at 1) (at + 1)
-    is = sym e ∙ field_there s at 1 read (ltb-false (length s) (at + 1) in_range)
+    pub count_fits : at + 1 ≤ length s
+    count_fits = ltb-false (length s) (at + 1) in_range
 
     pub count_is : count ≡ big_endian s at 1
-    count_is = ap value_of is
+    count_is = ap value_of (sym e ∙ field_there s at 1 read count_fits)
 
-    pub count_next : next ≡ at + 1
-    count_next = ap (λ (g : Field). place_after g 0) is
-
-    pub count_there : {r : ℕ} → r ≡ first_of (pin_number s n next) count → r ≡ first (pins_numbers s n at)
+    pub count_there : {r : ℕ} → r ≡ first_of (pin_number s n (at + 1)) count → r ≡ first (pins_numbers s n at)
     unfolding pins_numbers
-    count_there q = moves_on_if 11 (ends_before s (at + 1)) _ in_range (answers_last _ (q ∙ ap (λ (p : ℕ). first_of (pin_number s n p) count) count_next ∙ ap (first_of (pin_number s n (at + 1))) count_is))
+    count_there q = moves_on_if 11 (ends_before s (at + 1)) _ in_range (answers_last _ (q ∙ ap (first_of (pin_number s n (at + 1))) count_is))
 
 -- ---- accepted pins
 

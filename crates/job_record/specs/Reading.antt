@@ -1,14 +1,12 @@
 -- The fields of head, pins and settings as a reader takes them, one after the other: each stands where the one before it ends. A field past the
 -- end leaves the reader where it is. The contracts of inner functions cite these; what a job's number and values are is in Number and Values.
-use Rattle.std.specs.Prelude.{ℕ, ◌+◌, Bool, true, false, ◌&&◌, ◌||◌, not, List, [], ◌∷◌, ◌++◌, ◌≡◌, leb, ltb, eqb}
+use Rattle.std.specs.Prelude.{ℕ, ◌+◌, Bool, ◌&&◌, ◌||◌, not, List, [], ◌∷◌, ◌++◌, ◌≡◌, leb, ltb, eqb, Option, Some, None, is_some}
 use Rattle.laws.specs.Lists.{elem}
 use Rattle.laws.specs.Refusal.{◌if◌}
 use Rattle.ieee.specs.Floats.{double_of}
 use Rattle.limits.specs.Limits.{most_entries, most_rank, most_width, last_rule, last_start, most_bytes}
 use Rattle.run_limits.specs.Momentum.{is_momentum}
 use Rattle.job_reader.specs.Bytes.{value_of, after_all, taken}
-use Rattle.job_reader.specs.declared.Field.{Field}
-use Rattle.job_reader.specs.declared.Field.TheVariants.{Value, Short}
 use Rattle.job_record.specs.Versions.{known, versions}
 use Rattle.job_record.specs.Fields.{version, wagons, entry_count, last_store, free_state}
 use Rattle.job_record.specs.declared.reading.HeadFields.{HeadFields}
@@ -73,18 +71,17 @@ pub record HeadThere (s : List ℕ) (v : HeadValues) : Type 0 where
   pub count : v.count ≡ entry_count s
 
 -- the numbers of Number, from the fields that were read: 11 where one is past the end, k where its value is wrong
-abbrev pub is_short : Field → Bool
-is_short (Value v next) = false
-is_short Short = true
+abbrev pub is_short : Option ℕ → Bool
+is_short f = not (is_some f)
 
-abbrev pub field_number : Field → (ℕ → Bool) → ℕ → ℕ
-field_number (Value v next) wrong k = k if wrong v
-field_number Short wrong k = 11
+abbrev pub field_number : Option ℕ → (ℕ → Bool) → ℕ → ℕ
+field_number (Some v) wrong k = k if wrong v
+field_number None wrong k = 11
 
--- the length of the rest, in a record of so many bytes
-abbrev pub frame_judged : ℕ → Field → ℕ
-frame_judged len (Value v next) = 11 if not (eqb (next + v) len)
-frame_judged len Short = 11
+-- the length of the rest, which stands first, in a record of so many bytes
+abbrev pub frame_judged : ℕ → Option ℕ → ℕ
+frame_judged len (Some v) = 11 if not (eqb (4 + v) len)
+frame_judged len None = 11
 
 abbrev pub head_judged : ℕ → HeadFields → List ℕ
 head_judged len head =
@@ -106,14 +103,14 @@ pin_judged n states f =
     ∷ []
 
 -- rank, rule, its number; W and start with a rank; all of the settings
-abbrev pub rule_judged : Field → Field → Field → List ℕ
+abbrev pub rule_judged : Option ℕ → Option ℕ → Option ℕ → List ℕ
 rule_judged rank rule number =
     field_number rank (ltb most_rank) 17
     ∷ field_number rule (ltb last_rule) 18
     ∷ field_number number (λ bits. eqb (value_of rule) 4 && not (is_momentum (double_of bits))) 18
     ∷ []
 
-abbrev pub start_judged : Field → Field → Field → List ℕ
+abbrev pub start_judged : Option ℕ → Option ℕ → Option ℕ → List ℕ
 start_judged rank width start =
     field_number width (ltb most_width) 19
     ∷ field_number start (ltb last_start) 19

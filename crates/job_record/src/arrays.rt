@@ -4,7 +4,8 @@ ghost use Rattle.laws.specs.Lists.{fill};
 ghost use Rattle.job_record.specs.Fields.{entry_at, row, column, value, signed_from, double_from};
 
 use crate::places::entry_at;
-use job_reader::fields::{f64_at, i64_at, u8_at};
+use job_reader::big_endian;
+use job_reader::fields::{f64_at, i64_at};
 
 // The first `count` entries: rows, columns and values.
 pub fn read_entries(
@@ -21,8 +22,8 @@ pub fn read_entries(
 {
     for i in 0..count {
         let at = entry_at(i);
-        rows[i] = u8_at(job, at) as u16;
-        cols[i] = u8_at(job, at + 1) as u16;
+        rows[i] = big_endian(job, at, 1) as u16;
+        cols[i] = big_endian(job, at + 1, 1) as u16;
         values[i] = i64_at(job, at + 2);
     }
 }

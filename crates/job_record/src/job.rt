@@ -8,14 +8,13 @@ ghost use Rattle.job_record.specs.Values.{pin_count, free_wagons, settings_place
 
 use crate::arrays::read_doubles;
 use crate::pins::{Behind, behind_pins, pins_number, set_free};
-use crate::places::costs_end;
+use crate::places::{DRAW_COUNT, costs_end};
 use crate::reading::{
     HeadValues, SettingsValues, head_values, read_draw_count, read_head, read_settings,
     settings_values,
 };
 use crate::versions::carries_pins;
 use ieee::bits::double_of;
-use job_reader::{place_after, value_of};
 use run_limits::{rank_meant, start_length};
 
 // The fields of one number each: n, the entries, the pins and the wagons that they leave free; the rank as given (0 means the default rank),
@@ -43,8 +42,7 @@ fn accepted_head(job: &[u8]) -> HeadValues
     requires { job_number job.now ≡ 0 }
     ensures { HeadThere job.now result }
 {
-    let head = read_head(job);
-    head_values(head)
+    head_values(read_head(job))
 }
 
 // Its pins.
@@ -61,8 +59,7 @@ fn accepted_settings(job: &[u8], at: usize) -> SettingsValues
     requires { (job_number job.now ≡ 0) × (at ≡ settings_place job.now) }
     ensures { (result ≡ settings_values (settings_from job.now (settings_place job.now))) × (result.most < 2 ^ 32) × (result.minimum < 2 ^ 32) }
 {
-    let f = read_settings(job, at);
-    settings_values(f)
+    settings_values(read_settings(job, at))
 }
 
 // What they say of the rest: the rank that is meant, the start's doubles from `start` on, and the draw count at `draws`.
@@ -97,8 +94,7 @@ pub fn job_rank(job: &[u8]) -> usize
     requires { job_number job.now ≡ 0 }
     ensures { (result ≡ job_rank job.now) × (result ≤ most_rank) }
 {
-    let p = parts_of(job);
-    p.rank
+    parts_of(job).rank
 }
 
 // How many doubles its start has.
@@ -106,8 +102,7 @@ pub fn job_start_count(job: &[u8]) -> usize
     requires { job_number job.now ≡ 0 }
     ensures { (result ≡ job_start_count job.now) × (result ≤ most_start) }
 {
-    let p = parts_of(job);
-    p.count
+    parts_of(job).count
 }
 
 // The settings.
@@ -134,7 +129,7 @@ pub fn job_of(job: &[u8]) -> Job
         stationarity_tolerance: double_of(f.stationarity_tolerance),
         width: f.width as usize,
         start: f.start as u8,
-        draw_count: value_of(drawn) as usize,
+        draw_count: drawn.unwrap_or(0) as usize,
     }
 }
 
@@ -153,11 +148,9 @@ pub fn read_draws(job: &[u8], draws: &mut [f64])
     ensures { draws.new ≡ fill (job_draw job.now) (job_drawn job.now) draws.old }
 {
     let p = parts_of(job);
-    let at = p.draws;
-    let drawn = read_draw_count(job, at);
-    let first = place_after(drawn, at);
-    let count = value_of(drawn) as usize * p.rank;
-    read_doubles(job, first, count, draws);
+    let drawn = read_draw_count(job, p.draws);
+    let count = drawn.unwrap_or(0) as usize * p.rank;
+    read_doubles(job, p.draws + DRAW_COUNT, count, draws);
 }
 
 // The states of its wagons, a byte each, over the front of `states`.
@@ -169,6 +162,6 @@ pub fn read_states(job: &[u8], states: &mut [u8])
     let n = head.n as usize;
     set_free(n, states);
     if carries_pins(head.version) {
-        pins_number(job, n, costs_end(n, head.count as usize), &mut states[0..n]);
+        let _ = pins_number(job, n, costs_end(n, head.count as usize), &mut states[0..n]);
     }
 }

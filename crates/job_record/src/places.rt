@@ -2,10 +2,18 @@
 ghost use Rattle.std.specs.Prelude.{◌≡◌, ◌<◌, ◌^◌};
 ghost use Rattle.job_record.specs.Fields.{entry_at, costs_end};
 
-// The bytes of a head, and of an entry.
+// The bytes of the length of the rest, of a head, of an entry, of a pin count, of a pin and of a draw count.
+pub const LENGTH: usize = 4;
+
 pub const HEAD: usize = 8;
 
 pub const ENTRY: usize = 10;
+
+pub const PIN_COUNT: usize = 1;
+
+pub const PIN: usize = 2;
+
+pub const DRAW_COUNT: usize = 2;
 
 // Where entry k stands; c stands where an entry after the last would.
 pub fn entry_at(k: usize) -> usize

@@ -4,37 +4,37 @@ ghost use Rattle.std.specs.Prelude.{◌≡◌};
 ghost use Rattle.job_reader.specs.Bytes.{field_at};
 ghost use Rattle.job_record.specs.Reading.{head_of, pin_from, settings_from, head_values, settings_values};
 
-use job_reader::{Field, JobReader, field_at, take, value_of};
+use job_reader::{JobReader, field_at};
 
 // Length of the rest, version, n, entry count.
 #[derive(Clone, Copy, Drop)]
 pub struct HeadFields {
-    pub rest: Field,
-    pub version: Field,
-    pub n: Field,
-    pub count: Field,
+    pub rest: Option<u64>,
+    pub version: Option<u64>,
+    pub n: Option<u64>,
+    pub count: Option<u64>,
 }
 
 // Wagon and store of a pin, and how far the reader has read.
 #[derive(Clone, Copy, Drop)]
 pub struct PinFields {
-    pub wagon: Field,
-    pub store: Field,
+    pub wagon: Option<u64>,
+    pub store: Option<u64>,
     pub next: usize,
 }
 
 // The settings, and how far the reader has read.
 #[derive(Clone, Copy, Drop)]
 pub struct SettingsFields {
-    pub rank: Field,
-    pub rule: Field,
-    pub rule_number: Field,
-    pub most: Field,
-    pub minimum: Field,
-    pub objective_tolerance: Field,
-    pub stationarity_tolerance: Field,
-    pub width: Field,
-    pub start: Field,
+    pub rank: Option<u64>,
+    pub rule: Option<u64>,
+    pub rule_number: Option<u64>,
+    pub most: Option<u64>,
+    pub minimum: Option<u64>,
+    pub objective_tolerance: Option<u64>,
+    pub stationarity_tolerance: Option<u64>,
+    pub width: Option<u64>,
+    pub start: Option<u64>,
     pub next: usize,
 }
 
@@ -66,10 +66,10 @@ pub fn read_head(job: &[u8]) -> HeadFields
     ensures { result ≡ head_of job.now }
 {
     let mut reader = JobReader { bytes: job, at: 0 };
-    let rest = take(&mut reader, 4);
-    let version = take(&mut reader, 1);
-    let n = take(&mut reader, 1);
-    let count = take(&mut reader, 2);
+    let rest = reader.take(4);
+    let version = reader.take(1);
+    let n = reader.take(1);
+    let count = reader.take(2);
     HeadFields {
         rest,
         version,
@@ -83,8 +83,8 @@ pub fn read_pin(job: &[u8], at: usize) -> PinFields
     ensures { result ≡ pin_from job.now at }
 {
     let mut reader = JobReader { bytes: job, at };
-    let wagon = take(&mut reader, 1);
-    let store = take(&mut reader, 1);
+    let wagon = reader.take(1);
+    let store = reader.take(1);
     PinFields {
         wagon,
         store,
@@ -97,15 +97,15 @@ pub fn read_settings(job: &[u8], at: usize) -> SettingsFields
     ensures { result ≡ settings_from job.now at }
 {
     let mut reader = JobReader { bytes: job, at };
-    let rank = take(&mut reader, 1);
-    let rule = take(&mut reader, 1);
-    let rule_number = take(&mut reader, 8);
-    let most = take(&mut reader, 4);
-    let minimum = take(&mut reader, 4);
-    let objective_tolerance = take(&mut reader, 8);
-    let stationarity_tolerance = take(&mut reader, 8);
-    let width = take(&mut reader, 1);
-    let start = take(&mut reader, 1);
+    let rank = reader.take(1);
+    let rule = reader.take(1);
+    let rule_number = reader.take(8);
+    let most = reader.take(4);
+    let minimum = reader.take(4);
+    let objective_tolerance = reader.take(8);
+    let stationarity_tolerance = reader.take(8);
+    let width = reader.take(1);
+    let start = reader.take(1);
     SettingsFields {
         rank,
         rule,
@@ -124,13 +124,10 @@ pub fn read_settings(job: &[u8], at: usize) -> SettingsFields
 pub fn head_values(head: HeadFields) -> HeadValues
     ensures { result ≡ head_values head }
 {
-    let version = head.version;
-    let n = head.n;
-    let count = head.count;
     HeadValues {
-        version: value_of(version),
-        n: value_of(n),
-        count: value_of(count),
+        version: head.version.unwrap_or(0),
+        n: head.n.unwrap_or(0),
+        count: head.count.unwrap_or(0),
     }
 }
 
@@ -138,38 +135,29 @@ pub fn head_values(head: HeadFields) -> HeadValues
 pub fn settings_values(f: SettingsFields) -> SettingsValues
     ensures { result ≡ settings_values f }
 {
-    let rank = f.rank;
-    let rule = f.rule;
-    let rule_number = f.rule_number;
-    let most = f.most;
-    let minimum = f.minimum;
-    let objective_tolerance = f.objective_tolerance;
-    let stationarity_tolerance = f.stationarity_tolerance;
-    let width = f.width;
-    let start = f.start;
     SettingsValues {
-        rank: value_of(rank),
-        rule: value_of(rule),
-        rule_number: value_of(rule_number),
-        most: value_of(most),
-        minimum: value_of(minimum),
-        objective_tolerance: value_of(objective_tolerance),
-        stationarity_tolerance: value_of(stationarity_tolerance),
-        width: value_of(width),
-        start: value_of(start),
+        rank: f.rank.unwrap_or(0),
+        rule: f.rule.unwrap_or(0),
+        rule_number: f.rule_number.unwrap_or(0),
+        most: f.most.unwrap_or(0),
+        minimum: f.minimum.unwrap_or(0),
+        objective_tolerance: f.objective_tolerance.unwrap_or(0),
+        stationarity_tolerance: f.stationarity_tolerance.unwrap_or(0),
+        width: f.width.unwrap_or(0),
+        start: f.start.unwrap_or(0),
         next: f.next,
     }
 }
 
 // The pin count at `at`.
-pub fn read_pin_count(job: &[u8], at: usize) -> Field
+pub fn read_pin_count(job: &[u8], at: usize) -> Option<u64>
     ensures { result ≡ field_at job.now at 1 }
 {
     field_at(job, at, 1)
 }
 
 // The draw count at `at`.
-pub fn read_draw_count(job: &[u8], at: usize) -> Field
+pub fn read_draw_count(job: &[u8], at: usize) -> Option<u64>
     ensures { result ≡ field_at job.now at 2 }
 {
     field_at(job, at, 2)

@@ -32,8 +32,8 @@ pub loop-i-preserved : goal.loop-i-preserved
 unfolding big_endian
 loop-i-preserved c = (
   omega arith,
-  next c.loop-i.i c.loop-i.value c.wide.result c.loop-i.invariant.1 (omega (arith, c.type_inv.bytes (c.args.at + c.loop-i.i))),
-  rw (add-one, c.loop-i.invariant.2, c.wide.ensures),
+  next c.loop-i.i c.loop-i.value c.from.result c.loop-i.invariant.1 (omega (arith, c.type_inv.bytes (c.args.at + c.loop-i.i))),
+  rw (add-one, c.loop-i.invariant.2, c.from.ensures),
 )
 
 pub returns : goal.returns

@@ -3,4 +3,4 @@ use Rattle.ieee.specs.Floats.{double_of}
 use Rattle.job_reader.proofs.fields.f64_at.Goals as goal
 
 pub returns : goal.returns
-returns c = c.double_of.ensures ∙ ap double_of c.u64_at.ensures
+returns c = c.double_of.ensures ∙ ap double_of c.big_endian.ensures.0

@@ -5,4 +5,4 @@ use Rattle.ieee.specs.Floats.{signed_of}
 use Rattle.job_reader.proofs.fields.i64_at.Goals as goal
 
 pub returns : goal.returns
-returns c = to_z-of_z w64 _ (record { sfits = c.signed_of.type_inv }) ∙ c.signed_of.ensures ∙ ap signed_of c.u64_at.ensures
+returns c = to_z-of_z w64 _ (record { sfits = c.signed_of.type_inv }) ∙ c.signed_of.ensures ∙ ap signed_of c.big_endian.ensures.0

@@ -22,4 +22,4 @@ overflow_cast-result-4 c = let s = c.args.job.now in let t = settings_held s c.r
 pub returns : goal.returns
 unfolding job_by
 returns c = let s = c.args.job.now in let t = settings_held s c.requires _ c.accepted_settings-f.ensures.0 in let d = drawn_held s c.requires c.parts_of-p.ensures.3 c.read_draw_count-drawn.ensures in
-    simp (c.accepted_head-head.ensures.n, c.accepted_head-head.ensures.count, c.accepted_pins-b.ensures.0, c.accepted_pins-b.ensures.1, t.rank, t.rule, c.double_of.ensures ∙ t.number, t.most, t.minimum, c.double_of-2.ensures ∙ t.objective, c.double_of-3.ensures ∙ t.stationarity, t.width, t.start, c.value_of.ensures ∙ d.0)
+    simp (c.accepted_head-head.ensures.n, c.accepted_head-head.ensures.count, c.accepted_pins-b.ensures.0, c.accepted_pins-b.ensures.1, t.rank, t.rule, c.double_of.ensures ∙ t.number, t.most, t.minimum, c.double_of-2.ensures ∙ t.objective, c.double_of-3.ensures ∙ t.stationarity, t.width, t.start, c.unwrap_or.ensures ∙ d)

@@ -9,13 +9,16 @@ use Rattle.job_record.proofs.job.read_draws.Goals as goal
 
 pub overflow_mul-count : goal.overflow_mul-count
 overflow_mul-count c = let d = drawn_held c.args.job.now c.requires.0 c.parts_of-p.ensures.3 c.read_draw_count-drawn.ensures in let f = fields c.args.job.now c.requires.0 in
-    omega (arith, area c.value_of.result c.parts_of-p.result.rank most_draws most_rank (omega (arith, c.value_of.ensures, d.0, f.draws.few)) c.parts_of-p.ensures.4)
+    omega (arith, area c.unwrap_or.result c.parts_of-p.result.rank most_draws most_rank (omega (arith, c.unwrap_or.ensures, d, f.draws.few)) c.parts_of-p.ensures.4)
+
+pub overflow_add-p : goal.overflow_add-p
+overflow_add-p c = let f = fields c.args.job.now c.requires.0 in omega (arith, c.parts_of-p.ensures.3, f.draws.there, f.small)
 
 pub read_doubles-requires : goal.read_doubles-requires
 read_doubles-requires c = let s = c.args.job.now in let f = fields s c.requires.0 in let d = drawn_held s c.requires.0 c.parts_of-p.ensures.3 c.read_draw_count-drawn.ensures in
-    let e : c.value_of.result * c.parts_of-p.result.rank ≡ job_drawn s = rw (c.value_of.ensures, d.0, c.parts_of-p.ensures.0) in
-    (omega (arith, f.draws_end, c.place_after-first.ensures, d.1, e), omega (arith, f.draws_end, f.small, e, c.requires.1))
+    let e : c.unwrap_or.result * c.parts_of-p.result.rank ≡ job_drawn s = rw (c.unwrap_or.ensures, d, c.parts_of-p.ensures.0) in
+    (omega (arith, f.draws_end, c.parts_of-p.ensures.3, e), omega (arith, f.draws_end, f.small, e, c.requires.1))
 
 pub returns : goal.returns
 returns c = let d = drawn_held c.args.job.now c.requires.0 c.parts_of-p.ensures.3 c.read_draw_count-drawn.ensures in
-    c.read_doubles.ensures ∙ simp (c.value_of.ensures ∙ d.0, c.place_after-first.ensures ∙ d.1, c.parts_of-p.ensures.0)
+    c.read_doubles.ensures ∙ simp (c.unwrap_or.ensures ∙ d, c.parts_of-p.ensures.3, c.parts_of-p.ensures.0)

@@ -1,11 +1,10 @@
-use Rattle.job_record.proofs.FieldByField.{frame_above, frame_other, frame_same}
+use mathlib.Core.Path.{sym, ap, ◌∙◌}
+use Prim.Native.Nat.{ℕ}
+use Rattle.std.specs.Prelude.{Option}
+use Rattle.refusal.proofs.Passed.{passed}
+use Rattle.job_record.specs.Reading.{frame_judged}
+use Rattle.job_record.proofs.Handed.{past_end}
 use Rattle.job_record.proofs.number.frame_number.Goals as goal
 
-pub returns-then-len-next : goal.returns-then-len-next
-returns-then-len-next c = frame_above c.in-Value.is c.args.len c.if-len-next.true
-
-pub returns-then-value-len : goal.returns-then-value-len
-returns-then-value-len c = frame_other c.in-Value.is c.args.len c.if-len-next.false c.if-value-len.true
-
-pub returns-else-value-len : goal.returns-else-value-len
-returns-else-value-len c = frame_same c.in-Value.is c.args.len c.if-len-next.false c.if-value-len.false
+pub returns-in_err-value : goal.returns-in_err-value
+returns-in_err-value c = past_end (passed c.from_residual.ensures.1) c.in_err-value.ensures.ok_part c.in_err-value.ensures.value ∙ sym (ap (λ (f : Option ℕ). frame_judged c.args.len f) c.in_err-value.ensures.ok_part)

@@ -1,29 +1,31 @@
-use mathlib.Core.Path.{sym, ◌∙◌}
+use mathlib.Core.Path.{refl, sym}
 use Rattle.job_record.proofs.Sections.{head}
 use Rattle.job_record.proofs.Whole.{at_head, at_table, at_rest}
 use Rattle.job_record.proofs.FieldByField.{head_number_is, head_values_are}
+use Rattle.refusal.proofs.Passed.{passed}
+use Rattle.job_record.proofs.Handed.{handed, refused}
 use Rattle.job_record.proofs.number.judge_job.Goals as goal
 
-pub returns-then-number-ne0 : goal.returns-then-number-ne0
-returns-then-number-ne0 c = let s = c.args.job.now in
-    record { numbered = at_head s (head_number_is s c.read_head-head.ensures c.head_number-number.ensures) c.if-number-ne0.true; kept = λ z. absurd (c.if-number-ne0.true z) }
+pub returns-in_err-head_number : goal.returns-in_err-head_number
+returns-in_err-head_number c = let s = c.args.job.now in let p = passed c.from_residual.ensures.1 in
+    record { numbered = at_head s (head_number_is s c.read_head-head.ensures (handed p c.in_err-head_number.ensures)) (refused p); kept = λ z. absurd (refused p z) }
 
-pub table_number-table-requires : goal.table_number-table-requires
-table_number-table-requires c = let s = c.args.job.now in
-    let h = head s (sym (head_number_is s c.read_head-head.ensures c.head_number-number.ensures) ∙ c.if-number-ne0.false) in
+pub table_number-requires : goal.table_number-requires
+table_number-requires c = let s = c.args.job.now in
+    let h = head s (sym (head_number_is s c.read_head-head.ensures c.in_ok-head_number.ensures)) in
     (head_values_are s c.read_head-head.ensures c.head_values-v.ensures h.there, h.there, h.few, h.short, c.requires)
 
-pub returns-then-table-ne0 : goal.returns-then-table-ne0
-returns-then-table-ne0 c = let s = c.args.job.now in
-    let number = head_number_is s c.read_head-head.ensures c.head_number-number.ensures in
-    record { numbered = at_table s number c.if-number-ne0.false c.table_number-table.ensures.0 c.if-table-ne0.true; kept = λ z. absurd (c.if-table-ne0.true z) }
+pub returns-in_err-table_number : goal.returns-in_err-table_number
+returns-in_err-table_number c = let s = c.args.job.now in let p = passed c.from_residual-in_err-table_number.ensures.1 in
+    let number = head_number_is s c.read_head-head.ensures c.in_ok-head_number.ensures in
+    record { numbered = at_table s number refl (handed p c.in_err-table_number.ensures.0) (refused p); kept = λ z. absurd (refused p z) }
 
 pub rest_number-requires : goal.rest_number-requires
 rest_number-requires c = let s = c.args.job.now in
-    let h = head s (sym (head_number_is s c.read_head-head.ensures c.head_number-number.ensures) ∙ c.if-number-ne0.false) in
+    let h = head s (sym (head_number_is s c.read_head-head.ensures c.in_ok-head_number.ensures)) in
     (head_values_are s c.read_head-head.ensures c.head_values-v.ensures h.there, h.few, h.short)
 
 pub returns : goal.returns
 returns c = let s = c.args.job.now in
-    let number = head_number_is s c.read_head-head.ensures c.head_number-number.ensures in
-    record { numbered = at_rest s number c.if-number-ne0.false c.table_number-table.ensures.0 c.if-table-ne0.false c.rest_number.ensures; kept = λ z. c.table_number-table.ensures.1 c.if-table-ne0.false }
+    let number = head_number_is s c.read_head-head.ensures c.in_ok-head_number.ensures in
+    record { numbered = at_rest s number refl c.in_ok-table_number.ensures.0 refl c.rest_number.ensures; kept = λ z. c.in_ok-table_number.ensures.1 refl }

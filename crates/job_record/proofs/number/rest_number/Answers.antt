@@ -1,22 +1,24 @@
 use native.Mathlib.Omega.{arith}
-use mathlib.Core.Path.{sym, ap, ◌∙◌}
+use mathlib.Core.Path.{refl, sym, ap, ◌∙◌}
 use Prim.Native.Nat.{ℕ}
 use Rattle.laws.specs.Refusal.{first}
 use Rattle.laws.proofs.Refusal.{stop, pass}
 use Rattle.job_record.specs.Number.{run_numbers}
 use Rattle.job_record.specs.Values.{free_wagons}
 use Rattle.job_record.proofs.Accepted.{pins_passed}
+use Rattle.refusal.proofs.Passed.{passed}
+use Rattle.job_record.proofs.Handed.{handed, refused}
 use Rattle.job_record.proofs.number.rest_number.Goals as goal
 
-pub returns-then-pins-ne0 : goal.returns-then-pins-ne0
-returns-then-pins-ne0 c = stop _ _ c.version_pins-pins.ensures c.if-pins-ne0.true
+pub returns-in_err-version_pins : goal.returns-in_err-version_pins
+returns-in_err-version_pins c = let p = passed c.from_residual.ensures.1 in stop _ _ (handed p c.in_err-version_pins.ensures) (refused p)
 
 pub behind_pins-b-requires : goal.behind_pins-b-requires
-behind_pins-b-requires c = (c.requires.0, c.requires.1, c.requires.2, sym c.version_pins-pins.ensures ∙ c.if-pins-ne0.false)
+behind_pins-b-requires c = (c.requires.0, c.requires.1, c.requires.2, sym c.in_ok-version_pins.ensures)
 
 pub run_number-requires : goal.run_number-requires
-run_number-requires c = let p = pins_passed c.args.job.now (sym c.version_pins-pins.ensures ∙ c.if-pins-ne0.false) in
+run_number-requires c = let p = pins_passed c.args.job.now (sym c.in_ok-version_pins.ensures) in
     (omega (arith, c.behind_pins-b.ensures.1, p.few, c.requires.1), omega (arith, c.behind_pins-b.ensures.2, p.few, p.reach, c.requires.1, c.requires.2))
 
 pub returns : goal.returns
-returns c = let s = c.args.job.now in pass _ _ c.version_pins-pins.ensures c.if-pins-ne0.false (c.run_number.ensures ∙ ap (λ (n : ℕ). first (run_numbers s n c.behind_pins-b.result.settings)) c.behind_pins-b.ensures.1 ∙ ap (λ (at : ℕ). first (run_numbers s (free_wagons s) at)) c.behind_pins-b.ensures.2)
+returns c = let s = c.args.job.now in pass _ _ c.in_ok-version_pins.ensures refl (c.run_number.ensures ∙ ap (λ (n : ℕ). first (run_numbers s n c.behind_pins-b.result.settings)) c.behind_pins-b.ensures.1 ∙ ap (λ (at : ℕ). first (run_numbers s (free_wagons s) at)) c.behind_pins-b.ensures.2)

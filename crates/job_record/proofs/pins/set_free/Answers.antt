@@ -1,14 +1,16 @@
-use mathlib.Core.Path.{refl}
+use mathlib.Core.Path.{◌≡◌, sym, ap, ◌∙◌}
+use mathlib.Core.List.{List, ◌++◌}
+use Prim.Native.Nat.{ℕ}
 use native.Mathlib.Omega.{arith}
-use lib.ListN.{length-set}
-use Rattle.laws.proofs.MapFirst.{fill_none, fill_more, fill_all}
+use lib.ListN.{length, take, drop, replicate, length-replicate}
+use Rattle.std.proofs.lemmas.List.{length-take-le}
+use Rattle.job_record.specs.Fields.{free_state}
+use Rattle.job_record.proofs.Fronts.{fill_over}
 use Rattle.job_record.proofs.pins.set_free.Goals as goal
 
-pub loop-i-init : goal.loop-i-init
-loop-i-init c = (omega arith, fill_none _ _, refl)
-
-pub loop-i-preserved : goal.loop-i-preserved
-loop-i-preserved c = (omega arith, fill_more _ _ _ c.loop-i.invariant.1 refl, simp length-set c.loop-i.invariant.2)
-
 pub returns : goal.returns
-returns c = fill_all _ _ _ _ c.loop-i.invariant.1 c.loop-i.invariant.0 c.loop-i-test.false
+returns c = let n = c.args.n in let s = c.args.states.now in
+    let long : length (take n s) ≡ n = length-take-le n s (omega arith) in
+    let all : replicate {A = ℕ} (length (take n s)) free_state ≡ replicate n free_state = rw long in
+    let kept : drop (length (replicate {A = ℕ} n free_state)) s ≡ drop n s = rw (length-replicate {A = ℕ} n free_state) in
+    ap (λ (l : List ℕ). l ++ drop n s) (c.fill.ensures.after (λ y h. h) ∙ all) ∙ ap (λ (l : List ℕ). replicate n free_state ++ l) (sym kept) ∙ sym (fill_over free_state n s (omega arith))

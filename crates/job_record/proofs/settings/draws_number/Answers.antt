@@ -8,77 +8,76 @@ use lib.Dec.{ltb}
 use Rattle.laws.specs.Refusal.{first}
 use Rattle.laws.proofs.Following.{answers, moves_on, answers_if, moves_on_if, passes_last}
 use Rattle.limits.specs.Limits.{most_rank, most_draws}
-use Rattle.job_reader.specs.Bytes.{big_endian, field_at, value_of, place_after}
-use Rattle.job_reader.specs.declared.Field.{Field}
-use Rattle.job_reader.specs.declared.Field.TheVariants.{Value}
+use Rattle.std.specs.Prelude.{Option, Some}
+use Rattle.job_reader.specs.Bytes.{big_endian, field_at, value_of}
 use Rattle.job_record.specs.Reading.{field_number}
 use Rattle.job_record.specs.Number.{bounded_number, draws_numbers}
 use Rattle.job_record.proofs.Bounded.{bounded_passed}
 use Rattle.job_record.proofs.FieldByField.{field_limit, field_there}
 use Rattle.job_record.proofs.Products.{area}
+use Rattle.refusal.proofs.Passed.{passed}
+use Rattle.job_record.proofs.Handed.{handed, refused}
 use Rattle.job_record.proofs.settings.draws_number.Goals as goal
 
 -- the draw count has passed its limit
-record Counted (s : List ℕ) (at : ℕ) (drawn : Field) (count : ℕ) : Type 0 where
+record Counted (s : List ℕ) (at : ℕ) (drawn : Option ℕ) (count : ℕ) : Type 0 where
   few : bounded_number s at 2 most_draws 19 ≡ 0
-  there : drawn ≡ Value (big_endian s at 2) (at + 2)
+  there : drawn ≡ Some (big_endian s at 2)
   is : count ≡ big_endian s at 2
   low : count ≤ most_draws
 
-counted : (s : List ℕ) (at : ℕ) {drawn : Field} {limit count : ℕ} → drawn ≡ field_at s at 2 → limit ≡ field_number drawn (ltb most_draws) 19 → limit ≡ 0 → count ≡ value_of drawn → Counted s at drawn count
-counted s at e l z c =
-    let few = sym (field_limit s at 2 e most_draws 19 l) ∙ z in
+counted : (s : List ℕ) (at : ℕ) {drawn : Option ℕ} {count : ℕ} → drawn ≡ field_at s at 2 → 0 ≡ field_number drawn (ltb most_draws) 19 → count ≡ value_of drawn → Counted s at drawn count
+counted s at e l c =
+    let few = sym (field_limit s at 2 e most_draws 19 l) in
     let passed = bounded_passed s at 2 most_draws 18 few in
     let there = field_there s at 2 e passed.0 in
     let is = c ∙ ap value_of there in
     record { few = few; there = there; is = is; low = omega (arith, is, passed.1) }
 
-behind : (s : List ℕ) (at : ℕ) {drawn : Field} {count next : ℕ} → Counted s at drawn count → next ≡ place_after drawn at → next ≡ at + 2
-behind s at k n = n ∙ ap (λ (d : Field). place_after d at) k.there
-
-module _ (s : List ℕ) (at rank : ℕ) {drawn : Field} {count : ℕ} (k : Counted s at drawn count) (h : at ≤ length s) where
+module _ (s : List ℕ) (at rank : ℕ) {drawn : Option ℕ} {count : ℕ} (k : Counted s at drawn count) (h : at ≤ length s) where
   none : count ≡ 0 → 19 ≡ first (draws_numbers s at rank)
   unfolding draws_numbers
   none z = moves_on_if 11 _ _ (le-ltb _ _ h) (moves_on _ _ {x = 0} (sym k.few) refl (answers_if 18 _ _ (eq-eqb _ _ (sym k.is ∙ z))))
 
-  module _ {next : ℕ} (b : next ≡ at + 2) (some : count ≡ 0 → ⊥) where
-    past_end : length s < next + count * rank * 8 → 11 ≡ first (draws_numbers s at rank)
+  module _ (some : count ≡ 0 → ⊥) where
+    past_end : length s < at + 2 + count * rank * 8 → 11 ≡ first (draws_numbers s at rank)
     unfolding draws_numbers
-    past_end l = moves_on_if 11 _ _ (le-ltb _ _ h) (moves_on _ _ {x = 0} (sym k.few) refl (rw (← k.is, ← b) (moves_on_if 19 _ _ (ne_eqb _ _ some) (answers_if 10 _ _ (lt-ltb _ _ l)))))
+    past_end l = moves_on_if 11 _ _ (le-ltb _ _ h) (moves_on _ _ {x = 0} (sym k.few) refl (rw (← k.is) (moves_on_if 19 _ _ (ne_eqb _ _ some) (answers_if 10 _ _ (lt-ltb _ _ l)))))
 
-    left_over : next + count * rank * 8 ≤ length s → next + count * rank * 8 < length s → 11 ≡ first (draws_numbers s at rank)
+    left_over : at + 2 + count * rank * 8 ≤ length s → at + 2 + count * rank * 8 < length s → 11 ≡ first (draws_numbers s at rank)
     unfolding draws_numbers
-    left_over l g = moves_on_if 11 _ _ (le-ltb _ _ h) (moves_on _ _ {x = 0} (sym k.few) refl (rw (← k.is, ← b) (moves_on_if 19 _ _ (ne_eqb _ _ some) (moves_on_if 11 _ _ (le-ltb _ _ l) (answers_if 10 _ _ (lt-ltb _ _ g))))))
+    left_over l g = moves_on_if 11 _ _ (le-ltb _ _ h) (moves_on _ _ {x = 0} (sym k.few) refl (rw (← k.is) (moves_on_if 19 _ _ (ne_eqb _ _ some) (moves_on_if 11 _ _ (le-ltb _ _ l) (answers_if 10 _ _ (lt-ltb _ _ g))))))
 
-    whole : next + count * rank * 8 ≤ length s → length s ≤ next + count * rank * 8 → 0 ≡ first (draws_numbers s at rank)
+    whole : at + 2 + count * rank * 8 ≤ length s → length s ≤ at + 2 + count * rank * 8 → 0 ≡ first (draws_numbers s at rank)
     unfolding draws_numbers
-    whole l g = moves_on_if 11 _ _ (le-ltb _ _ h) (moves_on _ _ {x = 0} (sym k.few) refl (rw (← k.is, ← b) (moves_on_if 19 _ _ (ne_eqb _ _ some) (moves_on_if 11 _ _ (le-ltb _ _ l) (passes_last 11 _ (le-ltb _ _ g))))))
+    whole l g = moves_on_if 11 _ _ (le-ltb _ _ h) (moves_on _ _ {x = 0} (sym k.few) refl (rw (← k.is) (moves_on_if 19 _ _ (ne_eqb _ _ some) (moves_on_if 11 _ _ (le-ltb _ _ l) (passes_last 11 _ (le-ltb _ _ g))))))
 
 pub returns-then-job-at : goal.returns-then-job-at
 unfolding draws_numbers
 returns-then-job-at c = answers_if _ _ _ (lt-ltb _ _ c.if-job-at.true)
 
-pub returns-then-limit-ne0 : goal.returns-then-limit-ne0
+pub returns-in_err-limit_number : goal.returns-in_err-limit_number
 unfolding draws_numbers
-returns-then-limit-ne0 c = moves_on_if _ _ _ (le-ltb _ _ c.if-job-at.false) (answers _ _ (field_limit c.args.job.now c.args.at 2 c.read_draw_count-drawn.ensures most_draws 19 c.limit_number-limit.ensures) c.if-limit-ne0.true)
+returns-in_err-limit_number c = let p = passed c.from_residual.ensures.1 in
+    moves_on_if _ _ _ (le-ltb _ _ c.if-job-at.false) (answers _ _ (field_limit c.args.job.now c.args.at 2 c.read_draw_count-drawn.ensures most_draws 19 (handed p c.in_err-limit_number.ensures)) (refused p))
 
 pub returns-then-count-eq0 : goal.returns-then-count-eq0
-returns-then-count-eq0 c = let k = counted c.args.job.now c.args.at c.read_draw_count-drawn.ensures c.limit_number-limit.ensures c.if-limit-ne0.false c.value_of-count.ensures in none c.args.job.now c.args.at c.args.rank k c.if-job-at.false c.if-count-eq0.true
+returns-then-count-eq0 c = let k = counted c.args.job.now c.args.at c.read_draw_count-drawn.ensures c.in_ok-limit_number.ensures c.unwrap_or-count.ensures in none c.args.job.now c.args.at c.args.rank k c.if-job-at.false c.if-count-eq0.true
 
 pub overflow_mul-end : goal.overflow_mul-end
-overflow_mul-end c = let k = counted c.args.job.now c.args.at c.read_draw_count-drawn.ensures c.limit_number-limit.ensures c.if-limit-ne0.false c.value_of-count.ensures in omega (arith, area c.value_of-count.result c.args.rank most_draws most_rank k.low (omega arith))
+overflow_mul-end c = let k = counted c.args.job.now c.args.at c.read_draw_count-drawn.ensures c.in_ok-limit_number.ensures c.unwrap_or-count.ensures in omega (arith, area c.unwrap_or-count.result c.args.rank most_draws most_rank k.low (omega arith))
 
 pub overflow_mul-end-2 : goal.overflow_mul-end-2
-overflow_mul-end-2 c = let k = counted c.args.job.now c.args.at c.read_draw_count-drawn.ensures c.limit_number-limit.ensures c.if-limit-ne0.false c.value_of-count.ensures in omega (arith, area c.value_of-count.result c.args.rank most_draws most_rank k.low (omega arith))
+overflow_mul-end-2 c = let k = counted c.args.job.now c.args.at c.read_draw_count-drawn.ensures c.in_ok-limit_number.ensures c.unwrap_or-count.ensures in omega (arith, area c.unwrap_or-count.result c.args.rank most_draws most_rank k.low (omega arith))
 
 pub overflow_add-end : goal.overflow_add-end
-overflow_add-end c = let k = counted c.args.job.now c.args.at c.read_draw_count-drawn.ensures c.limit_number-limit.ensures c.if-limit-ne0.false c.value_of-count.ensures in let n = behind c.args.job.now c.args.at k c.place_after.ensures in omega (arith, n, area c.value_of-count.result c.args.rank most_draws most_rank k.low (omega arith))
+overflow_add-end c = let k = counted c.args.job.now c.args.at c.read_draw_count-drawn.ensures c.in_ok-limit_number.ensures c.unwrap_or-count.ensures in omega (arith, area c.unwrap_or-count.result c.args.rank most_draws most_rank k.low (omega arith))
 
 pub returns-then-job-end : goal.returns-then-job-end
-returns-then-job-end c = let k = counted c.args.job.now c.args.at c.read_draw_count-drawn.ensures c.limit_number-limit.ensures c.if-limit-ne0.false c.value_of-count.ensures in past_end c.args.job.now c.args.at c.args.rank k c.if-job-at.false (behind c.args.job.now c.args.at k c.place_after.ensures) c.if-count-eq0.false c.if-job-end.true
+returns-then-job-end c = let k = counted c.args.job.now c.args.at c.read_draw_count-drawn.ensures c.in_ok-limit_number.ensures c.unwrap_or-count.ensures in past_end c.args.job.now c.args.at c.args.rank k c.if-job-at.false c.if-count-eq0.false c.if-job-end.true
 
 pub returns-then-end-job : goal.returns-then-end-job
-returns-then-end-job c = let k = counted c.args.job.now c.args.at c.read_draw_count-drawn.ensures c.limit_number-limit.ensures c.if-limit-ne0.false c.value_of-count.ensures in left_over c.args.job.now c.args.at c.args.rank k c.if-job-at.false (behind c.args.job.now c.args.at k c.place_after.ensures) c.if-count-eq0.false c.if-job-end.false c.if-end-job.true
+returns-then-end-job c = let k = counted c.args.job.now c.args.at c.read_draw_count-drawn.ensures c.in_ok-limit_number.ensures c.unwrap_or-count.ensures in left_over c.args.job.now c.args.at c.args.rank k c.if-job-at.false c.if-count-eq0.false c.if-job-end.false c.if-end-job.true
 
 pub returns : goal.returns
-returns c = let k = counted c.args.job.now c.args.at c.read_draw_count-drawn.ensures c.limit_number-limit.ensures c.if-limit-ne0.false c.value_of-count.ensures in whole c.args.job.now c.args.at c.args.rank k c.if-job-at.false (behind c.args.job.now c.args.at k c.place_after.ensures) c.if-count-eq0.false c.if-job-end.false c.if-end-job.false
+returns c = let k = counted c.args.job.now c.args.at c.read_draw_count-drawn.ensures c.in_ok-limit_number.ensures c.unwrap_or-count.ensures in whole c.args.job.now c.args.at c.args.rank k c.if-job-at.false c.if-count-eq0.false c.if-job-end.false c.if-end-job.false

@@ -1,4 +1,4 @@
-use mathlib.Core.Path.{sym, ◌∙◌}
+use mathlib.Core.Path.{refl, sym, ◌∙◌}
 use native.Mathlib.Omega.{arith}
 use Prim.Native.Nat.{◌+◌}
 use Rattle.laws.proofs.Refusal.{stop, pass}
@@ -7,20 +7,22 @@ use Rattle.job_record.specs.Number.{run_numbers, settings_numbers, draws_numbers
 use Rattle.job_record.specs.Fields.{rank_of, draws_after}
 use Rattle.job_record.proofs.Sections.{settings}
 use Rattle.job_record.proofs.FieldByField.{settings_number_is, settings_values_are, number_below}
+use Rattle.refusal.proofs.Passed.{passed}
+use Rattle.job_record.proofs.Handed.{handed, refused}
 use Rattle.job_record.proofs.settings.run_number.Goals as goal
 
-pub returns-then-settings-ne0 : goal.returns-then-settings-ne0
+pub returns-in_err-settings_number : goal.returns-in_err-settings_number
 unfolding run_numbers
-returns-then-settings-ne0 c = let a = c.args in stop _ _ (settings_number_is c.args.job.now c.args.at c.read_settings-f.ensures c.settings_number-settings.ensures) c.if-settings-ne0.true ∙ sym (first_append (settings_numbers a.job.now a.at) (draws_numbers a.job.now (draws_after a.job.now a.n a.at) (rank_of a.job.now a.n a.at)))
+returns-in_err-settings_number c = let a = c.args in let p = passed c.from_residual.ensures.1 in stop _ _ (settings_number_is c.args.job.now c.args.at c.read_settings-f.ensures (handed p c.in_err-settings_number.ensures)) (refused p) ∙ sym (first_append (settings_numbers a.job.now a.at) (draws_numbers a.job.now (draws_after a.job.now a.n a.at) (rank_of a.job.now a.n a.at)))
 
 pub rank_meant-rank-requires : goal.rank_meant-rank-requires
-rank_meant-rank-requires c = let h = settings c.args.job.now c.args.at (sym (settings_number_is c.args.job.now c.args.at c.read_settings-f.ensures c.settings_number-settings.ensures) ∙ c.if-settings-ne0.false) in let t = settings_values_are c.args.job.now c.args.at c.read_settings-f.ensures c.settings_values-v.ensures h.there in (λ _. omega arith, omega (arith, t.rank, h.rank))
+rank_meant-rank-requires c = let h = settings c.args.job.now c.args.at (sym (settings_number_is c.args.job.now c.args.at c.read_settings-f.ensures c.in_ok-settings_number.ensures)) in let t = settings_values_are c.args.job.now c.args.at c.read_settings-f.ensures c.settings_values-v.ensures h.there in (λ _. omega arith, omega (arith, t.rank, h.rank))
 
 pub overflow_cast-v : goal.overflow_cast-v
-overflow_cast-v c = let h = settings c.args.job.now c.args.at (sym (settings_number_is c.args.job.now c.args.at c.read_settings-f.ensures c.settings_number-settings.ensures) ∙ c.if-settings-ne0.false) in let t = settings_values_are c.args.job.now c.args.at c.read_settings-f.ensures c.settings_values-v.ensures h.there in omega (arith, t.start, h.start)
+overflow_cast-v c = let h = settings c.args.job.now c.args.at (sym (settings_number_is c.args.job.now c.args.at c.read_settings-f.ensures c.in_ok-settings_number.ensures)) in let t = settings_values_are c.args.job.now c.args.at c.read_settings-f.ensures c.settings_values-v.ensures h.there in omega (arith, t.start, h.start)
 
 pub overflow_cast-v-2 : goal.overflow_cast-v-2
-overflow_cast-v-2 c = let h = settings c.args.job.now c.args.at (sym (settings_number_is c.args.job.now c.args.at c.read_settings-f.ensures c.settings_number-settings.ensures) ∙ c.if-settings-ne0.false) in let t = settings_values_are c.args.job.now c.args.at c.read_settings-f.ensures c.settings_values-v.ensures h.there in omega (arith, t.most, number_below c.args.job.now (c.args.at + 10) 4 (λ i. omega (arith, c.type_inv.job i)))
+overflow_cast-v-2 c = let h = settings c.args.job.now c.args.at (sym (settings_number_is c.args.job.now c.args.at c.read_settings-f.ensures c.in_ok-settings_number.ensures)) in let t = settings_values_are c.args.job.now c.args.at c.read_settings-f.ensures c.settings_values-v.ensures h.there in omega (arith, t.most, number_below c.args.job.now (c.args.at + 10) 4 (λ i. omega (arith, c.type_inv.job i)))
 
 pub start_length-count-requires : goal.start_length-count-requires
 start_length-count-requires c = omega (arith, c.rank_meant-rank.ensures)
@@ -29,13 +31,13 @@ pub overflow_mul-count : goal.overflow_mul-count
 overflow_mul-count c = omega (arith, c.start_length-count.ensures)
 
 pub overflow_add-v : goal.overflow_add-v
-overflow_add-v c = let h = settings c.args.job.now c.args.at (sym (settings_number_is c.args.job.now c.args.at c.read_settings-f.ensures c.settings_number-settings.ensures) ∙ c.if-settings-ne0.false) in let t = settings_values_are c.args.job.now c.args.at c.read_settings-f.ensures c.settings_values-v.ensures h.there in omega (arith, t.next, c.start_length-count.ensures)
+overflow_add-v c = let h = settings c.args.job.now c.args.at (sym (settings_number_is c.args.job.now c.args.at c.read_settings-f.ensures c.in_ok-settings_number.ensures)) in let t = settings_values_are c.args.job.now c.args.at c.read_settings-f.ensures c.settings_values-v.ensures h.there in omega (arith, t.next, c.start_length-count.ensures)
 
 pub draws_number-requires : goal.draws_number-requires
-draws_number-requires c = let h = settings c.args.job.now c.args.at (sym (settings_number_is c.args.job.now c.args.at c.read_settings-f.ensures c.settings_number-settings.ensures) ∙ c.if-settings-ne0.false) in let t = settings_values_are c.args.job.now c.args.at c.read_settings-f.ensures c.settings_values-v.ensures h.there in omega (arith, t.next, c.start_length-count.ensures, c.rank_meant-rank.ensures)
+draws_number-requires c = let h = settings c.args.job.now c.args.at (sym (settings_number_is c.args.job.now c.args.at c.read_settings-f.ensures c.in_ok-settings_number.ensures)) in let t = settings_values_are c.args.job.now c.args.at c.read_settings-f.ensures c.settings_values-v.ensures h.there in omega (arith, t.next, c.start_length-count.ensures, c.rank_meant-rank.ensures)
 
 pub returns : goal.returns
 unfolding run_numbers
-returns c = let h = settings c.args.job.now c.args.at (sym (settings_number_is c.args.job.now c.args.at c.read_settings-f.ensures c.settings_number-settings.ensures) ∙ c.if-settings-ne0.false) in let t = settings_values_are c.args.job.now c.args.at c.read_settings-f.ensures c.settings_values-v.ensures h.there in let a = c.args in
-    pass _ _ (settings_number_is c.args.job.now c.args.at c.read_settings-f.ensures c.settings_number-settings.ensures) c.if-settings-ne0.false (c.draws_number.ensures ∙ simp (c.start_length-count.ensures.0, c.rank_meant-rank.ensures.0, t.most, t.start, t.rank, t.next))
+returns c = let h = settings c.args.job.now c.args.at (sym (settings_number_is c.args.job.now c.args.at c.read_settings-f.ensures c.in_ok-settings_number.ensures)) in let t = settings_values_are c.args.job.now c.args.at c.read_settings-f.ensures c.settings_values-v.ensures h.there in let a = c.args in
+    pass _ _ (settings_number_is c.args.job.now c.args.at c.read_settings-f.ensures c.in_ok-settings_number.ensures) refl (c.draws_number.ensures ∙ simp (c.start_length-count.ensures.0, c.rank_meant-rank.ensures.0, t.most, t.start, t.rank, t.next))
     ∙ sym (first_append (settings_numbers a.job.now a.at) (draws_numbers a.job.now (draws_after a.job.now a.n a.at) (rank_of a.job.now a.n a.at)))
