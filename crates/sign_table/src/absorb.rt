@@ -3,7 +3,6 @@ ghost use Rattle.std.specs.Prelude.{◌≡◌, cond, ◌+◌, ◌*◌, ◌≤◌
 ghost use Rattle.laws.specs.Sum.{sum, total, only};
 ghost use Rattle.laws.specs.Lists.{elem, elem_z};
 ghost use Rattle.tables.specs.Table.{table_of, Lent, magnitude_of};
-ghost use Rattle.sign_table.specs.SignTable.{is_zero};
 ghost use Rattle.sign_table.specs.Walk.{in_row, is_here, stored_column, next_column, here_value, after_here, row_term, RowAt, RowSummed};
 
 use tables::check::wide;
@@ -13,10 +12,7 @@ fn in_row(count: usize, rows: &[u16], i: usize, k: usize) -> bool
     requires { count ≤ length rows.now }
     ensures { result ≡ in_row count (elem rows.now) i k }
 {
-    if k < count {
-        return wide(rows[k]) == i;
-    }
-    false
+    k < count && wide(rows[k]) == i
 }
 
 // Whether it stands at (i, j).
@@ -24,35 +20,20 @@ fn is_here(count: usize, rows: &[u16], cols: &[u16], i: usize, j: usize, k: usiz
     requires { (count ≤ length rows.now) × (count ≤ length cols.now) }
     ensures { result ≡ is_here count (elem rows.now) (elem cols.now) i j k }
 {
-    if k < count {
-        if wide(rows[k]) == i {
-            return wide(cols[k]) == j;
-        }
-    }
-    false
+    in_row(count, rows, i, k) && wide(cols[k]) == j
 }
 
 // The column of entry k where it is of row i, else n.
+#[tactic(auto, unfolding(crate::specs::Walk::stored_column))]
 fn stored_column(n: usize, count: usize, rows: &[u16], cols: &[u16], i: usize, k: usize) -> usize
     requires { (count ≤ length rows.now) × (count ≤ length cols.now) }
     ensures { result ≡ stored_column n count (elem rows.now) (elem cols.now) i k }
 {
-    if k < count {
-        if wide(rows[k]) == i {
-            return wide(cols[k]);
-        }
-    }
-    n
-}
-
-// Whether a value is 0.
-pub fn vanishes(value: i64) -> bool
-    ensures { result ≡ is_zero value }
-{
-    value == 0
+    if in_row(count, rows, i, k) { wide(cols[k]) } else { n }
 }
 
 // The next kept column of row i, from j on; n where there is none.
+#[tactic(auto, unfolding(crate::specs::Walk::next_column))]
 pub fn next_column(
     n: usize,
     count: usize,
@@ -67,15 +48,7 @@ pub fn next_column(
     ensures { result ≡ next_column n count (elem rows.now) (elem cols.now) (elem_z c.now) i j k }
 {
     let stored = stored_column(n, count, rows, cols, i, k);
-    if vanishes(c[i]) {
-        return stored;
-    }
-    if j <= i {
-        if i < stored {
-            return i;
-        }
-    }
-    stored
+    if c[i] != 0 && j <= i && i < stored { i } else { stored }
 }
 
 // The entry after k where k stands at (i, j), else k.
@@ -83,12 +56,7 @@ pub fn after_here(count: usize, rows: &[u16], cols: &[u16], i: usize, j: usize, 
     requires { (count ≤ length rows.now) × (count ≤ length cols.now) }
     ensures { result ≡ after_here count (elem rows.now) (elem cols.now) i j k }
 {
-    if k < count {
-        if is_here(count, rows, cols, i, j, k) {
-            return k + 1;
-        }
-    }
-    k
+    if is_here(count, rows, cols, i, j, k) { k + 1 } else { k }
 }
 
 // The value of entry k where it stands at (i, j), else 0.
@@ -104,12 +72,7 @@ fn stored_value(
     requires { Lent count rows.now cols.now values.now }
     ensures { result ≡ cond (is_here count (elem rows.now) (elem cols.now) i j k) (elem_z values.now k) (pos 0) }
 {
-    if k < count {
-        if is_here(count, rows, cols, i, j, k) {
-            return values[k];
-        }
-    }
-    0
+    if is_here(count, rows, cols, i, j, k) { values[k] } else { 0 }
 }
 
 // What the linear costs add at (i, j).
@@ -117,10 +80,7 @@ fn linear_value(c: &[i64], i: usize, j: usize) -> i64
     requires { (i < length c.now) × (nat_abs (elem_z c.now i) ≤ 2 ^ 59) }
     ensures { result ≡ only i j (pos 2 *ℤ elem_z c.now i) }
 {
-    if i == j {
-        return 2 * c[i];
-    }
-    0
+    if i == j { 2 * c[i] } else { 0 }
 }
 
 // The absorbed value at (i, j).

@@ -6,7 +6,7 @@ ghost use Rattle.sign_table.specs.SignTable.{is_zero, edge, row_places, kept_of,
 ghost use Rattle.sign_table.specs.Walk.{Wrote, Room};
 ghost use Rattle.sign_table.specs.Clauses.{Fits, RowFits, wagon_rows, anchor_row, Put, PutAll, RowPut, AnchorPut};
 
-use crate::absorb::{after_here, here_value, next_column, row_sum, vanishes};
+use crate::absorb::{after_here, here_value, next_column, row_sum};
 
 // One entry, at `at`.
 fn put(
@@ -40,7 +40,7 @@ fn put_negated(
     ensures { Wrote (λ _ _. neg_ℤ sum) (edge (not (is_zero sum)) i j) at rows.old cols.old values.old rows.new cols.new values.new
         × (result ≡ at + length (edge (not (is_zero sum)) i j)) }
 {
-    if vanishes(sum) {
+    if sum == 0 {
         return at;
     }
     put(rows, cols, values, at, i, j, -sum);

@@ -10,8 +10,8 @@ ghost use Rattle.table_calls.specs.Convert.{Converts};
 ghost use Rattle.table_calls.specs.Numbers.{cost_short, cost_number, room_short, sign_short, sign_number};
 
 use crate::checked::checked_hall;
-use refusal::Refusal;
 use limits::{MOST_ENTRIES, MOST_WAGONS};
+use refusal::Refusal;
 use sign_table::sign_matrix::sign_matrix;
 use tables::check::{bad_size, short_table, too_short};
 use tables::objective;

@@ -7,8 +7,8 @@ ghost use Rattle.table_calls.specs.Answer.{eighths_answer, bound_answer};
 ghost use Rattle.table_calls.specs.Numbers.{floor_number, objective_short, objective_number};
 
 use crate::checked::checked_table;
-use refusal::Refusal;
 use limits::MOST_SIGN_ENTRIES;
+use refusal::Refusal;
 use tables::check::{bad_signs, short_table, too_short};
 use tables::{bound, objective};
 
@@ -47,7 +47,13 @@ pub fn obj_rounded(
 }
 
 // The floor under every objective, in eighths.
-pub fn floor_eighths(m: usize, count: usize, rows: &[u16], cols: &[u16], values: &[i64]) -> Result<i64, Refusal>
+pub fn floor_eighths(
+    m: usize,
+    count: usize,
+    rows: &[u16],
+    cols: &[u16],
+    values: &[i64],
+) -> Result<i64, Refusal>
     ensures { in_numbers result ≡ eighths_answer (floor_number m count rows.now cols.now values.now)
         (floor_of (table_of count rows.now cols.now values.now)) }
 {

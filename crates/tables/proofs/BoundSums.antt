@@ -21,18 +21,6 @@ pub small_float : (n : ℕ) → n ≤ 2 ^ 53 → T (in_float binary64 (pos n))
 unfolding in_float
 small_float n h = le→leb n (2 ^ 53) h
 
--- an absolute value
-pub absolute_negative : (v : ℤ) → lt_z v (pos 0) ≡ true → pos 0 -ℤ v ≡ pos (nat_abs v)
-absolute_negative (pos n) e = absurd (omega (arith, ltb-true n 0 e))
-absolute_negative (negsuc n) e = +ℤ_idl (pos (suc n))
-
-pub absolute_positive : (v : ℤ) → lt_z v (pos 0) ≡ false → v ≡ pos (nat_abs v)
-absolute_positive (pos n) e = refl
-absolute_positive (negsuc n) e = absurd (omega (arith, lt_z_false (negsuc n) (pos 0) e))
-
-pub absolute_fits : (v : ℤ) → nat_abs v ≤ most_sign_magnitude → SFits w64 (pos (nat_abs v))
-absolute_fits v h = fits_abs (pos (nat_abs v)) (omega arith)
-
 module _ (i j : ℕ) (v : ℤ) where
   pub term_diagonal : {u : Float} → i ≡ j → u ≡ eighth_of v → u ≡ bound_term i j v
   unfolding bound_term

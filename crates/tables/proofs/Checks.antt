@@ -17,11 +17,11 @@ use mir.Syntax.{w64}
 use mir.Val.{of_z}
 use Rattle.laws.specs.Sum.{total}
 use Rattle.laws.specs.Lists.{any_below}
-use Rattle.laws.specs.Refusal.{◌if◌, first, short}
-use Rattle.laws.proofs.Refusal.{clear, first_head, first_rest, first_skip, first_end}
+use Rattle.laws.specs.Refusal.{◌if◌, or_else, first, short}
+use Rattle.laws.proofs.Refusal.{stop, pass, clear, first_head, first_rest, first_skip, first_end}
 use Rattle.laws.proofs.Any.{never, any_head, any_rest, any_not, any_none, and_true, below_none, below_only, below_true, below_false, below_at}
 use Rattle.tables.specs.Table.{Table, Lent, InRange, Before, Rising, Mirrored}
-use Rattle.tables.specs.Check.{bad_size, before, bad_entry, bad_order, place_key, Placed, eq_z, is_mirror, unmirrored, hall_number, table_number, short_table, Hall, Accepted}
+use Rattle.tables.specs.Check.{bad_size, before, bad_entry, bad_order, place_key, Placed, eq_z, is_mirror, unmirrored, placed_number, hall_number, table_number, short_table, Hall, Accepted}
 use Rattle.tables.proofs.Mirrors.{rises}
 
 -- ---- values
@@ -35,21 +35,6 @@ eq_z_true (negsuc a) (negsuc b) e = ap negsuc (eqb-true a b e)
 pub eq_z_refl : (a : ℤ) → eq_z a a ≡ true
 eq_z_refl (pos a) = eq-eqb a a refl
 eq_z_refl (negsuc a) = eq-eqb a a refl
-
--- equal bits are equal numbers
-pub eq_bits : (a b : ℤ) → mag a < 2 ^ 63 → mag b < 2 ^ 63 → eqb (of_z w64 a) (of_z w64 b) ≡ eq_z a b
-eq_bits (pos a) (pos b) f g = refl
-eq_bits (pos a) (negsuc b) f g =
-    let h : a < 2 ^ 63 = f in let k : b < 2 ^ 63 = g in ne_eqb a (2 ^ 64 - suc b) (λ e. omega arith)
-eq_bits (negsuc a) (pos b) f g =
-    let h : a < 2 ^ 63 = f in let k : b < 2 ^ 63 = g in ne_eqb (2 ^ 64 - suc a) b (λ e. omega arith)
-eq_bits (negsuc a) (negsuc b) f g = go (eqb a b) refl
-  where
-    go : (t : Bool) → eqb a b ≡ t → eqb (2 ^ 64 - suc a) (2 ^ 64 - suc b) ≡ t
-    go true e = let same : a ≡ b = eqb-true a b e in eq-eqb (2 ^ 64 - suc a) (2 ^ 64 - suc b) (omega arith)
-    go false e =
-        let h : a < 2 ^ 63 = f in let k : b < 2 ^ 63 = g in
-        ne_eqb (2 ^ 64 - suc a) (2 ^ 64 - suc b) (λ same. eqb-false a b e (omega arith))
 
 -- ---- places that rise, and what halving finds
 
@@ -76,9 +61,6 @@ module _ (t : Table) (k j : ℕ) where
       go true false x y = refl
       go false b x y = refl
 
-  pub mirror_on : place_key t.row t.column j ≡ place_key t.column t.row k → t.column j < 65536 → t.row k < 65536 → is_mirror t k j ≡ eq_z (t.value j) (t.value k)
-  mirror_on e low high = simp (eq-eqb (t.row j) (t.column k) (omega arith), eq-eqb (t.column j) (t.row k) (omega arith))
-
 -- what halving says of entry k's mirror: j is where its place is, or would be
 module _ (t : Table) (k j key : ℕ) (placed : Placed t.row t.column t.count) (this : key ≡ place_key t.column t.row k)
     (below : (i : ℕ) → i < j → place_key t.row t.column i < key) (above : (i : ℕ) → j ≤ i → i < t.count → key ≤ place_key t.row t.column i) where
@@ -95,17 +77,8 @@ module _ (t : Table) (k j key : ℕ) (placed : Placed t.row t.column t.count) (t
   pub absent : t.count ≤ j → false ≡ any_below t.count (is_mirror t k)
   absent h = sym (below_none _ t.count (λ i l. off i l (λ e. omega (arith, below i (omega arith)))))
 
-  pub unmatched : j < t.count → (place_key t.row t.column j ≡ key → ⊥) → false ≡ any_below t.count (is_mirror t k)
-  unmatched m h = sym (below_none _ t.count (λ i l. off i l (λ e. case i l e (ℕ_discrete i j))))
-    where
-      case : (i : ℕ) → i < t.count → place_key t.row t.column i ≡ key → Dec (i ≡ j) → ⊥
-      case i l e (yes same) = h (rw (← same) e)
-      case i l e (no other) = elsewhere m i l other e
-
-  pub matched : k < t.count → j < t.count → place_key t.row t.column j ≡ key → eq_z (t.value j) (t.value k) ≡ any_below t.count (is_mirror t k)
-  matched n m e =
-      sym (below_only _ t.count j m (λ i l other. off i l (elsewhere m i l other))
-      ∙ mirror_on t k j (e ∙ this) (placed.cols_low j m) (placed.rows_low k n))
+  pub present : j < t.count → is_mirror t k j ≡ any_below t.count (is_mirror t k)
+  present m = sym (below_only _ t.count j m (λ i l other. off i l (elsewhere m i l other)))
 
 -- ---- the capped sum
 
@@ -120,9 +93,6 @@ same_test limit a b up down = go (dec_lt limit b)
     go : Dec (limit < b) → ltb limit a ≡ ltb limit b
     go (yes h) = lt-ltb limit a (up h) ∙ sym (lt-ltb limit b h)
     go (no h) = let le : b ≤ limit = omega arith in le-ltb limit a (down le) ∙ sym (le-ltb limit b le)
-
-pub capped_test : (limit x : ℕ) {a : ℕ} → a ≡ min x (limit + 1) → ltb limit a ≡ ltb limit x
-capped_test limit x {a} e = same_test limit a x (λ h. omega arith) (λ h. omega arith)
 
 pub capped_tests : (limit x y : ℕ) {a b : ℕ} → a ≡ min x (limit + 1) → b ≡ min y (limit + 1) → ltb limit (a + 2 * b) ≡ ltb limit (x + 2 * y)
 capped_tests limit x y {a} {b} e f = same_test limit (a + 2 * b) (x + 2 * y) (λ h. omega arith) (λ h. omega arith)
@@ -143,13 +113,6 @@ before_is : (i j k l : ℕ) → Before i j k l → before i j k l ≡ true
 unfolding before
 before_is i j k l (inl h) = rw (lt-ltb i k h)
 before_is i j k l (inr (e, h)) = rw (le-ltb i k (omega arith), eq-eqb i k e) (lt-ltb j l h)
-
--- the test against the entry before, which the first entry has none of
-pub entry_after : (k : ℕ) (b : Bool) → 0 < k → (ltb 0 k && b) ≡ b
-entry_after k b h = rw (lt-ltb 0 k h)
-
-pub entry_first : (k : ℕ) (b : Bool) → k ≤ 0 → (ltb 0 k && b) ≡ false
-entry_first k b h = rw (le-ltb 0 k h)
 
 module _ (m : ℕ) (t : Table) where
   -- what is known of entry k
@@ -239,6 +202,29 @@ four a b d e ok =
 no_four : (a b d e : Bool) → a ≡ false → b ≡ false → d ≡ false → e ≡ false → first (13 if a ∷ 14 if b ∷ 15 if d ∷ 16 if e ∷ []) ≡ 0
 no_four a b d e p q r s =
     first_skip 13 a _ p ∙ first_skip 14 b _ q ∙ first_skip 15 d _ r ∙ first_skip 16 e _ s ∙ first_end
+
+-- 13 to 15 in a row, and then 16
+module _ (a b d : Bool) where
+  number_then : (e : Bool) → or_else (first (13 if a ∷ 14 if b ∷ 15 if d ∷ [])) (16 if e) ≡ first (13 if a ∷ 14 if b ∷ 15 if d ∷ 16 if e ∷ [])
+  unfolding first or_else
+  number_then e = go a b d e
+    where
+      go : (a b d e : Bool) → or_else (first (13 if a ∷ 14 if b ∷ 15 if d ∷ [])) (16 if e) ≡ first (13 if a ∷ 14 if b ∷ 15 if d ∷ 16 if e ∷ [])
+      go true b d e = refl
+      go false true d e = refl
+      go false false true e = refl
+      go false false false true = refl
+      go false false false false = refl
+
+  pub number_stops : (e : Bool) {r : ℕ} → r ≡ first (13 if a ∷ 14 if b ∷ 15 if d ∷ []) → (r ≡ 0 → ⊥) → r ≡ first (13 if a ∷ 14 if b ∷ 15 if d ∷ 16 if e ∷ [])
+  number_stops e is some = stop _ (16 if e) is some ∙ number_then e
+
+  pub number_ends : {e : Bool} (t : Bool) → 0 ≡ first (13 if a ∷ 14 if b ∷ 15 if d ∷ []) → e ≡ t → 16 if t ≡ first (13 if a ∷ 14 if b ∷ 15 if d ∷ 16 if e ∷ [])
+  number_ends {e} t none is = pass _ (16 if e) none refl (ap (λ s. 16 if s) (sym is)) ∙ number_then e
+
+pub placed_size : (least most most_entries size : ℕ) (t : Table) → placed_number least most most_entries size t ≡ 0 → (least ≤ size) × (size ≤ most) × (t.count ≤ most_entries)
+unfolding placed_number
+placed_size least most most_entries size t ok = size_parts least most most_entries size t.count (clear _ 12 (first_head _ _ ok))
 
 -- no number applies exactly where (H, c) is a hall
 pub hall_accepted : {most_wagons most_entries limit n : ℕ} {h : Table} {c : ℕ → ℤ} → hall_number most_wagons most_entries limit n h c ≡ 0 → Hall most_wagons most_entries limit n h c

@@ -49,6 +49,15 @@ unmirrored t = any_below t.count (λ k. not (any_below t.count (is_mirror t k)))
 abbrev pub hall_magnitude : ℕ → Table → (ℕ → ℤ) → ℕ
 hall_magnitude n h c = magnitude_of h + 2 * total n (λ i. nat_abs (c i))
 
+-- the first of 13 to 15
+unfoldable pub placed_number : ℕ → ℕ → ℕ → ℕ → Table → ℕ
+placed_number least most most_entries size t =
+    first
+    (13 if bad_size least most most_entries size t.count
+    ∷ 14 if bad_order size t.row t.column t.count
+    ∷ 15 if unmirrored t
+    ∷ [])
+
 -- the first number of (H, c), and of a sign table of m signs given directly
 unfoldable pub hall_number : ℕ → ℕ → ℕ → ℕ → Table → (ℕ → ℤ) → ℕ
 hall_number most_wagons most_entries limit n h c =

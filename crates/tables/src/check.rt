@@ -5,46 +5,34 @@ ghost use Rattle.laws.specs.Lists.{elem, elem_z};
 ghost use Rattle.laws.specs.Refusal.{short};
 ghost use Rattle.refusal.specs.Number.{numbered};
 ghost use Rattle.tables.specs.Table.{table_of, Lent};
-ghost use Rattle.tables.specs.Check.{bad_size, bad_signs, before, bad_entry, bad_order, hall_number, table_number, short_table};
+ghost use Rattle.tables.specs.Check.{bad_size, bad_signs, before, bad_entry, bad_order, placed_number, hall_number, table_number, short_table};
 
 use crate::mirror::unmirrored;
 use limits::MOST_SIGNS;
 use refusal::Refusal;
 
 // 13: a size or an entry count out of its limits.
+#[tactic(auto, unfolding(crate::specs::Check::bad_size, laws::specs::Refusal::any_of))]
 pub fn bad_size(least: usize, most: usize, capacity: usize, size: usize, count: usize) -> bool
     ensures { result ≡ bad_size least most capacity size count }
 {
-    if size < least {
-        return true;
-    }
-    if most < size {
-        return true;
-    }
-    capacity < count
+    size < least || most < size || capacity < count
 }
 
 // 13 of m alone.
+#[tactic(auto, unfolding(crate::specs::Check::bad_signs, laws::specs::Refusal::any_of))]
 pub fn bad_signs(m: usize) -> bool
     ensures { result ≡ bad_signs m }
 {
-    if m < 1 {
-        return true;
-    }
-    MOST_SIGNS < m
+    m < 1 || MOST_SIGNS < m
 }
 
 // Whether (i, j) stands before (k, l).
+#[tactic(auto, unfolding(crate::specs::Check::before))]
 fn before(i: u16, j: u16, k: u16, l: u16) -> bool
     ensures { result ≡ before i j k l }
 {
-    if i < k {
-        return true;
-    }
-    if i == k {
-        return j < l;
-    }
-    false
+    i < k || i == k && j < l
 }
 
 // An index as a size.
@@ -55,20 +43,14 @@ pub fn wide(x: u16) -> usize
 }
 
 // Entry k is out of range, or not after the entry before.
+#[tactic(auto, unfolding(crate::specs::Check::bad_entry, laws::specs::Refusal::any_of))]
 fn bad_entry(size: usize, rows: &[u16], cols: &[u16], k: usize) -> bool
     requires { (k < length rows.now) × (k < length cols.now) }
     ensures { result ≡ bad_entry size (elem rows.now) (elem cols.now) k }
 {
-    if size <= wide(rows[k]) {
-        return true;
-    }
-    if size <= wide(cols[k]) {
-        return true;
-    }
-    if 0 < k {
-        return !before(rows[k - 1], cols[k - 1], rows[k], cols[k]);
-    }
-    false
+    size <= wide(rows[k])
+        || size <= wide(cols[k])
+        || 0 < k && !before(rows[k - 1], cols[k - 1], rows[k], cols[k])
 }
 
 // 14: an entry out of range or order.
@@ -88,21 +70,7 @@ pub fn bad_order(size: usize, count: usize, rows: &[u16], cols: &[u16]) -> bool
 pub fn abs_of(value: i64) -> u64
     ensures { (result ≡ nat_abs value) × (result ≤ 2 ^ 63) }
 {
-    if value < 0 {
-        (-(value + 1)) as u64 + 1
-    } else {
-        value as u64
-    }
-}
-
-// The lesser of the two.
-fn at_most(x: u64, cap: u64) -> u64
-    ensures { result ≡ min x cap }
-{
-    if x < cap {
-        return x;
-    }
-    cap
+    value.unsigned_abs()
 }
 
 // The sum of the absolute values of the first numbers, or the cap if that is less.
@@ -112,20 +80,12 @@ pub fn magnitudes_capped(cap: u64, count: usize, values: &[i64]) -> u64
 {
     let mut sum: u64 = 0;
     for k in 0..count {
-        sum = at_most(sum + abs_of(values[k]), cap);
+        sum = (sum + values[k].unsigned_abs()).min(cap);
     }
     sum
 }
 
-// 16 for a sign table: its magnitude is above the limit.
-pub fn too_large(limit: u64, count: usize, values: &[i64]) -> bool
-    requires { (count ≤ length values.now) × (limit < 2 ^ 60) }
-    ensures { result ≡ ltb limit (total count (λ k. nat_abs (elem_z values.now k))) }
-{
-    limit < magnitudes_capped(limit + 1, count, values)
-}
-
-// 16 for (H, c).
+// 16 for (H, c): its magnitude is above the limit.
 pub fn hall_too_large(limit: u64, n: usize, count: usize, values: &[i64], c: &[i64]) -> bool
     requires { (count ≤ length values.now) × (n ≤ length c.now) × (limit < 2 ^ 60) }
     ensures { result ≡ ltb limit (total count (λ k. nat_abs (elem_z values.now k)) + 2 * total n (λ i. nat_abs (elem_z c.now i))) }
@@ -133,6 +93,41 @@ pub fn hall_too_large(limit: u64, n: usize, count: usize, values: &[i64], c: &[i
     let entries = magnitudes_capped(limit + 1, count, values);
     let costs = magnitudes_capped(limit + 1, n, c);
     limit < entries + 2 * costs
+}
+
+// 16 for a sign table: the same with no linear costs.
+pub fn too_large(limit: u64, count: usize, values: &[i64]) -> bool
+    requires { (count ≤ length values.now) × (limit < 2 ^ 60) }
+    ensures { result ≡ ltb limit (total count (λ k. nat_abs (elem_z values.now k))) }
+{
+    hall_too_large(limit, 0, count, values, &[])
+}
+
+// The first of 13 to 15 of a table of so many rows, on which 16 rests.
+#[tactic(auto, unfolding(crate::specs::Check::placed_number, laws::specs::Refusal::first, laws::specs::Refusal::or_else))]
+fn placed_number(
+    least: usize,
+    most: usize,
+    capacity: usize,
+    size: usize,
+    count: usize,
+    rows: &[u16],
+    cols: &[u16],
+    values: &[i64],
+) -> Result<(), Refusal>
+    requires { (count ≤ capacity → Lent count rows.now cols.now values.now) × (most ≤ 65536) }
+    ensures { numbered result ≡ placed_number least most capacity size (table_of count rows.now cols.now values.now) }
+{
+    if bad_size(least, most, capacity, size, count) {
+        return Err(Refusal::Size);
+    }
+    if bad_order(size, count, rows, cols) {
+        return Err(Refusal::Entry);
+    }
+    if unmirrored(count, rows, cols, values) {
+        return Err(Refusal::Mirror);
+    }
+    Ok(())
 }
 
 // The first number of (H, c).
@@ -150,15 +145,7 @@ pub fn hall_number(
     requires { (count ≤ capacity → Lent count rows.now cols.now values.now) × (n ≤ most → n ≤ length c.now) × (most ≤ 65536) × (limit < 2 ^ 60) }
     ensures { numbered result ≡ hall_number most capacity limit n (table_of count rows.now cols.now values.now) (elem_z c.now) }
 {
-    if bad_size(0, most, capacity, n, count) {
-        return Err(Refusal::Size);
-    }
-    if bad_order(n, count, rows, cols) {
-        return Err(Refusal::Entry);
-    }
-    if unmirrored(count, rows, cols, values) {
-        return Err(Refusal::Mirror);
-    }
+    placed_number(0, most, capacity, n, count, rows, cols, values)?;
     if hall_too_large(limit, n, count, values, c) {
         return Err(Refusal::Magnitude);
     }
@@ -179,15 +166,7 @@ pub fn table_number(
     requires { (count ≤ capacity → Lent count rows.now cols.now values.now) × (most ≤ 65536) × (limit < 2 ^ 60) }
     ensures { numbered result ≡ table_number most capacity limit m (table_of count rows.now cols.now values.now) }
 {
-    if bad_size(1, most, capacity, m, count) {
-        return Err(Refusal::Size);
-    }
-    if bad_order(m, count, rows, cols) {
-        return Err(Refusal::Entry);
-    }
-    if unmirrored(count, rows, cols, values) {
-        return Err(Refusal::Mirror);
-    }
+    placed_number(1, most, capacity, m, count, rows, cols, values)?;
     if too_large(limit, count, values) {
         return Err(Refusal::Magnitude);
     }
@@ -195,16 +174,15 @@ pub fn table_number(
 }
 
 // 31: a lent slice is shorter than needed, where what is needed rests on no refused number.
+#[tactic(auto, unfolding(laws::specs::Refusal::short))]
 pub fn too_short(refused: bool, needed: usize, lent: usize) -> bool
     ensures { result ≡ short refused needed lent }
 {
-    if refused {
-        return false;
-    }
-    lent < needed
+    !refused && lent < needed
 }
 
 // 31 for the slices of a table.
+#[tactic(auto, unfolding(crate::specs::Check::short_table, laws::specs::Refusal::any_of))]
 pub fn short_table(
     capacity: usize,
     count: usize,
@@ -214,11 +192,8 @@ pub fn short_table(
 ) -> bool
     ensures { result ≡ short_table capacity count (length rows.now) (length cols.now) (length values.now) }
 {
-    if too_short(capacity < count, count, rows.len()) {
-        return true;
-    }
-    if too_short(capacity < count, count, cols.len()) {
-        return true;
-    }
-    too_short(capacity < count, count, values.len())
+    let refused = capacity < count;
+    too_short(refused, count, rows.len())
+        || too_short(refused, count, cols.len())
+        || too_short(refused, count, values.len())
 }

@@ -21,7 +21,3 @@ bound_term-bound-requires c = let a = c.args in
 pub loop-k-preserved : goal.loop-k-preserved
 loop-k-preserved c = let a = c.args in
     (omega arith, bound_more (table_of a.count a.rows.now a.cols.now a.values.now) c.loop-k.k c.loop-k.invariant.1 (c.bound_term-bound.ensures ∙ rw (held (elem_z a.values.now c.loop-k.k) c.bound_term-arg-1.given)))
-
-pub returns : goal.returns
-returns c = let a = c.args in
-    let e : c.loop-k.k ≡ a.count = omega arith in c.loop-k.invariant.1 ∙ ap (bound_sum (table_of a.count a.rows.now a.cols.now a.values.now)) e

@@ -11,9 +11,6 @@ pub returns-then-i-j : goal.returns-then-i-j
 returns-then-i-j c = let a = c.args in
     term_diagonal a.i a.j a.value c.if-i-j.true (c.eighth.ensures ∙ ap eighth_of (to_z-of_z c.ranges.value))
 
-pub absolute-requires : goal.absolute-requires
-absolute-requires c = rw (to_z-of_z c.ranges.value) c.requires
-
 pub returns : goal.returns
 returns c = let a = c.args in
-    term_other a.i a.j a.value c.if-i-j.false (c.eighth-2.ensures ∙ ap eighth_of (held c.absolute.result c.absolute.type_inv ∙ c.absolute.ensures ∙ ap (λ z. pos (nat_abs z)) (to_z-of_z c.ranges.value)))
+    term_other a.i a.j a.value c.if-i-j.false (c.eighth-2.ensures ∙ ap eighth_of (held c.abs.result c.abs.type_inv ∙ c.abs.ensures.value ∙ ap (λ z. pos (nat_abs z)) (to_z-of_z c.ranges.value)))

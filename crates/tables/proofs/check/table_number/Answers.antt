@@ -1,42 +1,25 @@
--- `tables::check::table_number` meets its contract.
-use mathlib.Core.Path.{sym, ◌∙◌}
-use native.Mathlib.Omega.{arith}
-use Rattle.laws.proofs.Refusal.{first_here, first_skip, first_end}
-use Rattle.tables.specs.Table.{table_of}
-use Rattle.tables.specs.Check.{table_number}
-use Rattle.tables.proofs.Checks.{size_parts, order_placed}
+-- `tables::check::table_number` meets its contract: 13 to 15, then 16.
+use mathlib.Core.Path.{sym, ◌∙◌, ap}
+use mathlib.Core.Bool.{true, false}
+use Rattle.refusal.specs.Number.{numbered}
+use Rattle.refusal.proofs.Passed.{passed, some_number}
+use Rattle.tables.specs.Check.{placed_number, table_number}
+use Rattle.tables.proofs.Checks.{number_stops, number_ends, placed_size}
 use Rattle.tables.proofs.check.table_number.Goals as goal
 
-pub returns-then-bad_size : goal.returns-then-bad_size
-unfolding table_number
-returns-then-bad_size c = sym (first_here 12 _ _ (sym c.bad_size.ensures ∙ c.if-bad_size.true))
-
-pub bad_order-requires : goal.bad_order-requires
-bad_order-requires c = let l = c.requires.0 (size_parts _ _ _ _ _ (sym c.bad_size.ensures ∙ c.if-bad_size.false)).2 in (l.rows_there, l.cols_there)
-
-pub returns-then-bad_order : goal.returns-then-bad_order
-unfolding table_number
-returns-then-bad_order c = sym (first_skip 13 _ _ (sym c.bad_size.ensures ∙ c.if-bad_size.false) ∙ first_here 13 _ _ (sym c.bad_order.ensures ∙ c.if-bad_order.true))
-
-pub unmirrored-requires : goal.unmirrored-requires
-unmirrored-requires c = let p = c.requires in
-    let s = size_parts _ _ _ _ _ (sym c.bad_size.ensures ∙ c.if-bad_size.false) in
-    let a = c.args in
-    (p.0 s.2, order_placed a.m (table_of a.count a.rows.now a.cols.now a.values.now) (omega (arith, s, p.1)) (sym c.bad_order.ensures ∙ c.if-bad_order.false))
-
-pub returns-then-unmirrored : goal.returns-then-unmirrored
-unfolding table_number
-returns-then-unmirrored c = sym (first_skip 13 _ _ (sym c.bad_size.ensures ∙ c.if-bad_size.false) ∙ first_skip 14 _ _ (sym c.bad_order.ensures ∙ c.if-bad_order.false) ∙ first_here 14 _ _ (sym c.unmirrored.ensures ∙ c.if-unmirrored.true))
+pub returns-in_err-placed_number : goal.returns-in_err-placed_number
+unfolding placed_number table_number
+returns-in_err-placed_number c = ap numbered (passed c.from_residual.ensures.1) ∙ number_stops _ _ _ _ c.in_err-placed_number.ensures (some_number _)
 
 pub too_large-requires : goal.too_large-requires
 too_large-requires c = let p = c.requires in
-    let s = size_parts _ _ _ _ _ (sym c.bad_size.ensures ∙ c.if-bad_size.false) in
+    let s = placed_size _ _ _ _ _ (sym c.in_ok-placed_number.ensures) in
     ((p.0 s.2).values_there, p.2)
 
 pub returns-then-too_large : goal.returns-then-too_large
-unfolding table_number
-returns-then-too_large c = sym (first_skip 13 _ _ (sym c.bad_size.ensures ∙ c.if-bad_size.false) ∙ first_skip 14 _ _ (sym c.bad_order.ensures ∙ c.if-bad_order.false) ∙ first_skip 15 _ _ (sym c.unmirrored.ensures ∙ c.if-unmirrored.false) ∙ first_here 15 _ _ (sym c.too_large.ensures ∙ c.if-too_large.true))
+unfolding placed_number table_number
+returns-then-too_large c = number_ends _ _ _ true c.in_ok-placed_number.ensures (sym c.too_large.ensures ∙ c.if-too_large.true)
 
 pub returns : goal.returns
-unfolding table_number
-returns c = sym (first_skip 13 _ _ (sym c.bad_size.ensures ∙ c.if-bad_size.false) ∙ first_skip 14 _ _ (sym c.bad_order.ensures ∙ c.if-bad_order.false) ∙ first_skip 15 _ _ (sym c.unmirrored.ensures ∙ c.if-unmirrored.false) ∙ first_skip 16 _ _ (sym c.too_large.ensures ∙ c.if-too_large.false) ∙ first_end)
+unfolding placed_number table_number
+returns c = number_ends _ _ _ false c.in_ok-placed_number.ensures (sym c.too_large.ensures ∙ c.if-too_large.false)

@@ -1,10 +1,10 @@
--- `tables::check::too_large` meets its contract.
-use lib.IntN.{nat_abs}
+-- `tables::check::too_large` meets its contract: no linear costs add 0.
+use mathlib.Core.Path.{◌∙◌, ap}
+use native.Mathlib.Omega.{arith}
+use lib.Dec.{ltb}
 use Rattle.laws.specs.Sum.{total}
-use Rattle.laws.specs.Lists.{elem_z}
-use Rattle.tables.proofs.Checks.{capped_test}
 use Rattle.tables.proofs.check.too_large.Goals as goal
 
 pub returns : goal.returns
-returns c = let a = c.args in
-    capped_test a.limit (total a.count (λ l. nat_abs (elem_z a.values.now l))) c.magnitudes_capped.ensures
+unfolding total
+returns c = c.hall_too_large.ensures ∙ ap (ltb c.args.limit) (omega arith)

@@ -3,9 +3,6 @@ use Rattle.tables.proofs.Checks.{lower, upper}
 use native.Mathlib.Omega.{arith}
 use Rattle.tables.proofs.mirror.find_place.Goals as goal
 
-pub loop-low-init : goal.loop-low-init
-loop-low-init c = (omega arith, omega arith, (λ j h. absurd (omega arith)), (λ j h l. absurd (omega arith)))
-
 pub loop-low-preserved-then-place_at-key : goal.loop-low-preserved-then-place_at-key
 loop-low-preserved-then-place_at-key c = let inv = c.loop-low.invariant in
     (omega arith, inv.1, lower _ _ _ c.requires.2.climbs _ (omega arith) (omega arith), inv.3)
@@ -13,7 +10,3 @@ loop-low-preserved-then-place_at-key c = let inv = c.loop-low.invariant in
 pub loop-low-preserved : goal.loop-low-preserved
 loop-low-preserved c = let inv = c.loop-low.invariant in
     (omega arith, omega arith, inv.2, upper _ _ _ c.requires.2.climbs _ (omega arith))
-
-pub returns : goal.returns
-returns c = let inv = c.loop-low.invariant in
-    (omega arith, inv.2, λ j h. inv.3 j (omega arith))

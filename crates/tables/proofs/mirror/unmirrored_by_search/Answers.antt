@@ -10,10 +10,6 @@ pub loop-k-init : goal.loop-k-init
 unfolding any_below
 loop-k-init c = (omega arith, refl)
 
-pub has_mirror-requires : goal.has_mirror-requires
-has_mirror-requires c = let p = c.requires in
-    (p.0, p.1, omega arith)
-
 pub returns-then-not-has_mirror : goal.returns-then-not-has_mirror
 unfolding unmirrored
 returns-then-not-has_mirror c = sym (below_at _ _ _ c.loop-k-test.true (simp (← c.has_mirror.ensures, c.if-not-has_mirror.true)))

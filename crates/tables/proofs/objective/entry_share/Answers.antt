@@ -6,12 +6,6 @@ use native.Mathlib.Omega.{arith}
 use mathlib.Core.Path.{sym, ◌∙◌}
 use Rattle.tables.proofs.objective.entry_share.Goals as goal
 
-pub overflow_mul-result : goal.overflow_mul-result
-overflow_mul-result c = rw (to_z-of_z c.ranges.value) (times_fits (pos 2) c.args.value (omega arith) c.requires)
-
-pub overflow_mul-result-else-same_sign : goal.overflow_mul-result-else-same_sign
-overflow_mul-result-else-same_sign c = rw (to_z-of_z c.ranges.value) (times_fits (negsuc 1) c.args.value (omega arith) c.requires)
-
 pub returns-then-i-j : goal.returns-then-i-j
 returns-then-i-j c = to_z-of_z c.ranges.value ∙ sym (share_diagonal _ _ _ _ _ c.if-i-j.true)
 

@@ -11,14 +11,6 @@ use native.Mathlib.Omega.{arith}
 use mathlib.Core.Path.{ap, ◌∙◌}
 use Rattle.tables.proofs.objective.eval_qubo_objective.Goals as goal
 
-pub quadratic_cost-quadratic-requires : goal.quadratic_cost-quadratic-requires
-quadratic_cost-quadratic-requires c = let p = c.requires in
-    (p.0, record { rows_in = λ k h. omega (arith, p.3.rows_in k h, p.2); cols_in = λ k h. omega (arith, p.3.cols_in k h, p.2) }, omega (arith, p.4))
-
-pub linear_cost-linear-requires : goal.linear_cost-linear-requires
-linear_cost-linear-requires c = let p = c.requires in
-    (p.1, p.2, omega (arith, p.4))
-
 pub overflow_mul-result : goal.overflow_mul-result
 overflow_mul-result c = let a = c.args in
     rw (held c.quadratic_cost-quadratic.result c.quadratic_cost-quadratic.type_inv) (four_fits c.quadratic_cost-quadratic.result c.linear_cost-linear.result (omega (arith, ap nat_abs c.quadratic_cost-quadratic.ensures, cost_abs (table_of a.count a.rows.now a.cols.now a.values.now) a.b.now, ap nat_abs c.linear_cost-linear.ensures, linear_abs a.n (elem_z a.c.now) a.b.now, c.requires.4)))

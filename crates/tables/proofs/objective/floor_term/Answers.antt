@@ -10,7 +10,3 @@ pub entry_least-requires : goal.entry_least-requires
 entry_least-requires c = let a = c.args in
     let p = c.requires in
     rw (held (elem_z a.values.now a.k) c.entry_least-arg-1.given) (value_small (table_of a.count a.rows.now a.cols.now a.values.now) p.2 a.k p.1)
-
-pub returns : goal.returns
-returns c = let a = c.args in
-    rw (held _ c.entry_least.type_inv) (c.entry_least.ensures ∙ rw (held (elem_z a.values.now a.k) c.entry_least-arg-1.given))

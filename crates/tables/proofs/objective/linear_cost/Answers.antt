@@ -18,6 +18,3 @@ overflow_add-sum c = let a = c.args in
 pub loop-i-preserved : goal.loop-i-preserved
 loop-i-preserved c = let a = c.args in
     (omega arith, turn_is (linear_held a.n (elem_z a.c.now) a.b.now c.requires.2) c.loop-i.i c.loop-i.sum-bits c.linear_term-sum.result c.loop-i-test.true c.loop-i.invariant.1 c.linear_term-sum.type_inv c.linear_term-sum.ensures)
-
-pub returns : goal.returns
-returns c = let e : c.loop-i.i ≡ c.args.n = omega arith in rw (← e) c.loop-i.invariant.1

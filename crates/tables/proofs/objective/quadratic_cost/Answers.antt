@@ -11,10 +11,6 @@ pub loop-k-init : goal.loop-k-init
 unfolding S.sum
 loop-k-init c = (omega arith, refl)
 
-pub cost_term-sum-requires : goal.cost_term-sum-requires
-cost_term-sum-requires c = let p = c.requires in
-    (p.0, c.loop-k-test.true, p.1)
-
 pub overflow_add-sum : goal.overflow_add-sum
 overflow_add-sum c = let a = c.args in
     turn_fits (cost_held (table_of a.count a.rows.now a.cols.now a.values.now) a.b.now c.requires.2) c.loop-k.k c.loop-k.sum-bits c.cost_term-sum.result c.loop-k-test.true c.loop-k.invariant.1 c.cost_term-sum.type_inv c.cost_term-sum.ensures
@@ -22,6 +18,3 @@ overflow_add-sum c = let a = c.args in
 pub loop-k-preserved : goal.loop-k-preserved
 loop-k-preserved c = let a = c.args in
     (omega arith, turn_is (cost_held (table_of a.count a.rows.now a.cols.now a.values.now) a.b.now c.requires.2) c.loop-k.k c.loop-k.sum-bits c.cost_term-sum.result c.loop-k-test.true c.loop-k.invariant.1 c.cost_term-sum.type_inv c.cost_term-sum.ensures)
-
-pub returns : goal.returns
-returns c = let e : c.loop-k.k ≡ c.args.count = omega arith in rw (← e) c.loop-k.invariant.1

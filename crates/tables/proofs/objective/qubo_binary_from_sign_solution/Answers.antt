@@ -10,6 +10,3 @@ loop-i-init c = (omega arith, fill_none _ _, refl)
 
 pub loop-i-preserved : goal.loop-i-preserved
 loop-i-preserved c = (omega arith, fill_more _ _ _ c.loop-i.invariant.1 c.decoded_byte.ensures, simp length-set c.loop-i.invariant.2)
-
-pub returns : goal.returns
-returns c = fill_all _ _ _ _ c.loop-i.invariant.1 c.loop-i.invariant.0 c.loop-i-test.false
