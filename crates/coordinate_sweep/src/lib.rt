@@ -10,13 +10,13 @@ ghost use Rattle.factor.specs.Norms.{squared_norm};
 ghost use Rattle.factor.specs.Shapes.{RowFits, Shaped};
 ghost use Rattle.coordinate_sweep.specs.Sweep.{exact_row, momentum_row, normalized, wrote, update_row, gradient_at, row_to, swept_row, meets_next, SweepsOn, sweep_to, norm_at, stands, standing_to, StandsOn};
 
-use factor::rows::{clear, scale};
+use factor::rows::{clear, scale, update_with};
 use factor::sums::squared_norm;
 use pairs::{next_apart, renew_pair};
 use row_gradient::pair4::gradients;
 use row_gradient::ranks::gradient;
 
-// What a step of a sweep did: the row after it, and how many rows it left as they were.
+// What a step of a sweep did: the row after it, and how many rows it left as they were. Both are there after every step: no Option, no Result.
 #[derive(Drop)]
 struct Went {
     next: usize,
@@ -35,7 +35,7 @@ fn writes(norm: f64) -> bool
 fn left_of(written: bool) -> usize
     ensures { result ≡ cond written 0 1 }
 {
-    if written { 0 } else { 1 }
+    usize::from(!written)
 }
 
 // The exact update: the gradient times `inv`.
@@ -43,9 +43,7 @@ fn set_exact(row: &mut [f64], g: &[f64], inv: f64)
     requires { length row.old ≡ length g.now }
     ensures { row.new ≡ exact_row g.now inv row.old }
 {
-    for j in 0..row.len() {
-        row[j] = g[j] * inv;
-    }
+    update_with(row, g, |_, x| x * inv);
 }
 
 // (1 + beta) times the exact update, less beta times the old row.
@@ -53,9 +51,7 @@ fn set_momentum(row: &mut [f64], g: &[f64], inv: f64, beta: f64)
     requires { length row.old ≡ length g.now }
     ensures { row.new ≡ momentum_row g.now inv beta row.old }
 {
-    for j in 0..row.len() {
-        row[j] = (1.0 + beta) * (g[j] * inv) - beta * row[j];
-    }
+    update_with(row, g, |old, x| (1.0 + beta) * (x * inv) - beta * old);
 }
 
 // The row times 1.0 divided by its norm.
@@ -244,6 +240,7 @@ pub fn coordinate_sweep(
 {
     let mut i = 0;
     let mut left: usize = 0;
+    // one row or two a turn, as the entries allow: no range counts so
     while i < m {
         let went = sweep_on(cols, values, starts, m, factor, g, h, i, beta);
         left += went.left;

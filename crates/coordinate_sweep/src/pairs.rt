@@ -104,10 +104,7 @@ pub fn renew_pair(factor: &mut [f64], g: &[f64], h: &[f64], i: usize, beta: f64)
 fn found_by(found: bool, column: u16, i: u16) -> bool
     ensures { result ≡ cond (eqb column i) true found }
 {
-    if column == i {
-        return true;
-    }
-    found
+    column == i || found
 }
 
 // Whether one of the columns is i.

@@ -1,4 +1,4 @@
 mod ByColumns
 pub mod Shaping
-mod Updates
+pub mod Updates
 pub mod Written

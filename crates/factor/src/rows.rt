@@ -29,7 +29,7 @@ fn update<F: Fn(f64) -> f64>(row: &mut [f64], f: F)
 }
 
 // Every element x becomes f(x, y), with y the element of `source` at its place.
-fn update_with<F: Fn(f64, f64) -> f64>(acc: &mut [f64], source: &[f64], f: F)
+pub fn update_with<F: Fn(f64, f64) -> f64>(acc: &mut [f64], source: &[f64], f: F)
     requires same_length { length acc.old ≡ length source.now }
     requires callable { F.IsAlwaysCallable f }
     ensures { UpdatedWith (F.post f) source.now acc.old acc.new }

@@ -5,6 +5,7 @@
 --     divided_at_lem, -tail       the same of `dual_variables_divided`, whose place i has row i's numerator divided by the row's product with itself
 --     divided_zero_at, -nan-at, -unit-at   NaN for a row of zeros or with a NaN; the numerator where that product is 1.0
 -- Assumes nothing.
+use Rattle.std.specs.Prelude.{Result, Ok, Err}
 use mathlib.Core.Path.{◌≡◌, refl, sym, ap, ◌∙◌, subst}
 use mathlib.Core.Bool.{Bool, true, false, not}
 use mathlib.Core.List.{List}
@@ -26,8 +27,6 @@ use Rattle.run_limits.specs.Rank.{rank_meant}
 use Rattle.maxcut_oracle.specs.Whole.{numerator, whole_multipliers}
 use Rattle.rounding.specs.Rounding.{signs_of, draw_objective, least_draw, rounded_sol, rounded_objective}
 use Rattle.rounding.proofs.Least.{least_within, least_least, least_first}
-use Rattle.table_calls.specs.declared.Eighths.{Eighths}
-use Rattle.table_calls.specs.declared.Eighths.TheVariants as E
 use Rattle.table_calls.proofs.Accepting.{accepted_is}
 use Rattle.factor_calls.specs.Numbers.{rounded_number, dual_number, divided_number}
 use Rattle.factor_calls.specs.Answers.{RoundsFactor, Multiplies}
@@ -45,7 +44,7 @@ more a b h = go (lt_z a b) refl
     go false e = absurd (h (lt_z_no (subst (λ (x : Bool). T (not x)) (sym e) tt)))
 
 -- an accepted call of `compute_rounded_sol`
-module _ (m count : ℕ) (rows cols : List ℕ) (values : List ℤ) (rank : ℕ) (factor : List Float) (k : ℕ) (draws : List Float) (out : List ℕ) {answer : Eighths} {out' : List ℕ} where
+module _ (m count : ℕ) (rows cols : List ℕ) (values : List ℤ) (rank : ℕ) (factor : List Float) (k : ℕ) (draws : List Float) (out : List ℕ) {answer : Result ℤ ℕ} {out' : List ℕ} where
   pub rounds_first_of_least : RoundsFactor (rounded_number m count rows cols values rank (length factor) k (length draws) (length out))
       (rounded_objective factor (rank_meant m rank) m draws (table_of count rows cols values) k)
       (rounded_sol factor (rank_meant m rank) m draws (table_of count rows cols values) k) out answer out'
@@ -60,7 +59,7 @@ module _ (m count : ℕ) (rows cols : List ℕ) (values : List ℤ) (rank : ℕ)
         draw = least_draw factor (rank_meant m rank) m draws (table_of count rows cols values) k;
         given = omega arith;
         lent = w.signs_are ∙ sym (accepted_is _ (λ _. out) (over (signs_of factor (rank_meant m rank) m draws (least_draw factor (rank_meant m rank) m draws (table_of count rows cols values) k)) out) refl ok);
-        answers = w.answers ∙ sym (accepted_is _ E.Refused (E.Value (f (least_draw factor (rank_meant m rank) m draws (table_of count rows cols values) k))) refl ok);
+        answers = w.answers ∙ sym (accepted_is _ Err (Ok (f (least_draw factor (rank_meant m rank) m draws (table_of count rows cols values) k))) refl ok);
         none_lower = λ j h. least_least f (k - 1) j (omega arith);
         before_higher = λ j h. more _ _ (least_first f (k - 1) j h);
       }

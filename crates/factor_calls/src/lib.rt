@@ -9,6 +9,7 @@ ghost use Rattle.std.specs.Prelude.{◌≡◌, ◌*◌, ◌≤◌, length};
 ghost use Rattle.laws.specs.Lists.{over};
 ghost use Rattle.limits.specs.Limits.{most_signs, most_sign_magnitude, most_rank};
 ghost use Rattle.tables.specs.Table.{table_of, Lent, InRange, Rising, magnitude_of};
+ghost use Rattle.refusal.specs.Number.{in_numbers, numbered};
 ghost use Rattle.run_limits.specs.Rank.{rank_meant};
 ghost use Rattle.rounding.specs.Rounding.{rounded_sol, rounded_objective};
 ghost use Rattle.maxcut_oracle.specs.Whole.{whole_multipliers};
@@ -18,8 +19,8 @@ ghost use Rattle.factor_calls.specs.Answers.{RoundsFactor, Multiplies};
 
 use limits::{MOST_RANK, MOST_SIGNS};
 use numbers::{divided_number, dual_number, rounded_number};
+use refusal::Refusal;
 use run_limits::rank_meant;
-use table_calls::Eighths;
 use whole::whole_multipliers;
 
 // Room for a direction, or for a row's sums.
@@ -87,13 +88,13 @@ pub fn compute_rounded_sol(
     draw_count: usize,
     draws: &[f64],
     out: &mut [u8],
-) -> Eighths
+) -> Result<i64, Refusal>
     ensures { RoundsFactor (rounded_number m count rows.now cols.now values.now rank (length factor.now) draw_count (length draws.now) (length out.old))
         (rounded_objective factor.now (rank_meant m rank) m draws.now (table_of count rows.now cols.now values.now) draw_count)
         (rounded_sol factor.now (rank_meant m rank) m draws.now (table_of count rows.now cols.now values.now) draw_count)
-        out.old result out.new }
+        out.old (in_numbers result) out.new }
 {
-    let number = rounded_number(
+    rounded_number(
         m,
         count,
         rows,
@@ -104,15 +105,12 @@ pub fn compute_rounded_sol(
         draw_count,
         draws.len(),
         out.len(),
-    );
-    if number != 0 {
-        return Eighths::Refused(number);
-    }
+    )?;
     let meant = rank_meant(m, rank);
     let objective = round(
         m, count, rows, cols, values, meant, factor, draw_count, draws, out,
     );
-    Eighths::Value(objective)
+    Ok(objective)
 }
 
 // The multipliers of accepted arguments, divided or not, with room for a row's sums.
@@ -158,22 +156,19 @@ pub fn dual_variables(
     rank: usize,
     factor: &[f64],
     out: &mut [f64],
-) -> u8
+) -> Result<(), Refusal>
     ensures { Multiplies (dual_number m count rows.now cols.now values.now rank (length factor.now) (length out.old))
         (whole_multipliers (table_of count rows.now cols.now values.now) m (rank_meant m rank) factor.now)
-        out.old result out.new }
+        out.old (numbered result) out.new }
 {
-    let number = dual_number(m, count, rows, cols, values, rank, factor.len(), out.len());
-    if number != 0 {
-        return number;
-    }
+    dual_number(m, count, rows, cols, values, rank, factor.len(), out.len())?;
     let meant = rank_meant(m, rank);
     multiply(false, m, count, rows, cols, values, meant, factor, out);
-    0
+    Ok(())
 }
 
 // Equation 8 of arXiv 0807.4423 with its denominator: what `dual_variables` gives, each row's divided by the row's product with itself, in the
-// first places of `out`; the number, 0 where the call is accepted. The rank is given: 0 is refused. A row of zeros, of NaN, or too small or too
+// first places of `out`. The rank is given: 0 is refused. A row of zeros, of NaN, or too small or too
 // large to be squared gives what the division gives.
 pub fn dual_variables_divided(
     m: usize,
@@ -184,15 +179,12 @@ pub fn dual_variables_divided(
     rank: usize,
     factor: &[f64],
     out: &mut [f64],
-) -> u8
+) -> Result<(), Refusal>
     ensures { Multiplies (divided_number m count rows.now cols.now values.now rank (length factor.now) (length out.old))
         (divided_multipliers (table_of count rows.now cols.now values.now) m rank factor.now)
-        out.old result out.new }
+        out.old (numbered result) out.new }
 {
-    let number = divided_number(m, count, rows, cols, values, rank, factor.len(), out.len());
-    if number != 0 {
-        return number;
-    }
+    divided_number(m, count, rows, cols, values, rank, factor.len(), out.len())?;
     multiply(true, m, count, rows, cols, values, rank, factor, out);
-    0
+    Ok(())
 }

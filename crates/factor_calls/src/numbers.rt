@@ -1,8 +1,10 @@
 // The numbers of the calls, in 01's order: 31, 13 to 16, 17, 19.
 ghost use Rattle.std.specs.Prelude.{◌≡◌, length};
+ghost use Rattle.refusal.specs.Number.{numbered};
 ghost use Rattle.factor_calls.specs.Numbers.{bad_rank, bad_draws, factor_short, draws_refused, draws_short, rounded_short, rounded_number, dual_short, dual_number, given_rank, divided_number};
 
 use limits::{MOST_DRAWS, MOST_RANK, MOST_SIGN_ENTRIES, MOST_SIGN_MAGNITUDE, MOST_SIGNS};
+use refusal::Refusal;
 use run_limits::rank_meant;
 use tables::check::{bad_signs, short_table, table_number, too_short};
 
@@ -89,7 +91,7 @@ fn rounded_short(
     too_short(bad_signs(m), m, out)
 }
 
-// The first number of `compute_rounded_sol`, or 0.
+// What `compute_rounded_sol` refuses first.
 pub fn rounded_number(
     m: usize,
     count: usize,
@@ -101,13 +103,13 @@ pub fn rounded_number(
     k: usize,
     draws: usize,
     out: usize,
-) -> u8
-    ensures { result ≡ rounded_number m count rows.now cols.now values.now rank factor k draws out }
+) -> Result<(), Refusal>
+    ensures { numbered result ≡ rounded_number m count rows.now cols.now values.now rank factor k draws out }
 {
     if rounded_short(m, count, rows, cols, values, rank, factor, k, draws, out) {
-        return 31;
+        return Err(Refusal::Slice);
     }
-    let number = table_number(
+    table_number(
         MOST_SIGNS,
         MOST_SIGN_ENTRIES,
         MOST_SIGN_MAGNITUDE,
@@ -116,17 +118,14 @@ pub fn rounded_number(
         rows,
         cols,
         values,
-    );
-    if number != 0 {
-        return number;
-    }
+    )?;
     if bad_rank(rank) {
-        return 17;
+        return Err(Refusal::Rank);
     }
     if bad_draws(k) {
-        return 19;
+        return Err(Refusal::Search);
     }
-    0
+    Ok(())
 }
 
 // 31 of `dual_variables`, whose last slices have these lengths.
@@ -151,7 +150,7 @@ fn dual_short(
     too_short(bad_signs(m), m, out)
 }
 
-// The first number of `dual_variables`, or 0.
+// What `dual_variables` refuses first.
 pub fn dual_number(
     m: usize,
     count: usize,
@@ -161,13 +160,13 @@ pub fn dual_number(
     rank: usize,
     factor: usize,
     out: usize,
-) -> u8
-    ensures { result ≡ dual_number m count rows.now cols.now values.now rank factor out }
+) -> Result<(), Refusal>
+    ensures { numbered result ≡ dual_number m count rows.now cols.now values.now rank factor out }
 {
     if dual_short(m, count, rows, cols, values, rank, factor, out) {
-        return 31;
+        return Err(Refusal::Slice);
     }
-    let number = table_number(
+    table_number(
         MOST_SIGNS,
         MOST_SIGN_ENTRIES,
         MOST_SIGN_MAGNITUDE,
@@ -176,14 +175,11 @@ pub fn dual_number(
         rows,
         cols,
         values,
-    );
-    if number != 0 {
-        return number;
-    }
+    )?;
     if bad_rank(rank) {
-        return 17;
+        return Err(Refusal::Rank);
     }
-    0
+    Ok(())
 }
 
 // A rank that is given: 0 stands for one that is refused.
@@ -196,7 +192,7 @@ fn given_rank(rank: usize) -> usize
     rank
 }
 
-// The first number of `dual_variables_divided`, or 0: that of `dual_variables`, but for the rank 0.
+// What `dual_variables_divided` refuses first: what `dual_variables`, but for the rank 0.
 pub fn divided_number(
     m: usize,
     count: usize,
@@ -206,8 +202,8 @@ pub fn divided_number(
     rank: usize,
     factor: usize,
     out: usize,
-) -> u8
-    ensures { result ≡ divided_number m count rows.now cols.now values.now rank factor out }
+) -> Result<(), Refusal>
+    ensures { numbered result ≡ divided_number m count rows.now cols.now values.now rank factor out }
 {
     dual_number(m, count, rows, cols, values, given_rank(rank), factor, out)
 }

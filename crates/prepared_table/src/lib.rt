@@ -1,7 +1,7 @@
 // The table of a call, prepared for the float work (000, `separate_diagonal`).
 #![tactic(auto)]
 
-ghost use Rattle.std.specs.Prelude.{◌≡◌, true, cond, ◌+◌, ◌≤◌, ◌<◌, eqb, nat_abs, length};
+ghost use Rattle.std.specs.Prelude.{◌≡◌, ℕ, true, cond, ◌+◌, ◌≤◌, ◌<◌, eqb, nat_abs, length};
 ghost use Rattle.laws.specs.Lists.{elem, elem_z, over, put_if, next_if, kept};
 ghost use Rattle.ieee.specs.Floats.{eighth_of};
 ghost use Rattle.tables.specs.Table.{table_of, Lent, InRange};
@@ -15,15 +15,7 @@ use tables::check::wide;
 fn found_by(found: bool, i: u16, j: u16, value: i64) -> bool
     ensures { result ≡ cond (set_by (eqb i j) (eqb (nat_abs value) 0)) true found }
 {
-    if i == j {
-        if value < 0 {
-            return true;
-        }
-        if value > 0 {
-            return true;
-        }
-    }
-    found
+    (i == j && value != 0) || found
 }
 
 // Whether the diagonal is set aside: one of its values isn't 0.
@@ -42,16 +34,11 @@ fn sets_aside(count: usize, rows: &[u16], cols: &[u16], values: &[i64]) -> bool
 fn stays(aside: bool, i: u16, j: u16) -> bool
     ensures { result ≡ stays_by aside (eqb i j) }
 {
-    if aside {
-        if i == j {
-            return false;
-        }
-    }
-    true
+    !(aside && i == j)
 }
 
 // `x` at place `at`, if it stays; the place after it.
-fn put_index(out: &mut [u16], at: usize, x: u16, stays: bool) -> usize
+fn put_kept<T: Copy>(out: &mut [T], at: usize, x: T, stays: bool) -> usize
     requires { at < length out.old }
     ensures value { result ≡ next_if stays at }
     ensures out_after { out.new ≡ put_if stays at x out.old }
@@ -63,60 +50,26 @@ fn put_index(out: &mut [u16], at: usize, x: u16, stays: bool) -> usize
     at
 }
 
-// The rows or the columns of the entries that stay, and how many they are.
-fn keep_indices(
+// What `of` makes of the entries that stay, and how many they are.
+fn keep<T: Copy, F: Fn(usize) -> T>(
     count: usize,
     rows: &[u16],
     cols: &[u16],
-    source: &[u16],
     aside: bool,
-    out: &mut [u16],
+    out: &mut [T],
+    of: F,
 ) -> usize
-    requires { (count ≤ length rows.now) × (count ≤ length cols.now) × (count ≤ length source.now) × (count ≤ length out.old) }
-    ensures value { result ≡ length (kept (stays aside (elem rows.now) (elem cols.now)) (elem source.now) count) }
-    ensures out_after { out.new ≡ over (kept (stays aside (elem rows.now) (elem cols.now)) (elem source.now) count) out.old }
+    requires within { (count ≤ length rows.now) × (count ≤ length cols.now) × (count ≤ length out.old) }
+    requires callable { (e : ℕ) → e < count → F.pre of e }
+    ensures { (f : ℕ → T) → ((e : ℕ) (x : T) → e < count → F.post of e x → x ≡ f e)
+        → (result ≡ length (kept (stays aside (elem rows.now) (elem cols.now)) f count))
+        × (out.new ≡ over (kept (stays aside (elem rows.now) (elem cols.now)) f count) out.old) }
 {
     let mut at = 0;
     for e in 0..count {
-        at = put_index(out, at, source[e], stays(aside, rows[e], cols[e]));
+        at = put_kept(out, at, of(e), stays(aside, rows[e], cols[e]));
     }
     at
-}
-
-// `x` at place `at`, if it stays; the place after it.
-fn put_value(out: &mut [f64], at: usize, x: f64, stays: bool) -> usize
-    requires { at < length out.old }
-    ensures value { result ≡ next_if stays at }
-    ensures out_after { out.new ≡ put_if stays at x out.old }
-{
-    if stays {
-        out[at] = x;
-        return at + 1;
-    }
-    at
-}
-
-// The doubles of the entries that stay.
-fn keep_values(
-    count: usize,
-    rows: &[u16],
-    cols: &[u16],
-    values: &[i64],
-    aside: bool,
-    out: &mut [f64],
-)
-    requires { Lent count rows.now cols.now values.now × (count ≤ length out.old) }
-    ensures { out.new ≡ over (kept (stays aside (elem rows.now) (elem cols.now)) (λ e. eighth_of (elem_z values.now e)) count) out.old }
-{
-    let mut at = 0;
-    for e in 0..count {
-        at = put_value(
-            out,
-            at,
-            ieee::eighth(values[e]),
-            stays(aside, rows[e], cols[e]),
-        );
-    }
 }
 
 // The first entry whose row is at least i, looked for from `from` on.
@@ -124,14 +77,12 @@ fn next_start(rows: &[u16], from: usize, i: usize) -> usize
     requires { from ≤ row_start rows.now i }
     ensures { result ≡ row_start rows.now i }
 {
-    let mut e = from;
-    while e < rows.len() {
+    for e in from..rows.len() {
         if wide(rows[e]) >= i {
             return e;
         }
-        e += 1;
     }
-    e
+    rows.len()
 }
 
 // Where each of m rows starts, and where the last ends.
@@ -140,11 +91,9 @@ fn set_starts(rows: &[u16], m: usize, starts: &mut [usize])
     ensures { starts.new ≡ over (starts_of rows.now m) starts.old }
 {
     let mut from = 0;
-    let mut i = 0;
-    while i <= m {
+    for i in 0..m + 1 {
         from = next_start(rows, from, i);
         starts[i] = from;
-        i += 1;
     }
 }
 
@@ -169,9 +118,13 @@ pub fn separate_diagonal(
     ensures starts_after { starts.new ≡ over (work_starts (table_of count rows.now cols.now values.now) m) starts.old }
 {
     let aside = sets_aside(count, rows, cols, values);
-    let stay = keep_indices(count, rows, cols, rows, aside, work_rows);
-    keep_indices(count, rows, cols, cols, aside, work_cols);
-    keep_values(count, rows, cols, values, aside, work_values);
+    let stay = keep(count, rows, cols, aside, work_rows, |e| rows[e]);
+    keep(count, rows, cols, aside, work_cols, |e| cols[e]);
+    let value = |e: usize| -> f64
+        requires { e < length values.now }
+        ensures { result ≡ eighth_of (elem_z values.entry.now e) }
+    { ieee::eighth(values[e]) };
+    keep(count, rows, cols, aside, work_values, value);
     set_starts(&work_rows[..stay], m, starts);
     stay
 }

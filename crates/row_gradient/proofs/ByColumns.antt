@@ -3,8 +3,9 @@
 --     column_next                a column after one more entry
 --     gradient_columns           the definition of the sweep, column by column
 --     whole_block                all columns as one block
+--     at_rank                    what the columns ask, at the rank
 --     first_block                a block at the start of a row
---     one_block, block_and_one, two_ends    a row written as one block, as a block and a column, as two blocks
+--     two_ends                   a row written as two blocks
 -- Assumes nothing.
 use mathlib.Core.Path.{◌≡◌, refl, sym, ◌∙◌}
 use mathlib.Core.Bool.{Bool, true, false}
@@ -20,6 +21,7 @@ use Rattle.laws.specs.Rows.{map_first, row_of}
 use Rattle.laws.specs.Lists.{tabulate, over}
 use Rattle.laws.proofs.Made.{length_tabulate, tabulate_all, tabulate_next, tabulate_ext, tabulate_replicate}
 use Rattle.ieee.specs.Floats.{◌-ᶠ◌, at, zero64}
+use Rattle.factor.specs.Shapes.{ColumnsWithin}
 use Rattle.factor.specs.Vectors.{sub_scaled}
 use Rattle.factor.specs.Columns.{put_block}
 use Rattle.factor.proofs.Written.{entry_made, sums_put, block_next_put}
@@ -84,25 +86,12 @@ pub first_block : (f : ℕ → Float) (width : ℕ) (g : List Float) → put_blo
 unfolding tabulate
 first_block f width g = rw zero-add at (block_next_put f 0 0 width g g (omega arith) (omega arith) refl)
 
--- rows of one block, of a block of 16 and a column, and of two blocks
+-- what the columns ask, where the rank is the length of g
+pub at_rank : (cols : List ℕ) (factor g : List Float) (rank : ℕ) → rank ≡ length g → ColumnsWithin cols (length g) factor → ColumnsWithin cols rank factor
+at_rank cols factor g rank e within = rw e within
+
+-- rows of two blocks
 module _ (cols : List ℕ) (values factor : List Float) (vertex : ℕ) where
-  pub one_block : (rank : ℕ) (g g' : List Float) → length g ≡ rank → g' ≡ put_block rank 0 (block_to cols values factor vertex rank 0 rank (length cols)) g
-      → g' ≡ gradient_of cols values factor vertex rank
-  one_block rank g g' l e =
-      e
-      ∙ first_block (column_of cols values factor vertex rank) rank g
-      ∙ tabulate_all (column_of cols values factor vertex rank) rank g l
-      ∙ sym (gradient_columns cols values factor vertex rank)
-
-  pub block_and_one : (e : ℕ) (g g' low : List Float) (x : Float) → length g ≡ 17 → e ≡ length cols → low ≡ block_to cols values factor vertex 17 0 16 e
-      → x ≡ column_to cols values factor vertex 17 16 e → g' ≡ put_block 16 0 (map_first (λ j old. at low j) 16 (take 16 (drop 0 g))) g
-      → set g' 16 x ≡ gradient_of cols values factor vertex 17
-  block_and_one e g g' low x l q s h k =
-      let f : ℕ → Float = column_of cols values factor vertex 17 in
-      rw (h, q) (tabulate_next f 16 g g' nan (omega arith) (sums_put (λ j. f (0 + j)) 16 0 g g' low (omega arith) (rw q at s) k ∙ first_block f 16 g))
-      ∙ tabulate_all f 17 g l
-      ∙ sym (gradient_columns cols values factor vertex 17)
-
   -- the sums of the first columns and of the last ones, which together are all
   pub two_ends : (rank a b second e : ℕ) (g g' g'' low high : List Float) → length g ≡ rank → length g' ≡ length g → second + b ≡ rank → second ≤ a → a ≤ rank
       → e ≡ length cols → low ≡ block_to cols values factor vertex rank 0 a e → high ≡ block_to cols values factor vertex rank second b e

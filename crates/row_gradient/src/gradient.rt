@@ -6,26 +6,11 @@ ghost use Rattle.factor.specs.Shapes.{ColumnsWithin};
 ghost use Rattle.row_gradient.specs.Columns.{column_of};
 ghost use Rattle.row_gradient.specs.Gradient.{gradient_of};
 
+use super::block::put_block;
 use super::columns::{column, put_columns};
 
-// As many whole blocks of 16 columns as there are; how many columns they are.
-fn put_blocks16(cols: &[u16], values: &[f64], factor: &[f64], vertex: usize, g: &mut [f64]) -> usize
-    requires cols_len { length cols.now ≡ length values.now }
-    requires columns_within { ColumnsWithin cols.now (length g.old) factor.now }
-    ensures { (result ≤ length g.old) × (g.new ≡ over
-        (tabulate (column_of cols.now values.now factor.now vertex (length g.old)) result) g.old) }
-{
-    let rank = g.len();
-    let mut offset = 0;
-    while rank - offset >= 16 {
-        super::block16::put_block(cols, values, factor, vertex, rank, offset, g);
-        offset += 16;
-    }
-    offset
-}
-
-// As many whole blocks of 4 columns as there are from `first` on; the first column that is left.
-fn put_blocks4(
+// As many whole blocks of N columns as there are from `first` on; the first column that is left.
+fn put_blocks<const N: usize>(
     cols: &[u16],
     values: &[f64],
     factor: &[f64],
@@ -33,17 +18,18 @@ fn put_blocks4(
     first: usize,
     g: &mut [f64],
 ) -> usize
+    requires n_positive { 0 < N }
     requires first_in_bounds { (first ≤ length g.old) × (length cols.now ≡ length values.now) }
     requires columns_within { ColumnsWithin cols.now (length g.old) factor.now }
     requires g_value { take first g.old ≡ tabulate (column_of cols.now values.now factor.now vertex (length g.old)) first }
-    ensures { (result ≤ length g.old) × (length g.old < result + 4)
+    ensures { (result ≤ length g.old) × (length g.old < result + N)
         × (g.new ≡ over (tabulate (column_of cols.now values.now factor.now vertex (length g.old)) result) g.old) }
 {
     let rank = g.len();
     let mut offset = first;
-    while rank - offset >= 4 {
-        super::block4::put_block(cols, values, factor, vertex, rank, offset, g);
-        offset += 4;
+    while rank - offset >= N {
+        put_block::<N>(cols, values, factor, vertex, rank, offset, g);
+        offset += N;
     }
     offset
 }
@@ -71,7 +57,7 @@ fn put_rest(
         g[first] = column(cols, values, factor, vertex, rank, first);
         return;
     }
-    super::block4::put_block(cols, values, factor, vertex, rank, rank - 4, g);
+    put_block::<4>(cols, values, factor, vertex, rank, rank - 4, g);
 }
 
 // The negated gradient of row `vertex` without its diagonal, at any rank.
@@ -83,8 +69,8 @@ pub fn gradient_blocks(cols: &[u16], values: &[f64], factor: &[f64], vertex: usi
     if g.len() < 4 {
         put_columns(cols, values, factor, vertex, g);
     } else {
-        let whole = put_blocks16(cols, values, factor, vertex, g);
-        let first = put_blocks4(cols, values, factor, vertex, whole, g);
+        let whole = put_blocks::<16>(cols, values, factor, vertex, 0, g);
+        let first = put_blocks::<4>(cols, values, factor, vertex, whole, g);
         put_rest(cols, values, factor, vertex, first, g);
     }
 }

@@ -6,18 +6,8 @@ ghost use Rattle.factor.specs.Shapes.{ColumnsWithin};
 ghost use Rattle.row_gradient.specs.Columns.{block_to};
 ghost use Rattle.row_gradient.specs.Gradient.{gradient_of};
 
-use super::block4::subtract_entry;
-use factor::block4::copy;
-
-// The lesser of two counts.
-fn lesser(a: usize, b: usize) -> usize
-    ensures { (result ≤ a) × (result ≤ b) }
-{
-    if a < b {
-        return a;
-    }
-    b
-}
+use super::block::subtract_entry;
+use factor::block::copy;
 
 // The 4 sums of row `vertex` less the entries from `first` on.
 fn subtract_rest(
@@ -58,7 +48,7 @@ pub fn gradients(
     ensures h_after { h.new ≡ gradient_of others.now weights.now factor.now (vertex + 1) 4 }
 {
     let next = vertex + 1;
-    let both = lesser(cols.len(), others.len());
+    let both = cols.len().min(others.len());
     let mut a = [0.0; 4];
     let mut b = [0.0; 4];
     for e in 0..both {

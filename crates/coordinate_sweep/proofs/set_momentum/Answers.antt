@@ -1,21 +1,10 @@
--- `coordinate_sweep::set_momentum` meets its contract. The first j elements are rewritten. Assumes nothing.
-use mathlib.Core.Path.{◌≡◌}
-use native.Mathlib.Omega.{arith}
+-- `coordinate_sweep::set_momentum` meets its contract. By what its callee ensures of each element. Assumes nothing.
 use borrow.Author.Rules.{rules}
-use lib.Ieee.{nan}
-use lib.ListN.{length, length-set}
-use Rattle.laws.proofs.MapFirst.{map_first_next}
-use Rattle.laws.specs.Rows.{map_first}
+use Rattle.ieee.specs.Floats.{◌+ᶠ◌, ◌-ᶠ◌, ◌*ᶠ◌, at, one64}
+use Rattle.factor.proofs.Updates.{updated_is}
 use Rattle.coordinate_sweep.specs.Sweep.{momentum_row}
 use Rattle.coordinate_sweep.proofs.set_momentum.Goals as goal
 
-pub loop-j-init : goal.loop-j-init
-unfolding map_first
-loop-j-init c = search rules
-
-pub loop-j-preserved : goal.loop-j-preserved
-loop-j-preserved c = (omega arith, simp length-set (omega arith), map_first_next _ _ _ _ nan c.loop-j.invariant.2)
-
 pub returns : goal.returns
 unfolding momentum_row
-returns c = let e : c.loop-j.j ≡ length c.args.row.now = omega arith in cc
+returns c = updated_is (λ j old. (one64 +ᶠ c.args.beta) *ᶠ (at c.args.g.now j *ᶠ c.args.inv) -ᶠ c.args.beta *ᶠ old) _ _ (c.update_with.ensures.0, λ j h. let is = c.update_with.ensures.1 j h in search rules)

@@ -1,14 +1,20 @@
 -- `row_gradient::gradient::gradient_blocks` meets its contract. By what its callees ensure. Assumes nothing.
+use mathlib.Core.Path.{refl}
 use native.Mathlib.Omega.{arith}
 use lib.Seq.{take_at}
+use Rattle.laws.specs.Lists.{tabulate}
 use Rattle.laws.proofs.Made.{length_tabulate}
 use Rattle.row_gradient.proofs.gradient.gradient_blocks.Goals as goal
 
-pub put_blocks4-first-requires : goal.put_blocks4-first-requires
-put_blocks4-first-requires c = record { first_in_bounds = (omega (arith, c.put_blocks16-whole.auto.g, c.put_blocks16-whole.ensures.0), c.requires.cols_len); columns_within = rw c.put_blocks16-whole.auto.g c.requires.columns_within; g_value = rw (c.put_blocks16-whole.auto.g, c.put_blocks16-whole.ensures.1) (take_at _ _ _ (length_tabulate _ _)) }
+pub put_blocks-whole-requires : goal.put_blocks-whole-requires
+unfolding tabulate
+put_blocks-whole-requires c = record { n_positive = omega arith; first_in_bounds = (omega arith, c.requires.cols_len); columns_within = c.requires.columns_within; g_value = refl }
+
+pub put_blocks-first-requires : goal.put_blocks-first-requires
+put_blocks-first-requires c = record { n_positive = omega arith; first_in_bounds = (omega (arith, c.put_blocks-whole.auto.g, c.put_blocks-whole.ensures.0), c.requires.cols_len); columns_within = rw c.put_blocks-whole.auto.g c.requires.columns_within; g_value = rw (c.put_blocks-whole.auto.g, c.put_blocks-whole.ensures.2) (take_at _ _ _ (length_tabulate _ _)) }
 
 pub put_rest-requires : goal.put_rest-requires
-put_rest-requires c = record { in_bounds = (omega (arith, c.put_blocks4-first.auto.g, c.put_blocks16-whole.auto.g, c.if-g-lt4.false), omega (arith, c.put_blocks4-first.auto.g, c.put_blocks4-first.ensures.0), omega (arith, c.put_blocks4-first.auto.g, c.put_blocks4-first.ensures.1), c.requires.cols_len); columns_within = rw (c.put_blocks4-first.auto.g, c.put_blocks16-whole.auto.g) c.requires.columns_within; g_value = rw (c.put_blocks4-first.auto.g, c.put_blocks4-first.ensures.2) (take_at _ _ _ (length_tabulate _ _)) }
+put_rest-requires c = record { in_bounds = (omega (arith, c.put_blocks-first.auto.g, c.put_blocks-whole.auto.g, c.if-g-lt4.false), omega (arith, c.put_blocks-first.auto.g, c.put_blocks-first.ensures.0), omega (arith, c.put_blocks-first.auto.g, c.put_blocks-first.ensures.1), c.requires.cols_len); columns_within = rw (c.put_blocks-first.auto.g, c.put_blocks-whole.auto.g) c.requires.columns_within; g_value = rw (c.put_blocks-first.auto.g, c.put_blocks-first.ensures.2) (take_at _ _ _ (length_tabulate _ _)) }
 
 pub returns-else-g-lt4 : goal.returns-else-g-lt4
-returns-else-g-lt4 c = rw (c.put_blocks4-first.auto.g, c.put_blocks16-whole.auto.g) at c.put_rest.ensures
+returns-else-g-lt4 c = rw (c.put_blocks-first.auto.g, c.put_blocks-whole.auto.g) at c.put_rest.ensures

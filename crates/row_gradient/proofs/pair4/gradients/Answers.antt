@@ -32,16 +32,10 @@ pub loop-e-preserved : goal.loop-e-preserved
 loop-e-preserved c = (omega arith, c.subtract_entry.ensures ∙ (rw add-zero at (block_next _ _ _ _ _ 0 4 _ _ c.loop-e.invariant.1)), c.subtract_entry-in-loop-e.ensures ∙ (rw add-zero at (block_next _ _ _ _ _ 0 4 _ _ c.loop-e.invariant.2)))
 
 pub subtract_rest-requires : goal.subtract_rest-requires
-subtract_rest-requires c = let E : c.loop-e.e ≡ c.lesser-both.result = omega arith in record { first_in_bounds = (c.lesser-both.ensures.0, c.requires.g_len.2); columns_within = c.requires.columns_within; sums_value = (rw E at c.loop-e.invariant.1) }
+subtract_rest-requires c = let E : c.loop-e.e ≡ c.min-both.result = omega arith in record { first_in_bounds = (omega arith, c.requires.g_len.2); columns_within = c.requires.columns_within; sums_value = (rw E at c.loop-e.invariant.1) }
 
 pub subtract_rest-requires-2 : goal.subtract_rest-requires-2
-subtract_rest-requires-2 c = let E : c.loop-e.e ≡ c.lesser-both.result = omega arith in record { first_in_bounds = (c.lesser-both.ensures.1, c.requires.g_len.3); columns_within = c.requires.columns_within_2; sums_value = (rw E at c.loop-e.invariant.2) }
-
-pub copy-requires : goal.copy-requires
-copy-requires c = c.requires.g_len.0
-
-pub copy-requires-2 : goal.copy-requires-2
-copy-requires-2 c = c.requires.g_len.1
+subtract_rest-requires-2 c = let E : c.loop-e.e ≡ c.min-both.result = omega arith in record { first_in_bounds = (omega arith, c.requires.g_len.3); columns_within = c.requires.columns_within_2; sums_value = (rw E at c.loop-e.invariant.2) }
 
 pub returns : goal.returns
 returns c = record { g_after = c.copy.ensures ∙ block_copied _ 4 _ _ c.requires.g_len.0 c.subtract_rest.ensures ∙ whole_block _ _ _ _ 4; h_after = c.copy-2.ensures ∙ block_copied _ 4 _ _ c.requires.g_len.1 c.subtract_rest-2.ensures ∙ whole_block _ _ _ _ 4 }

@@ -1,0 +1,18 @@
+-- `row_gradient::block::subtract` meets its contract. The first j sums are rewritten. Assumes nothing.
+use mathlib.Core.Path.{◌≡◌}
+use native.Mathlib.Omega.{arith}
+use borrow.Author.Rules.{rules}
+use lib.Ieee.{nan}
+use Rattle.laws.proofs.MapFirst.{map_first_next}
+use Rattle.laws.specs.Rows.{map_first}
+use Rattle.row_gradient.proofs.block.subtract.Goals as goal
+
+pub loop-j-init : goal.loop-j-init
+unfolding map_first
+loop-j-init g c = search rules
+
+pub loop-j-preserved : goal.loop-j-preserved
+loop-j-preserved g c = (omega arith, map_first_next _ _ _ _ nan c.loop-j.invariant.1)
+
+pub returns : goal.returns
+returns g c = let e : c.loop-j.j ≡ g.row.N = omega arith in rw e at c.loop-j.invariant.1
