@@ -9,11 +9,11 @@ use Rattle.run_record.specs.CostTable.{CostTable}
 use Rattle.run_contract.specs.declared.FinishResult.{FinishResult}
 use Rattle.run_contract.specs.Calls.{Opens, Sweeps, Finishes}
 use Rattle.exports.specs.Words.{run_words, setting_words, result_words, run_in, settings_in}
-use Rattle.exports.specs.Answers.{opened_by, finished_by, OpensWords, SweepsWords, FinishesWords}
+use Rattle.exports.specs.Answers.{by_number, OpensWords, SweepsWords, FinishesWords}
 
 module _ {t : CostTable} {settings : List ℕ} {numbers factor : List Float} {words : List ℕ} {number : ℕ} {factor' : List Float} {words' : List ℕ}
     (says : OpensWords t settings numbers factor words number factor' words') where
-  pub open_enough : setting_words ≤ length settings → run_words ≤ length words → Opens (settings_in t settings numbers) factor (opened_by number (run_in words')) factor'
+  pub open_enough : setting_words ≤ length settings → run_words ≤ length words → Opens (settings_in t settings numbers) factor (by_number number (run_in words')) factor'
   open_enough s w = (says.opens s w).0
 
   pub open_short_settings : length settings < setting_words → number ≡ 31
@@ -34,7 +34,7 @@ module _ {words : List ℕ} {t : CostTable} {width draw_count : ℕ} {draws fact
     {b' : List ℕ} {dual' : List Float} {workspace' result' : List ℕ}
     (says : FinishesWords words t width draw_count draws factor b dual workspace result number b' dual' workspace' result') where
   pub finish_enough : run_words ≤ length words → result_words ≤ length result
-      → (x : FinishResult) × Finishes (run_in words) t width draw_count draws factor b dual workspace (finished_by number x) b' dual' workspace'
+      → (x : FinishResult) × Finishes (run_in words) t width draw_count draws factor b dual workspace (by_number number x) b' dual' workspace'
   finish_enough w r = ((says.finishes w r).0, (says.finishes w r).1)
 
   pub finish_short_words : length words < run_words → number ≡ 31

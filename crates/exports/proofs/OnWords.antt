@@ -11,13 +11,13 @@ use lib.Seq.{take_at}
 use Rattle.run_record.specs.declared.Run.{Run}
 use Rattle.run_record.specs.CostTable.{CostTable}
 use Rattle.run_contract.specs.declared.FinishResult.{FinishResult}
-use Rattle.run_contract.specs.Calls.{Sweeps, used, Finishes, finished_number, Exchanges}
+use Rattle.run_contract.specs.Calls.{Sweeps, used, Finishes, answer_number, Exchanges}
 use Rattle.run_contract.specs.PlainRun.{Call, plain_open, Seen, plain_trace}
 use Rattle.run_contract.specs.Chain as chain
 use Rattle.run_contract.specs.Chain.{kept_after, seen_of, given_of, Chain}
 use Rattle.run_contract.proofs.OnLists.{plain_run}
 use Rattle.exports.specs.Words.{run_words, setting_words, result_words, run_in, words_of, settings_in, result_words_of}
-use Rattle.exports.specs.Answers.{finished_by, words_after, OpensWords, SweepsWords}
+use Rattle.exports.specs.Answers.{by_number, words_after, OpensWords, SweepsWords}
 use Rattle.exports.specs.Exchange.{ExchangesWords}
 use Rattle.exports.specs.WordChain.{GivenWords, SeenWords, words_seen, words_given, given_in_words, in_words, Holds, WordChain, ends, sweeps, finishes, exchanges}
 
@@ -69,13 +69,13 @@ length_result x = refl
 
 -- what its slices show is what its answer gives
 given_is : (number : ℕ) (x : FinishResult) (n : ℕ) (b' : List ℕ) (dual' : List Float) (result : List ℕ) {result' : List ℕ} → result' ≡ words_after number (result_words_of x) result
-    → words_given number n b' dual' result' ≡ given_in_words (given_of (finished_by number x) n b' dual')
+    → words_given number n b' dual' result' ≡ given_in_words (given_of (by_number number x) n b' dual')
 given_is zero x n b' dual' result {result'} e =
     ap (λ (w : List ℕ). some (record { result = w; b = take n b'; dual = take (suc n) dual' }))
     (ap (take result_words) e ∙ take_at (result_words_of x) (drop (length (result_words_of x)) result) result_words (length_result x))
 given_is (suc number) x n b' dual' result e = refl
 
-number_is : (number : ℕ) (x : FinishResult) → finished_number (finished_by number x) ≡ number
+number_is : (number : ℕ) (x : FinishResult) → answer_number (by_number number x) ≡ number
 number_is zero x = refl
 number_is (suc number) x = refl
 
@@ -96,14 +96,14 @@ join (sweeps {kept = kept} {call = call} words factor number words' factor' hold
 join (finishes {run = run} {kept = kept} {call = call} {seen = seen} words factor b dual workspace result number b' dual' workspace' result' holds lends sized long says rest) =
     let gave = says.finishes holds.enough long in
     let x = gave.0 in
-    let answer = finished_by number x in
+    let answer = by_number number x in
     let says' = subst (λ (h : Run). Finishes h call.table call.width call.draw_count call.draws factor b dual workspace answer b' dual' workspace') holds.held gave.1 in
     let more = join rest in (
-      seen_of (finished_number answer) (given_of answer call.table.n b' dual') run kept ∷ more.0,
+      seen_of (answer_number answer) (given_of answer call.table.n b' dual') run kept ∷ more.0,
       chain.finishes factor b dual workspace answer b' dual' workspace' lends sized says' more.1,
       ap (λ (m : ℕ). words_seen m (words_given number call.table.n b' dual' result') run kept ∷ seen) (sym (number_is number x))
-          ∙ ap (λ (g : Option GivenWords). words_seen (finished_number answer) g run kept ∷ seen) (given_is number x call.table.n b' dual' result gave.2)
-          ∙ ap (λ (s : List SeenWords). words_seen (finished_number answer) (given_in_words (given_of answer call.table.n b' dual')) run kept ∷ s) more.2,
+          ∙ ap (λ (g : Option GivenWords). words_seen (answer_number answer) g run kept ∷ seen) (given_is number x call.table.n b' dual' result gave.2)
+          ∙ ap (λ (s : List SeenWords). words_seen (answer_number answer) (given_in_words (given_of answer call.table.n b' dual')) run kept ∷ s) more.2,
     )
 join (exchanges {kept = kept} {call = call} words rule number words' holds byte says rest) =
     let asked = subst (λ (k : ℕ). Exchanges (run_in words) k call.number number (run_in words')) byte (says.exchanges holds.enough).0 in

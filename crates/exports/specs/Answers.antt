@@ -2,10 +2,6 @@
 -- made of the number and of what is lent for the value.
 use Rattle.std.specs.Prelude.{ℕ, zero, suc, ◌≤◌, ◌<◌, ◌≡◌, List, ℤ, Float, length, Result, Ok, Err}
 use Rattle.laws.specs.Lists.{over}
-use Rattle.sdp_local_search.specs.declared.BeamSearched.{BeamSearched}
-use Rattle.sdp_local_search.specs.declared.BeamSearched.TheVariants as S
-use Rattle.limited_search.specs.declared.Limited.{Limited}
-use Rattle.limited_search.specs.declared.Limited.TheVariants as L
 use Rattle.run_record.specs.declared.Run.{Run}
 use Rattle.run_record.specs.CostTable.{CostTable}
 use Rattle.run_contract.specs.declared.FinishResult.{FinishResult}
@@ -17,14 +13,6 @@ use Rattle.exports.specs.Words.{run_words, setting_words, result_words, run_in, 
 abbrev pub by_number : {A : Type 0} → ℕ → A → Result A ℕ
 by_number zero value = Ok value
 by_number (suc k) value = Err (suc k)
-
-abbrev pub searched_by : ℕ → ℤ → ℕ → BeamSearched
-searched_by zero objective rounds = S.Found objective rounds
-searched_by (suc k) objective rounds = S.Refused (suc k)
-
-abbrev pub limited_by : ℕ → ℤ → ℕ → Limited
-limited_by zero cost rounds = L.Found cost rounds
-limited_by (suc k) cost rounds = L.Refused (suc k)
 
 -- a refusal leaves what is lent for a value
 abbrev pub Stays : {A : Type 0} → ℕ → A → A → Type 0

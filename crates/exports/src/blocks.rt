@@ -2,6 +2,7 @@
 ghost use Rattle.block_search.specs.Call.{BlockSearches};
 
 use block_search::block_search;
+use refusal::number_in;
 
 #[unsafe(no_mangle)]
 pub extern "C" fn wagonplan_raw_block_search(
@@ -25,7 +26,7 @@ pub extern "C" fn wagonplan_raw_block_search(
         present.now block_sizes.now block_wagons.now width choice.old falls.old workspace.old
         choice.new falls.new workspace.new result }
 {
-    block_search(
+    number_in(block_search(
         n,
         count,
         rows,
@@ -41,5 +42,5 @@ pub extern "C" fn wagonplan_raw_block_search(
         choice,
         falls,
         workspace,
-    )
+    ))
 }

@@ -1,8 +1,8 @@
 // At most k wagons moved.
 ghost use Rattle.limited_search.specs.Call.{LimitedSearches};
-ghost use Rattle.exports.specs.Answers.{limited_by, Stays};
+ghost use Rattle.exports.specs.Answers.{by_number, Stays};
 
-use limited_search::{Limited, limited_search};
+use limited_search::limited_search;
 
 #[unsafe(no_mangle)]
 pub extern "C" fn wagonplan_raw_limited_search(
@@ -21,18 +21,17 @@ pub extern "C" fn wagonplan_raw_limited_search(
     rounds: &mut u64,
 ) -> u8
     ensures limited_searches { LimitedSearches n count rows.now cols.now values.now c.now present.now k width choice.old workspace.old
-        choice.new workspace.new (limited_by result cost.new rounds.new) }
+        choice.new workspace.new (by_number result (cost.new, rounds.new)) }
     ensures stays { Stays result cost.old cost.new × Stays result rounds.old rounds.new }
 {
-    let found = limited_search(
+    match limited_search(
         n, count, rows, cols, values, c, present, k, width, choice, workspace,
-    );
-    match found {
-        Limited::Found(least, made) => {
+    ) {
+        Ok((least, made)) => {
             *cost = least;
             *rounds = made;
             0
         }
-        Limited::Refused(number) => number,
+        Err(refusal) => refusal.number(),
     }
 }

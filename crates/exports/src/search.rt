@@ -1,9 +1,9 @@
 // The search.
 ghost use Rattle.sdp_local_search.specs.BeamSearch.{base_limits};
 ghost use Rattle.sdp_local_search.specs.Call.{BeamSearches};
-ghost use Rattle.exports.specs.Answers.{searched_by, Stays};
+ghost use Rattle.exports.specs.Answers.{by_number, Stays};
 
-use sdp_local_search::{BeamSearched, beam_search};
+use sdp_local_search::beam_search;
 
 #[unsafe(no_mangle)]
 pub extern "C" fn wagonplan_raw_beam_search(
@@ -20,16 +20,15 @@ pub extern "C" fn wagonplan_raw_beam_search(
     rounds: &mut u64,
 ) -> u8
     ensures beam_searches { BeamSearches base_limits m count rows.now cols.now values.now width start.now out.old workspace.old
-        out.new workspace.new (searched_by result objective.new rounds.new) }
+        out.new workspace.new (by_number result (record { least = objective.new; rounds = rounds.new })) }
     ensures stays { Stays result objective.old objective.new × Stays result rounds.old rounds.new }
 {
-    let found = beam_search(m, count, rows, cols, values, width, start, out, workspace);
-    match found {
-        BeamSearched::Found(least, made) => {
-            *objective = least;
-            *rounds = made;
+    match beam_search(m, count, rows, cols, values, width, start, out, workspace) {
+        Ok(found) => {
+            *objective = found.least;
+            *rounds = found.rounds;
             0
         }
-        BeamSearched::Refused(k) => k,
+        Err(refusal) => refusal.number(),
     }
 }

@@ -9,8 +9,8 @@ returns-then-words-lt-RUN_WORDS c = ranged_short_lem (λ l m. omega (arith, l, c
 pub returns-then-res-lt-RANGED_WORDS : goal.returns-then-res-lt-RANGED_WORDS
 returns-then-res-lt-RANGED_WORDS c = ranged_short_lem (λ l m. omega (arith, m, c.if-res-lt-RANGED_WORDS.true))
 
-pub returns-in-Result : goal.returns-in-Result
-returns-in-Result c = ranged_given 0 _ c.if-words-lt-RUN_WORDS.false c.if-res-lt-RANGED_WORDS.false (rw c.run_in-run.ensures at c.in-Result.ensures) c.put_ranged.ensures
+pub returns-in-Ok : goal.returns-in-Ok
+returns-in-Ok c = ranged_given 0 _ c.if-words-lt-RUN_WORDS.false c.if-res-lt-RANGED_WORDS.false (rw c.run_in-run.ensures at c.in-Ok.ensures) c.put_ranged.ensures
 
-pub returns-in-Refused : goal.returns-in-Refused
-returns-in-Refused c = ranged_left _ c.if-words-lt-RUN_WORDS.false c.if-res-lt-RANGED_WORDS.false (rw c.run_in-run.ensures at c.in-Refused.ensures)
+pub returns-in-Err : goal.returns-in-Err
+returns-in-Err c = ranged_left _ c.if-words-lt-RUN_WORDS.false c.if-res-lt-RANGED_WORDS.false (rw c.run_in-run.ensures at c.in-Err.ensures)

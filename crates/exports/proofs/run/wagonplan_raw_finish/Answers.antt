@@ -9,8 +9,8 @@ returns-then-words-lt-RUN_WORDS c = finish_short_lem (λ l m. omega (arith, l, c
 pub returns-then-res-lt-RESULT_WORDS : goal.returns-then-res-lt-RESULT_WORDS
 returns-then-res-lt-RESULT_WORDS c = finish_short_lem (λ l m. omega (arith, m, c.if-res-lt-RESULT_WORDS.true))
 
-pub returns-in-Result : goal.returns-in-Result
-returns-in-Result c = finish_made _ c.if-words-lt-RUN_WORDS.false c.if-res-lt-RESULT_WORDS.false (rw c.run_in-run.ensures at c.in-Result.ensures) c.put_result.ensures
+pub returns-in-Ok : goal.returns-in-Ok
+returns-in-Ok c = finish_made _ c.if-words-lt-RUN_WORDS.false c.if-res-lt-RESULT_WORDS.false (rw c.run_in-run.ensures at c.in-Ok.ensures) c.put_result.ensures
 
-pub returns-in-Refused : goal.returns-in-Refused
-returns-in-Refused c = finish_left _ c.if-words-lt-RUN_WORDS.false c.if-res-lt-RESULT_WORDS.false (rw c.run_in-run.ensures at c.in-Refused.ensures)
+pub returns-in-Err : goal.returns-in-Err
+returns-in-Err c = finish_left _ c.if-words-lt-RUN_WORDS.false c.if-res-lt-RESULT_WORDS.false (rw c.run_in-run.ensures at c.in-Err.ensures)

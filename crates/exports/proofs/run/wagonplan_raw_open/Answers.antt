@@ -13,10 +13,10 @@ returns-then-words-lt-RUN_WORDS c = open_short_lem (λ l m. omega (arith, m, c.i
 pub put_run-requires : goal.put_run-requires
 put_run-requires c = c.if-words-lt-RUN_WORDS.false
 
-pub returns-in-Started : goal.returns-in-Started
+pub returns-in-Ok : goal.returns-in-Ok
 unfolding settings_in
-returns-in-Started c = open_made _ c.if-settings-lt-SETTING_WORDS.false c.if-words-lt-RUN_WORDS.false (rw (c.byte_in.ensures, c.double_of.ensures, c.count_in.ensures, c.count_in-2.ensures, c.double_of-2.ensures, c.double_of-3.ensures, c.byte_in-2.ensures) at c.in-Started.ensures) c.put_run.ensures.0 c.put_run.ensures.1
+returns-in-Ok c = open_made _ c.if-settings-lt-SETTING_WORDS.false c.if-words-lt-RUN_WORDS.false (rw (c.byte_in.ensures, c.double_of.ensures, c.count_in.ensures, c.count_in-2.ensures, c.double_of-2.ensures, c.double_of-3.ensures, c.byte_in-2.ensures) at c.in-Ok.ensures) c.put_run.ensures.0 c.put_run.ensures.1
 
-pub returns-in-Refused : goal.returns-in-Refused
+pub returns-in-Err : goal.returns-in-Err
 unfolding settings_in
-returns-in-Refused c = open_left _ c.if-settings-lt-SETTING_WORDS.false c.if-words-lt-RUN_WORDS.false (rw (c.byte_in.ensures, c.double_of.ensures, c.count_in.ensures, c.count_in-2.ensures, c.double_of-2.ensures, c.double_of-3.ensures, c.byte_in-2.ensures) at c.in-Refused.ensures)
+returns-in-Err c = open_left _ c.if-settings-lt-SETTING_WORDS.false c.if-words-lt-RUN_WORDS.false (rw (c.byte_in.ensures, c.double_of.ensures, c.count_in.ensures, c.count_in-2.ensures, c.double_of-2.ensures, c.double_of-3.ensures, c.byte_in-2.ensures) at c.in-Err.ensures)
