@@ -147,23 +147,11 @@ pub fn compute_rounded_sol(
     let mut least = evaluate_draw(
         count, rows, cols, values, factor, rank, m, draws, 0, direction, best,
     );
-    let mut k = 0;
-    while k + 1 < draw_count {
+    for k in 1..draw_count {
         let objective = evaluate_draw(
-            count,
-            rows,
-            cols,
-            values,
-            factor,
-            rank,
-            m,
-            draws,
-            k + 1,
-            direction,
-            signs,
+            count, rows, cols, values, factor, rank, m, draws, k, direction, signs,
         );
         least = keep_better(least, best, objective, signs);
-        k += 1;
     }
     least
 }
