@@ -20,10 +20,7 @@ use tables::objective::obj_rounded;
 fn sign_byte(product: f64) -> u8
     ensures { result ≡ plus_byte (Ieee.lt zero64 product) }
 {
-    if product > 0.0 {
-        return 0;
-    }
-    1
+    if product > 0.0 { 0 } else { 1 }
 }
 
 // The signs of the rows' products with the direction.
