@@ -1,4 +1,5 @@
-// Arrays for the sign table, for what is made of it and for the signs, of which the first places are used: every place holds 0.
+// Arrays for the sign table, for what is made of it and for the signs, of which the first places are used: every place holds 0. They stay
+// functions of their own: one generic function would be `[zero; N]` itself, and each caller would have to say type and size again.
 ghost use Rattle.std.specs.Prelude.{◌≡◌, ◌+◌, pos, length, replicate};
 ghost use Rattle.ieee.specs.Floats.{zero64};
 ghost use Rattle.limits.specs.Limits.{most_signs, most_sign_entries, most_rank, most_factor};

@@ -6,7 +6,7 @@ use mathlib.Core.Path.{◌≡◌, refl, sym, ap, ◌∙◌}
 use mathlib.Core.Bool.{Bool, true, false, cond}
 use mathlib.Core.List.{List, ◌++◌}
 use mathlib.Core.Logic.{◌⊎◌, inl, inr}
-use Prim.Native.Nat.{ℕ, zero, suc, ◌+◌, ◌*◌, ◌≤◌, ◌<◌}
+use Prim.Native.Nat.{ℕ, zero, suc, ◌+◌, ◌-◌, ◌*◌, ◌≤◌, ◌<◌}
 use native.Mathlib.Nat.{eq-or-lt_of_le, zero-mul, suc-mul}
 use native.Mathlib.Numerals.{add-one}
 use native.Mathlib.Omega.{arith}
@@ -20,6 +20,7 @@ use Rattle.laws.proofs.Made.{length_tabulate}
 use Rattle.laws.proofs.Integer.{integers, lt_z_true, lt_z_false}
 use Rattle.factor.specs.Vectors.{unit}
 use Rattle.local_search.specs.Level.{below}
+use Rattle.local_search.proofs.Better.{better_kept}
 use Rattle.local_search.specs.Children.{parent_of, better}
 use Rattle.rounding.specs.Rounding.{rounded_sign, draw_signs, signs_of, rounded_sols, first_least}
 
@@ -31,6 +32,15 @@ pub least_next : (f : ℕ → ℤ) (g : ℕ → List ℕ) (k : ℕ) (least : ℤ
     → better (parent_of least best) (parent_of (f (k + 1)) (g (k + 1))) ≡ parent_of (f (first_least f (k + 1))) (g (first_least f (k + 1)))
 unfolding first_least below
 least_next f g k least best e h = rw (add-one, e, h) (pick (λ (j : ℕ). parent_of (f j) (g j)) (lt_z (f (suc k)) (f (first_least f k))) (suc k) (first_least f k))
+
+-- the same of the turn that comes to draw k, whose objective and row these are, by what `keep_better` keeps
+pub least_step : (f : ℕ → ℤ) (g : ℕ → List ℕ) (k : ℕ) {least objective r : ℤ} {best row kept : List ℕ} → 1 ≤ k → least ≡ f (first_least f (k - 1)) → best ≡ g (first_least f (k - 1))
+    → objective ≡ f k → row ≡ g k → r ≡ cond (lt_z objective least) objective least → kept ≡ cond (lt_z objective least) row best
+    → parent_of r kept ≡ parent_of (f (first_least f k)) (g (first_least f k))
+least_step f g k {least = least} {objective = objective} {best = best} {row = row} p e h o w r q =
+    let back : k - 1 + 1 ≡ k = omega arith in
+    let turn = least_next f g (k - 1) least best e h in
+    better_kept least objective best row r q ∙ rw (o, w) (rw back at turn)
 
 -- what it is
 module _ (f : ℕ → ℤ) where

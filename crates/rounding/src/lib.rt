@@ -20,10 +20,7 @@ use tables::objective::obj_rounded;
 fn sign_byte(product: f64) -> u8
     ensures { result ≡ plus_byte (Ieee.lt zero64 product) }
 {
-    if product > 0.0 {
-        return 0;
-    }
-    1
+    if product > 0.0 { 0 } else { 1 }
 }
 
 // The signs of the rows' products with the direction.
@@ -147,23 +144,11 @@ pub fn compute_rounded_sol(
     let mut least = evaluate_draw(
         count, rows, cols, values, factor, rank, m, draws, 0, direction, best,
     );
-    let mut k = 0;
-    while k + 1 < draw_count {
+    for k in 1..draw_count {
         let objective = evaluate_draw(
-            count,
-            rows,
-            cols,
-            values,
-            factor,
-            rank,
-            m,
-            draws,
-            k + 1,
-            direction,
-            signs,
+            count, rows, cols, values, factor, rank, m, draws, k, direction, signs,
         );
         least = keep_better(least, best, objective, signs);
-        k += 1;
     }
     least
 }

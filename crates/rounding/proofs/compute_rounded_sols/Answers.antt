@@ -1,6 +1,6 @@
 -- `rounding::compute_rounded_sols` meets its contract. The first k draws are rounded. Assumes nothing.
 use borrow.Author.Rules.{rules}
-use mathlib.Core.Path.{◌≡◌, refl, ◌∙◌}
+use mathlib.Core.Path.{◌≡◌, ◌∙◌}
 use native.Mathlib.Nat.{zero-mul}
 use native.Mathlib.Omega.{arith}
 use Rattle.laws.proofs.Parts.{row_within}
@@ -10,13 +10,13 @@ use Rattle.rounding.proofs.compute_rounded_sols.Goals as goal
 
 pub loop-k-init : goal.loop-k-init
 unfolding rounded_sols
-loop-k-init c = (omega arith, refl, refl, rw zero-mul)
+loop-k-init c = rw zero-mul
 
 pub round_at-requires : goal.round_at-requires
-round_at-requires c = (search rules, omega (arith, row_within c.loop-k.k c.args.draw_count c.args.rank c.loop-k-test.true), omega arith, omega (arith, row_within c.loop-k.k c.args.draw_count c.args.m c.loop-k-test.true))
+round_at-requires c = (search rules, omega (arith, row_within c.loop-k.k c.args.draw_count c.args.rank c.loop-k-test.true), omega (arith, c.loop-k.auto.direction), omega (arith, c.loop-k.auto.sols, row_within c.loop-k.k c.args.draw_count c.args.m c.loop-k-test.true))
 
 pub loop-k-preserved : goal.loop-k-preserved
-loop-k-preserved c = (omega arith, omega arith, omega arith, c.round_at.ensures ∙ sols_next _ _ _ _ _ _ _ c.loop-k.invariant.3)
+loop-k-preserved c = c.round_at.ensures ∙ sols_next _ _ _ _ _ _ _ c.loop-k.invariant
 
 pub returns : goal.returns
-returns c = let e : c.loop-k.k ≡ c.args.draw_count = omega arith in rw e at c.loop-k.invariant.3
+returns c = let e : c.loop-k.k ≡ c.args.draw_count = omega arith in rw e at c.loop-k.invariant

@@ -2,7 +2,6 @@
 use mathlib.Core.Path.{◌≡◌, sym, ◌∙◌}
 use native.Mathlib.Omega.{arith}
 use borrow.Author.Rules.{rules}
-use lib.ListN.{length-set}
 use Rattle.laws.proofs.Made.{tabulate_next, tabulate_all}
 use Rattle.laws.proofs.Parts.{row_within}
 use Rattle.laws.specs.Lists.{tabulate}
@@ -19,7 +18,7 @@ pub dot-requires : goal.dot-requires
 dot-requires c = c.row.ensures.result_len ∙ sym c.requires.1
 
 pub loop-i-preserved : goal.loop-i-preserved
-loop-i-preserved c = (omega arith, simp length-set (omega arith), rw (c.sign_byte.ensures, c.dot.ensures, c.row.ensures.result_value) (tabulate_next _ _ _ _ 0 (omega arith) c.loop-i.invariant.2))
+loop-i-preserved c = rw (c.sign_byte.ensures, c.dot.ensures, c.row.ensures.result_value) (tabulate_next _ _ _ _ 0 (omega (arith, c.loop-i.auto.signs)) c.loop-i.invariant)
 
 pub returns : goal.returns
-returns c = let e : c.loop-i.i ≡ c.args.m = omega arith in rw (tabulate_all _ _ _ c.requires.2) at (rw e at c.loop-i.invariant.2)
+returns c = let e : c.loop-i.i ≡ c.args.m = omega arith in rw (tabulate_all _ _ _ c.requires.2) at (rw e at c.loop-i.invariant)
