@@ -5,13 +5,13 @@ use Prim.Native.Nat.{ℕ, ◌+◌, ◌*◌, ◌^◌, ◌<◌, ◌≤◌}
 use native.Mathlib.Nat.{le_trans}
 use native.Mathlib.Omega.{arith}
 use lib.Dec.{eqb}
-use lib.IntN.{ℤ, pos, nat_abs, ◌+ℤ◌, ◌-ℤ◌, ◌*ℤ◌}
+use lib.IntN.{ℤ, pos, nat_abs, ◌+ℤ◌, ◌*ℤ◌}
 use lib.Signed.{mag}
 use mir.Syntax.{w64}
 use mir.Val.{SFits, to_z, of_z}
 use mir.Facts.{to_z-of_z}
 use Rattle.laws.specs.Sum.{sum, total, only}
-use Rattle.laws.proofs.Integer.{abs_add, abs_mul, fits_abs, negation_fits, held}
+use Rattle.laws.proofs.Integer.{abs_add, abs_mul, fits_abs, held}
 use Rattle.laws.proofs.Sums.{sum_abs, total_at, total_le, Held, sum_held}
 use Rattle.laws.proofs.Totals.{onlyℕ, total_ext, total_mono, total_add, total_scale, total_swap, total_only}
 use Rattle.tables.specs.Table.{Table, InRange, magnitude_of}
@@ -79,11 +79,7 @@ row_small {n} {h} {c} v i b = omega (arith, total_at n i (λ x. nat_abs (row_tot
 pub linear_small : {n : ℕ} {h : Table} {c : ℕ → ℤ} → Convertible n h c → (i : ℕ) → i < n → nat_abs (c i) ≤ 2 ^ 59
 linear_small {n} {h} {c} v i b = omega (arith, total_at n i (λ x. nat_abs (c x)) b, v.small)
 
--- ---- sums and negations that i64 holds
-
-module _ (v : ℤ) (fits : SFits w64 v) (small : nat_abs v ≤ 2 ^ 60) where
-  pub negated_fits : SFits w64 (pos 0 -ℤ to_z w64 (of_z w64 v))
-  negated_fits = rw (to_z-of_z fits) (negation_fits v (omega arith))
+-- ---- sums that i64 holds
 
 -- a row's sum and twice its linear cost
 module _ (a : ℕ) (s r linear : ℤ) (acc : to_z w64 a ≡ s) (ok : mag r < 2 ^ 63) (is : r ≡ pos 2 *ℤ linear) (small : nat_abs s ≤ 2 ^ 60) (low : nat_abs linear ≤ 2 ^ 59) where

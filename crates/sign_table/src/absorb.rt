@@ -140,6 +140,7 @@ pub fn row_sum(
 {
     let mut sum: i64 = 0;
     let mut k = start;
+    // Where the row ends is found in the entries, so nothing is counted to an end.
     while in_row(count, rows, i, k) {
         sum += values[k];
         k += 1;
