@@ -15,6 +15,7 @@ use run_record::numbers::finish_number;
 use tables::check::{short_table, too_short};
 
 // 31 of the slices of a ranged table.
+#[tactic(auto, unfolding(crate::specs::Numbers::ranged_short, laws::specs::Refusal::any_of))]
 fn ranged_short(
     n: usize,
     count: usize,

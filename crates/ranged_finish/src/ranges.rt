@@ -12,7 +12,7 @@ ghost use Rattle.ranged_finish.specs.Numbers.{above, larger, ranged_number};
 
 use limits::{MOST_ENTRIES, MOST_MAGNITUDE, MOST_WAGONS};
 use refusal::Refusal;
-use tables::check::{abs_of, bad_order, bad_size};
+use tables::check::{bad_order, bad_size};
 use tables::mirror::unmirrored;
 
 // Whether the low end is above the high one.
@@ -39,12 +39,7 @@ fn above(count: usize, low: &[i64], high: &[i64]) -> bool
 fn larger(a: i64, b: i64) -> u64
     ensures { (result ≡ larger a b) × (result ≤ 2 ^ 63) }
 {
-    let x = abs_of(a);
-    let y = abs_of(b);
-    if x < y {
-        return y;
-    }
-    x
+    a.unsigned_abs().max(b.unsigned_abs())
 }
 
 // A sum with the larger absolute value of one more range, or the cap if that is less.
@@ -52,11 +47,7 @@ fn with_range(sum: u64, low: i64, high: i64, cap: u64) -> u64
     requires { sum ≤ 2 ^ 62 }
     ensures { result ≡ min (sum + larger low high) cap }
 {
-    let more = sum + larger(low, high);
-    if more < cap {
-        return more;
-    }
-    cap
+    (sum + larger(low, high)).min(cap)
 }
 
 // The sum of the larger absolute values of the first ranges, or the cap if that is less.
@@ -101,6 +92,7 @@ fn ranges_unmirrored(count: usize, rows: &[u16], cols: &[u16], low: &[i64], high
 }
 
 // What is refused of a ranged table.
+#[tactic(auto, unfolding(crate::specs::Numbers::ranged_number, laws::specs::Refusal::first, laws::specs::Refusal::or_else))]
 pub fn ranged_number(
     n: usize,
     count: usize,

@@ -3,7 +3,6 @@ use Prim.Native.Nat.{ℕ, ◌≤◌}
 use mathlib.Core.Path.{◌≡◌}
 use mathlib.Core.Bool.{Bool, true, false}
 use native.Mathlib.Omega.{arith}
-use lib.Dec.{ltb}
 use borrow.Author.Tests.{ltb-false}
 use Rattle.laws.specs.Refusal.{short}
 
@@ -12,11 +11,3 @@ pub tested : (refused : Bool) (needed lent : ℕ) → refused ≡ false → shor
 unfolding short
 tested true needed lent r e = absurd (let z : ◌≡◌ {A = ℕ} 0 1 = cc in omega arith)
 tested false needed lent r e = ltb-false lent needed e
-
-pub untested : (refused : Bool) (needed lent : ℕ) → refused ≡ true → false ≡ short refused needed lent
-unfolding short
-untested refused needed lent e = rw e
-
-pub tests : (refused : Bool) (needed lent : ℕ) → refused ≡ false → ltb lent needed ≡ short refused needed lent
-unfolding short
-tests refused needed lent e = rw e

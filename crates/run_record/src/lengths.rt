@@ -10,6 +10,7 @@ use run_limits::{rank_meant, start_length};
 use tables::check::{short_table, too_short};
 
 // 31 of the slices of (H, c).
+#[tactic(auto, unfolding(crate::specs::Numbers::table_short, laws::specs::Refusal::any_of, laws::specs::Refusal::short))]
 fn table_short(
     n: usize,
     count: usize,
@@ -27,6 +28,7 @@ fn table_short(
 }
 
 // 31 of the factor.
+#[tactic(auto, unfolding(crate::specs::Numbers::factor_short, crate::specs::Numbers::factor_refused, laws::specs::Refusal::any_of, laws::specs::Refusal::short))]
 fn factor_short(n: usize, size: usize, rank: usize, lent: usize) -> bool
     ensures { result ≡ factor_short n size rank lent }
 {
@@ -46,6 +48,7 @@ fn factor_short(n: usize, size: usize, rank: usize, lent: usize) -> bool
 }
 
 // 31 of a sweep's slices.
+#[tactic(auto, unfolding(crate::specs::Numbers::sweep_short, laws::specs::Refusal::any_of))]
 pub fn sweep_short(
     run: Run,
     n: usize,
@@ -75,6 +78,7 @@ pub struct FinishSlices {
 }
 
 // 31 of the draws.
+#[tactic(auto, unfolding(crate::specs::Numbers::draws_short, crate::specs::Numbers::draws_refused, laws::specs::Refusal::any_of, laws::specs::Refusal::short))]
 fn draws_short(rank: usize, draw_count: usize, draws: usize) -> bool
     ensures { result ≡ draws_short rank draw_count draws }
 {
@@ -94,6 +98,7 @@ fn draws_short(rank: usize, draw_count: usize, draws: usize) -> bool
 }
 
 // 31 of the choice and the multipliers.
+#[tactic(auto, unfolding(crate::specs::Numbers::choice_short, laws::specs::Refusal::any_of, laws::specs::Refusal::short))]
 fn choice_short(n: usize, b: usize, dual: usize) -> bool
     ensures { result ≡ choice_short n b dual }
 {
@@ -107,6 +112,7 @@ fn choice_short(n: usize, b: usize, dual: usize) -> bool
 }
 
 // 31 of a finish's slices.
+#[tactic(auto, unfolding(crate::specs::Numbers::finish_short, laws::specs::Refusal::any_of))]
 pub fn finish_short(
     run: Run,
     n: usize,
@@ -136,16 +142,15 @@ pub fn finish_short(
 }
 
 // Whether 17 refuses the rank of an open.
+#[tactic(auto, unfolding(crate::specs::Numbers::open_rank_refused))]
 pub fn open_rank_refused(rank: usize, start: u8) -> bool
     ensures { result ≡ open_rank_refused rank start }
 {
-    if MOST_RANK < rank {
-        return true;
-    }
-    if rank == 0 { start == 1 } else { false }
+    MOST_RANK < rank || rank == 0 && start == 1
 }
 
 // 31 of the start's numbers.
+#[tactic(auto, unfolding(crate::specs::Numbers::start_short, laws::specs::Refusal::any_of, laws::specs::Refusal::short))]
 fn start_short(n: usize, rank: usize, most: u32, start: u8, numbers: usize) -> bool
     ensures { result ≡ start_short n rank most start numbers }
 {
@@ -163,6 +168,7 @@ fn start_short(n: usize, rank: usize, most: u32, start: u8, numbers: usize) -> b
 }
 
 // 31 of the factor that an open writes.
+#[tactic(auto, unfolding(crate::specs::Numbers::open_factor_short, laws::specs::Refusal::any_of, laws::specs::Refusal::short))]
 fn open_factor_short(n: usize, rank: usize, start: u8, factor: usize) -> bool
     ensures { result ≡ open_factor_short n rank start factor }
 {
@@ -177,6 +183,7 @@ fn open_factor_short(n: usize, rank: usize, start: u8, factor: usize) -> bool
 }
 
 // 31 of an open's slices.
+#[tactic(auto, unfolding(crate::specs::Numbers::open_short, laws::specs::Refusal::any_of))]
 pub fn open_short(
     n: usize,
     count: usize,

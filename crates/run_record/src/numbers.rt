@@ -1,5 +1,5 @@
 // What each call refuses: the first in 01's order whose condition holds.
-ghost use Rattle.std.specs.Prelude.{◌≡◌, false, ◌||◌, ◌*◌, [], ◌∷◌, ltb};
+ghost use Rattle.std.specs.Prelude.{◌≡◌, false, ◌*◌, [], ◌∷◌, ltb};
 ghost use Rattle.laws.specs.Refusal.{◌if◌, first};
 ghost use Rattle.refusal.specs.Number.{numbered};
 ghost use Rattle.run_record.specs.CostTable.{cost_table};
@@ -27,6 +27,7 @@ fn standing_above(standing: u64, size: usize, sweeps: u32) -> bool
 }
 
 // Whether no run of any size can have this record.
+#[tactic(auto, unfolding(crate::specs::Numbers::own_refused, laws::specs::Refusal::any_of))]
 fn own_refused(run: Run) -> bool
     ensures { result ≡ own_refused run }
 {
@@ -52,6 +53,7 @@ fn own_refused(run: Run) -> bool
 }
 
 // Whether no run of n wagons can have this record.
+#[tactic(auto, unfolding(crate::specs::Numbers::record_refused, crate::specs::Numbers::own_refused, laws::specs::Refusal::any_of))]
 fn record_refused(run: Run, n: usize) -> bool
     ensures { result ≡ record_refused run n }
 {
@@ -104,6 +106,7 @@ fn bad_momentum(rule: StepRule) -> bool
 }
 
 // 33, 13 to 16 and 18: what sweep, turn and finish judge alike of a run and its table.
+#[tactic(auto, unfolding(laws::specs::Refusal::first, laws::specs::Refusal::or_else))]
 fn record_number(
     run: Run,
     n: usize,
@@ -130,6 +133,7 @@ fn record_number(
 }
 
 // What a sweep refuses.
+#[tactic(auto, unfolding(crate::specs::Numbers::sweep_number, crate::specs::Numbers::sweep_short, laws::specs::Refusal::first, laws::specs::Refusal::or_else))]
 pub fn sweep_number(
     run: Run,
     n: usize,
@@ -152,6 +156,7 @@ pub fn sweep_number(
 }
 
 // What a turn refuses of a run among several, stopped or not.
+#[tactic(auto, unfolding(crate::specs::Numbers::member_number, crate::specs::Numbers::sweep_short, laws::specs::Refusal::first, laws::specs::Refusal::or_else))]
 pub fn member_number(
     run: Run,
     n: usize,
@@ -171,26 +176,23 @@ pub fn member_number(
 }
 
 // Whether 19 refuses the count of draws.
+#[tactic(auto, unfolding(crate::specs::Numbers::draws_refused))]
 fn draws_refused(draw_count: usize) -> bool
     ensures { result ≡ draws_refused draw_count }
 {
-    if draw_count == 0 {
-        return true;
-    }
-    MOST_DRAWS < draw_count
+    draw_count == 0 || MOST_DRAWS < draw_count
 }
 
 // Whether 19 refuses the width or the count of draws.
+#[tactic(auto, unfolding(crate::specs::Numbers::width_refused))]
 fn width_refused(width: usize, draw_count: usize) -> bool
     ensures { result ≡ width_refused width draw_count }
 {
-    if MOST_WIDTH < width {
-        return true;
-    }
-    draws_refused(draw_count)
+    MOST_WIDTH < width || draws_refused(draw_count)
 }
 
 // What a finish refuses.
+#[tactic(auto, unfolding(crate::specs::Numbers::finish_number, laws::specs::Refusal::first, laws::specs::Refusal::or_else))]
 pub fn finish_number(
     run: Run,
     n: usize,
@@ -219,20 +221,15 @@ pub fn finish_number(
 }
 
 // Whether 18 refuses the rule.
+#[tactic(auto, unfolding(crate::specs::Numbers::rule_refused))]
 fn rule_refused(rule: u8, number: f64) -> bool
     ensures { result ≡ rule_refused rule number }
 {
-    if 4 < rule {
-        return true;
-    }
-    if rule == 4 {
-        !is_momentum(number)
-    } else {
-        false
-    }
+    4 < rule || rule == 4 && !is_momentum(number)
 }
 
 // What an open refuses.
+#[tactic(auto, unfolding(crate::specs::Numbers::open_number, laws::specs::Refusal::first, laws::specs::Refusal::or_else))]
 pub fn open_number(
     n: usize,
     count: usize,
@@ -275,17 +272,8 @@ pub fn open_number(
     Ok(())
 }
 
-// Whether 18 refuses an exchange: by the record's rule, or by the one that is asked for.
-fn exchange_refused(run: Run, rule: u8, number: f64) -> bool
-    ensures { result ≡ (bad_momentum run.rule || rule_refused rule number) }
-{
-    if bad_momentum(run.rule) {
-        return true;
-    }
-    rule_refused(rule, number)
-}
-
 // What the exchange of a rule refuses.
+#[tactic(auto, unfolding(crate::specs::Numbers::exchange_number, laws::specs::Refusal::first, laws::specs::Refusal::or_else))]
 pub fn exchange_number(run: Run, rule: u8, number: f64) -> Result<(), Refusal>
     ensures { numbered result ≡ exchange_number run rule number }
 {
@@ -295,7 +283,7 @@ pub fn exchange_number(run: Run, rule: u8, number: f64) -> Result<(), Refusal>
     if own_refused(run) {
         return Err(Refusal::Record);
     }
-    if exchange_refused(run, rule, number) {
+    if bad_momentum(run.rule) || rule_refused(rule, number) {
         return Err(Refusal::Rule);
     }
     Ok(())

@@ -10,6 +10,7 @@ ghost use Rattle.run_sweep.specs.Sweep.{check_due, absolute, stop_status, stage_
 use run_record::{Run, Stage};
 
 // A check is due at sweep 1, the minimum, the most and every 20th.
+#[tactic(auto, unfolding(crate::specs::Sweep::check_due, laws::specs::Refusal::any_of))]
 fn check_due(sweeps: u32, minimum: u32, most: u32) -> bool
     ensures { result ≡ check_due sweeps minimum most }
 {
@@ -33,6 +34,7 @@ fn absolute(x: f64) -> f64
 }
 
 // The status with which a check stops the run, 0 where it goes on: the record's number, since a caller may hand in any (33).
+#[tactic(auto, unfolding(crate::specs::Sweep::stop_status, laws::specs::Refusal::first, laws::specs::Refusal::or_else))]
 fn stop_status(tests: bool, tolerance: f64, settled: bool, previous: f64, new: f64) -> u8
     ensures { result ≡ stop_status tests tolerance settled previous new }
 {
@@ -57,6 +59,7 @@ fn settled(minimum: u32, sweeps: u32, residual: f64, threshold: f64) -> bool
 }
 
 // The stage after a check.
+#[tactic(auto, unfolding(crate::specs::Sweep::stage_after, laws::specs::Refusal::any_of))]
 fn stage_after(found: u8, full: bool, stage: Stage) -> Stage
     ensures { result ≡ stage_after found full stage }
 {

@@ -1,50 +1,26 @@
 -- `ranged_finish::ranges::ranged_number` meets its contract. Assumes nothing.
 use mathlib.Core.Path.{sym, ◌∙◌}
 use native.Mathlib.Omega.{arith}
-use Rattle.laws.proofs.Refusal.{first_here, first_skip, first_end}
+use Rattle.laws.proofs.Refusal.{first_skip, first_end}
 use Rattle.tables.specs.Table.{table_of}
 use Rattle.tables.proofs.Checks.{size_parts, order_placed}
 use Rattle.ranged_finish.specs.Numbers.{ranged_number}
 use Rattle.ranged_finish.proofs.ranges.ranged_number.Goals as goal
 
-pub returns-then-bad_size : goal.returns-then-bad_size
-unfolding ranged_number
-returns-then-bad_size c = sym (first_here 12 _ _ (sym c.bad_size.ensures ∙ c.if-bad_size.true))
-
 pub bad_order-requires : goal.bad_order-requires
 bad_order-requires c = let l = (c.requires.0 (size_parts _ _ _ _ _ (sym c.bad_size.ensures ∙ c.if-bad_size.false)).2).0 in (l.rows_there, l.cols_there)
-
-pub returns-then-bad_order : goal.returns-then-bad_order
-unfolding ranged_number
-returns-then-bad_order c = sym (first_skip 13 _ _ (sym c.bad_size.ensures ∙ c.if-bad_size.false) ∙ first_here 13 _ _ (sym c.bad_order.ensures ∙ c.if-bad_order.true))
 
 pub above-requires : goal.above-requires
 above-requires c = let l = c.requires.0 (size_parts _ _ _ _ _ (sym c.bad_size.ensures ∙ c.if-bad_size.false)).2 in (l.0.values_there, l.1)
 
-pub returns-then-above : goal.returns-then-above
-unfolding ranged_number
-returns-then-above c = sym (first_skip 13 _ _ (sym c.bad_size.ensures ∙ c.if-bad_size.false) ∙ first_skip 14 _ _ (sym c.bad_order.ensures ∙ c.if-bad_order.false) ∙ first_here 22 _ _ (sym c.above.ensures ∙ c.if-above.true))
-
 pub ranges_unmirrored-requires : goal.ranges_unmirrored-requires
 ranges_unmirrored-requires c = let s = size_parts _ _ _ _ _ (sym c.bad_size.ensures ∙ c.if-bad_size.false) in let l = c.requires.0 s.2 in let a = c.args in (l.0, record { rows_there = l.0.rows_there; cols_there = l.0.cols_there; values_there = l.1 }, order_placed a.n (table_of a.count a.rows.now a.cols.now a.low.now) (omega (arith, s.1)) (sym c.bad_order.ensures ∙ c.if-bad_order.false))
-
-pub returns-then-ranges_unmirrored : goal.returns-then-ranges_unmirrored
-unfolding ranged_number
-returns-then-ranges_unmirrored c = sym (first_skip 13 _ _ (sym c.bad_size.ensures ∙ c.if-bad_size.false) ∙ first_skip 14 _ _ (sym c.bad_order.ensures ∙ c.if-bad_order.false) ∙ first_skip 23 _ _ (sym c.above.ensures ∙ c.if-above.false) ∙ first_here 14 _ _ (sym c.ranges_unmirrored.ensures ∙ c.if-ranges_unmirrored.true))
 
 pub above-requires-2 : goal.above-requires-2
 above-requires-2 c = c.requires.1 (size_parts _ _ _ _ _ (sym c.bad_size.ensures ∙ c.if-bad_size.false)).1
 
-pub returns-then-above-2 : goal.returns-then-above-2
-unfolding ranged_number
-returns-then-above-2 c = sym (first_skip 13 _ _ (sym c.bad_size.ensures ∙ c.if-bad_size.false) ∙ first_skip 14 _ _ (sym c.bad_order.ensures ∙ c.if-bad_order.false) ∙ first_skip 23 _ _ (sym c.above.ensures ∙ c.if-above.false) ∙ first_skip 15 _ _ (sym c.ranges_unmirrored.ensures ∙ c.if-ranges_unmirrored.false) ∙ first_here 22 _ _ (sym c.above-2.ensures ∙ c.if-above-2.true))
-
 pub ranges_too_large-requires : goal.ranges_too_large-requires
 ranges_too_large-requires c = let s = size_parts _ _ _ _ _ (sym c.bad_size.ensures ∙ c.if-bad_size.false) in let l = c.requires.0 s.2 in let m = c.requires.1 s.1 in (l.0.values_there, l.1, m.0, m.1, omega arith)
-
-pub returns-then-ranges_too_large : goal.returns-then-ranges_too_large
-unfolding ranged_number
-returns-then-ranges_too_large c = sym (first_skip 13 _ _ (sym c.bad_size.ensures ∙ c.if-bad_size.false) ∙ first_skip 14 _ _ (sym c.bad_order.ensures ∙ c.if-bad_order.false) ∙ first_skip 23 _ _ (sym c.above.ensures ∙ c.if-above.false) ∙ first_skip 15 _ _ (sym c.ranges_unmirrored.ensures ∙ c.if-ranges_unmirrored.false) ∙ first_skip 23 _ _ (sym c.above-2.ensures ∙ c.if-above-2.false) ∙ first_here 15 _ _ (sym c.ranges_too_large.ensures ∙ c.if-ranges_too_large.true))
 
 pub returns : goal.returns
 unfolding ranged_number

@@ -1,17 +1,8 @@
 use mathlib.Core.Path.{sym, ◌∙◌}
-use Rattle.run_record.specs.Numbers.{sweep_short, member_number}
-use Rattle.laws.proofs.Refusal.{first_here, first_skip}
+use Rattle.run_record.specs.Numbers.{sweep_short}
 use Rattle.laws.proofs.Any.{any_head}
 use Rattle.run_record.proofs.numbers.member_number.Goals as goal
-
-pub returns-then-sweep_short : goal.returns-then-sweep_short
-unfolding member_number
-returns-then-sweep_short c = sym (first_here 30 _ _ (sym c.sweep_short.ensures ∙ c.if-sweep_short.true))
 
 pub record_number-requires : goal.record_number-requires
 unfolding sweep_short
 record_number-requires c = any_head _ _ (sym c.sweep_short.ensures ∙ c.if-sweep_short.false)
-
-pub returns : goal.returns
-unfolding member_number
-returns c = c.record_number.ensures ∙ sym (first_skip 31 _ _ (sym c.sweep_short.ensures ∙ c.if-sweep_short.false))
