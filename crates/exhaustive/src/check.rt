@@ -19,6 +19,7 @@ fn many(n: usize) -> bool
 }
 
 // 31: a slice is too short.
+#[tactic(auto, unfolding(crate::specs::Contract::walk_short, laws::specs::Refusal::any_of))]
 fn slices_short(
     n: usize,
     count: usize,
@@ -30,14 +31,10 @@ fn slices_short(
 ) -> bool
     ensures { result ≡ walk_short n count (length rows.now) (length cols.now) (length values.now) c b }
 {
-    if short_table(MOST_ENTRIES, count, rows, cols, values) {
-        return true;
-    }
     let refused = many(n);
-    if too_short(refused, n, c) {
-        return true;
-    }
-    too_short(refused, n, b)
+    short_table(MOST_ENTRIES, count, rows, cols, values)
+        || too_short(refused, n, c)
+        || too_short(refused, n, b)
 }
 
 // 13 to 16, a cost that isn't there taken for 0.

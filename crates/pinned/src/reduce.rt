@@ -15,6 +15,8 @@ use crate::entries::{free_entries, free_places};
 use limits::MOST_WAGONS;
 use tables::check::wide;
 
+// The states are bytes that a job has as they stand: 0 and 1 are stores, any other is free. They stay bytes and become no enum.
+
 // How many wagons are free, how many entries they have, and what the held ones cost.
 #[derive(Drop)]
 pub struct Shrunk {

@@ -46,19 +46,15 @@ fn any_twice(variable_map: &[u16]) -> bool
 }
 
 // 20: a size, a map index or a fixed index out of its limits, or a map index twice.
+#[tactic(auto, unfolding(crate::specs::Indices::index_refused, laws::specs::Refusal::any_of))]
 pub fn index_refusal(size: usize, variable_map: &[u16], fixed_index: &[u16]) -> Result<(), Refusal>
     ensures { numbered result ≡ 20 if index_refused most_size size variable_map.now fixed_index.now }
 {
-    if MOST_SIZE < size {
-        return Err(Refusal::Index);
-    }
-    if any_outside(size, variable_map) {
-        return Err(Refusal::Index);
-    }
-    if any_twice(variable_map) {
-        return Err(Refusal::Index);
-    }
-    if any_outside(size, fixed_index) {
+    if MOST_SIZE < size
+        || any_outside(size, variable_map)
+        || any_twice(variable_map)
+        || any_outside(size, fixed_index)
+    {
         return Err(Refusal::Index);
     }
     Ok(())

@@ -40,6 +40,7 @@ fn put_lifted(
 }
 
 // Whether a lent slice is too short, by its length.
+#[tactic(auto, unfolding(crate::specs::Lift::lift_short, laws::specs::Refusal::any_of, laws::specs::Refusal::short))]
 fn lift_short(
     size: usize,
     variable_map: &[u16],
@@ -50,16 +51,9 @@ fn lift_short(
 ) -> bool
     ensures { result ≡ lift_short most_size size variable_map.now fixed_index.now values solution lifted }
 {
-    if values < fixed_index.len() {
-        return true;
-    }
-    if solution < variable_map.len() {
-        return true;
-    }
-    if MOST_SIZE < size {
-        return false;
-    }
-    lifted < size
+    values < fixed_index.len()
+        || solution < variable_map.len()
+        || size <= MOST_SIZE && lifted < size
 }
 
 // The reduced solution over the original indices, in the first places, the others as they were; a refusal writes nothing.

@@ -1,7 +1,7 @@
 -- `block_search::blocks::search_blocks` meets its contract. Assumes nothing.
 use mathlib.Core.Path.{◌≡◌}
 use lib.ListN.{length}
-use Prim.Native.Nat.{◌≤◌, ◌-◌}
+use Prim.Native.Nat.{◌≤◌}
 use Rattle.laws.specs.Sum.{total}
 use Rattle.laws.specs.Lists.{elem, elem_z, over, tabulate}
 use Rattle.tables.specs.Table.{table_of}
@@ -14,6 +14,3 @@ invariant-loop-k l = (l.k ≤ length l.sizes) × (l.at ≡ total l.k (elem l.siz
     × (l.b ≡ choice_from l.n (table_of l.count l.rows l.cols l.values) (elem_z l.c) l.width (block_moves l.pinned l.sizes l.wagons) l.initial.b l.k)
     × (l.falls ≡ over (tabulate (block_fall l.n (table_of l.count l.rows l.cols l.values) (elem_z l.c) l.width (block_moves l.pinned l.sizes l.wagons) l.initial.b) l.k) l.initial.falls)
     × (length l.falls ≡ length l.initial.falls) × (length l.b ≡ l.n) × Low l.b × (length l.workspace ≡ length l.initial.workspace)
-
-abbrev pub decreases-loop-k : goal.decreases-loop-k
-decreases-loop-k l = length l.sizes - l.k

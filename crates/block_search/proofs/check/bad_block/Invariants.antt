@@ -1,7 +1,7 @@
 -- `block_search::check::bad_block` meets its contract. Assumes nothing.
 use mathlib.Core.Path.{◌≡◌}
 use lib.ListN.{length}
-use Prim.Native.Nat.{◌≤◌, ◌-◌}
+use Prim.Native.Nat.{◌≤◌}
 use mathlib.Core.Bool.{false}
 use Rattle.laws.specs.Sum.{total}
 use Rattle.laws.specs.Lists.{elem, any_below}
@@ -11,6 +11,3 @@ use Rattle.block_search.proofs.check.bad_block.Given as goal
 
 abbrev pub invariant-loop-k : goal.invariant-loop-k
 invariant-loop-k l = (l.k ≤ length l.sizes) × (l.at ≡ total l.k (elem l.sizes)) × (any_below l.k (λ j. bad_list l.n (block_of l.sizes l.wagons j)) ≡ false)
-
-abbrev pub decreases-loop-k : goal.decreases-loop-k
-decreases-loop-k l = length l.sizes - l.k

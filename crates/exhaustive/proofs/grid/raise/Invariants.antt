@@ -1,5 +1,5 @@
 -- `exhaustive::grid::raise` meets its contract. Assumes nothing.
-use Prim.Native.Nat.{◌≤◌, ◌-◌}
+use Prim.Native.Nat.{◌≤◌}
 use mathlib.Core.Path.{◌≡◌}
 use Rattle.laws.specs.Lists.{fill}
 use Rattle.exhaustive.specs.Walk.{raised_field}
@@ -7,6 +7,3 @@ use Rattle.exhaustive.proofs.grid.raise.Given as goal
 
 abbrev pub invariant-loop-i : goal.invariant-loop-i
 invariant-loop-i l = (l.i ≤ l.j) × (l.up ≡ fill (raised_field l.fields l.grid l.j) l.i l.initial.up)
-
-abbrev pub decreases-loop-i : goal.decreases-loop-i
-decreases-loop-i l = l.j - l.i

@@ -1,5 +1,5 @@
 -- `exhaustive::grid::start_fields` meets its contract. Assumes nothing.
-use Prim.Native.Nat.{◌≤◌, ◌-◌}
+use Prim.Native.Nat.{◌≤◌}
 use mathlib.Core.Path.{◌≡◌}
 use Rattle.laws.specs.Lists.{fill}
 use Rattle.exhaustive.specs.Walk.{start_field}
@@ -7,6 +7,3 @@ use Rattle.exhaustive.proofs.grid.start_fields.Given as goal
 
 abbrev pub invariant-loop-j : goal.invariant-loop-j
 invariant-loop-j l = (l.j ≤ l.n) × (l.fields ≡ fill (start_field l.grid l.c) l.j l.initial.fields)
-
-abbrev pub decreases-loop-j : goal.decreases-loop-j
-decreases-loop-j l = l.n - l.j

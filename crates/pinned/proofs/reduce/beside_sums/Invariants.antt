@@ -4,12 +4,9 @@ use Rattle.tables.specs.Table.{table_of}
 use Rattle.tables.specs.Cost.{choice_at}
 use Rattle.laws.specs.Lists.{tabulate}
 use Rattle.laws.specs.Sum as S
-use Prim.Native.Nat.{◌≤◌, ◌-◌}
+use Prim.Native.Nat.{◌≤◌}
 use mathlib.Core.Path.{◌≡◌}
 use Rattle.pinned.proofs.reduce.beside_sums.Given as goal
 
 abbrev pub invariant-loop-l : goal.invariant-loop-l
 invariant-loop-l l = (l.l ≤ l.count) × (l.sums ≡ tabulate (λ i. S.sum l.l (beside_term (table_of l.count l.rows l.cols l.values) (choice_at l.held) i)) most_wagons)
-
-abbrev pub decreases-loop-l : goal.decreases-loop-l
-decreases-loop-l l = l.count - l.l

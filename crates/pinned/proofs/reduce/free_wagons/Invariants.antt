@@ -1,12 +1,9 @@
 use Rattle.pinned.specs.Pinned.{free_of}
 use Rattle.laws.specs.Lists.{over}
 use lib.ListN.{length}
-use Prim.Native.Nat.{◌≤◌, ◌-◌}
+use Prim.Native.Nat.{◌≤◌}
 use mathlib.Core.Path.{◌≡◌}
 use Rattle.pinned.proofs.reduce.free_wagons.Given as goal
 
 abbrev pub invariant-loop-i : goal.invariant-loop-i
 invariant-loop-i l = (l.i ≤ l.n) × (l.at ≡ length (free_of l.i l.states)) × (l.free ≡ over (free_of l.i l.states) l.initial.free) × (length l.free ≡ length l.initial.free)
-
-abbrev pub decreases-loop-i : goal.decreases-loop-i
-decreases-loop-i l = l.n - l.i
