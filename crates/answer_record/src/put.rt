@@ -9,11 +9,9 @@ pub fn put_number(out: &mut [u8], at: usize, width: usize, value: u64)
     ensures { out.new ≡ put out.old at (bytes_of width value) }
 {
     let mut left = value;
-    let mut i = width;
-    while 0 < i {
-        i -= 1;
+    for i in (0..width).rev() {
         out[at + i] = (left % 256) as u8;
-        left = left / 256;
+        left /= 256;
     }
 }
 

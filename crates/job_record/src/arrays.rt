@@ -1,11 +1,11 @@
 // Rows of numbers of a record, stored into slices.
 ghost use Rattle.std.specs.Prelude.{◌≡◌, ◌+◌, ◌*◌, ◌≤◌, ◌<◌, length};
 ghost use Rattle.laws.specs.Lists.{fill};
-ghost use Rattle.job_record.specs.Fields.{entry_at, row, column, value, signed_from, double_from};
+ghost use Rattle.job_record.specs.Fields.{entry_at, row, column, value};
 
 use crate::places::entry_at;
 use job_reader::big_endian;
-use job_reader::fields::{f64_at, i64_at};
+use job_reader::fields::Stored;
 
 // The first `count` entries: rows, columns and values.
 pub fn read_entries(
@@ -24,26 +24,16 @@ pub fn read_entries(
         let at = entry_at(i);
         rows[i] = big_endian(job, at, 1) as u16;
         cols[i] = big_endian(job, at + 1, 1) as u16;
-        values[i] = i64_at(job, at + 2);
+        values[i] = i64::stored_at(job, at + 2);
     }
 }
 
-// Signed numbers from `at` on.
-pub fn read_signed(job: &[u8], at: usize, count: usize, out: &mut [i64])
+// Values of eight bytes each from `at` on.
+pub fn read_stored<T: Stored>(job: &[u8], at: usize, count: usize, out: &mut [T])
     requires { (at + count * 8 ≤ length job.now) × (count ≤ length out.old) }
-    ensures { out.new ≡ fill (signed_from job.now at) count out.old }
+    ensures { out.new ≡ fill (λ i. T.stored job.now (at + i * 8)) count out.old }
 {
     for i in 0..count {
-        out[i] = i64_at(job, at + i * 8);
-    }
-}
-
-// Doubles from `at` on.
-pub fn read_doubles(job: &[u8], at: usize, count: usize, out: &mut [f64])
-    requires { (at + count * 8 ≤ length job.now) × (count ≤ length out.old) }
-    ensures { out.new ≡ fill (double_from job.now at) count out.old }
-{
-    for i in 0..count {
-        out[i] = f64_at(job, at + i * 8);
+        out[i] = T::stored_at(job, at + i * 8);
     }
 }

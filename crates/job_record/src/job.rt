@@ -6,7 +6,7 @@ ghost use Rattle.job_record.specs.Number.{job_number};
 ghost use Rattle.job_record.specs.Reading.{HeadThere, settings_from, settings_values};
 ghost use Rattle.job_record.specs.Values.{pin_count, free_wagons, settings_place, draws_place, job_states, job_of, job_rank, job_start_count, job_start, job_drawn, job_draw};
 
-use crate::arrays::read_doubles;
+use crate::arrays::read_stored;
 use crate::pins::{Behind, behind_pins, pins_number, set_free};
 use crate::places::{DRAW_COUNT, costs_end};
 use crate::reading::{
@@ -139,7 +139,7 @@ pub fn read_start(job: &[u8], start: &mut [f64])
     ensures { start.new ≡ fill (job_start job.now) (job_start_count job.now) start.old }
 {
     let p = parts_of(job);
-    read_doubles(job, p.start, p.count, start);
+    read_stored(job, p.start, p.count, start);
 }
 
 // The draws, over the front of the slice: behind their count.
@@ -150,7 +150,7 @@ pub fn read_draws(job: &[u8], draws: &mut [f64])
     let p = parts_of(job);
     let drawn = read_draw_count(job, p.draws);
     let count = drawn.unwrap_or(0) as usize * p.rank;
-    read_doubles(job, p.draws + DRAW_COUNT, count, draws);
+    read_stored(job, p.draws + DRAW_COUNT, count, draws);
 }
 
 // The states of its wagons, a byte each, over the front of `states`.

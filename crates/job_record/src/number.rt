@@ -10,7 +10,7 @@ ghost use Rattle.job_record.specs.Reading.{HeadThere, field_number, frame_judged
 ghost use Rattle.job_record.specs.Number.{entries_numbers, costs_numbers, job_table_number, pins_numbers_by, run_numbers};
 ghost use Rattle.job_record.specs.Values.{free_wagons, settings_place, TableRoom, Entered, Stored, Judged};
 
-use crate::arrays::{read_entries, read_signed};
+use crate::arrays::{read_entries, read_stored};
 use crate::pins::{behind_pins, version_pins};
 use crate::places::{ENTRY, HEAD, LENGTH, costs_end, entry_at};
 use crate::reading::{HeadFields, HeadValues, head_values, read_head};
@@ -113,7 +113,7 @@ fn costs_number(
     if job.len() < costs_end(n, count) {
         return Err(Refusal::Frame);
     }
-    read_signed(job, entry_at(count), n, c);
+    read_stored(job, entry_at(count), n, c);
     if hall_too_large(MOST_MAGNITUDE, n, count, values, c) {
         return Err(Refusal::Magnitude);
     }

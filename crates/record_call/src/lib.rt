@@ -5,6 +5,7 @@ mod run; // run.rt: an accepted job's open, sweeps and finish
 
 ghost use Rattle.std.specs.Prelude.{◌≡◌, ◌≤◌, length};
 ghost use Rattle.laws.specs.Lists.{over};
+ghost use Rattle.refusal.specs.Number.{numbered};
 ghost use Rattle.answer_record.specs.Answer.{answer_bytes};
 ghost use Rattle.limits.specs.Limits.{least_answer};
 ghost use Rattle.record_call.specs.Record.{job_fields, whole_choice, least_workspace};
@@ -14,6 +15,7 @@ ghost use Rattle.record_call.specs.Promise.{Answers};
 use answer_record::answer::{write_answer, write_refusal};
 use job_record::number::judge_job;
 use limits::{LEAST_ANSWER, MOST_ENTRIES, MOST_WAGONS, RECORD_WORKSPACE, SEARCH_WORKSPACE};
+use refusal::Refusal;
 use run::job_answer;
 
 // The answer record of an accepted job, whose H and c stand at the fronts of the slices. The search has a level of words of its own; the
@@ -36,18 +38,17 @@ fn answer_job(
 }
 
 // The call with slices that are long enough. H and c are read once, into arrays, as the job is judged.
-fn answer_judged(job: &[u8], workspace: &mut [u8], answer: &mut [u8]) -> u8
+fn answer_judged(job: &[u8], workspace: &mut [u8], answer: &mut [u8]) -> Result<(), Refusal>
     requires { (least_workspace ≤ length workspace.old) × (least_answer ≤ length answer.old) }
-    ensures { Answers job.now workspace.old answer.old result workspace.new answer.new }
+    ensures { Answers job.now workspace.old answer.old (numbered result) workspace.new answer.new }
 {
     let mut rows = [0u16; MOST_ENTRIES];
     let mut cols = [0u16; MOST_ENTRIES];
     let mut values = [0i64; MOST_ENTRIES];
     let mut c = [0i64; MOST_WAGONS];
-    let number = judge_job(job, &mut rows, &mut cols, &mut values, &mut c);
-    if number != 0 {
-        write_refusal(answer, number);
-        return number;
+    if let Err(refusal) = judge_job(job, &mut rows, &mut cols, &mut values, &mut c) {
+        write_refusal(answer, refusal.number());
+        return Err(refusal);
     }
     answer_job(
         job,
@@ -58,19 +59,19 @@ fn answer_judged(job: &[u8], workspace: &mut [u8], answer: &mut [u8]) -> u8
         &mut workspace[0..RECORD_WORKSPACE],
         answer,
     );
-    0
+    Ok(())
 }
 
-// Answers a job: 0 and its answer record, or the number of its refusal and that refusal, over the front of `answer`. 31 for a short slice
+// Answers a job: its answer record, or its refusal and the bytes of that, over the front of `answer`. 31 for a short slice
 // comes first and writes nothing; the workspace is written for an accepted job alone, and a longer one keeps its tail.
-pub fn answer_record(job: &[u8], workspace: &mut [u8], answer: &mut [u8]) -> u8
-    ensures { Answers job.now workspace.old answer.old result workspace.new answer.new }
+pub fn answer_record(job: &[u8], workspace: &mut [u8], answer: &mut [u8]) -> Result<(), Refusal>
+    ensures { Answers job.now workspace.old answer.old (numbered result) workspace.new answer.new }
 {
     if answer.len() < LEAST_ANSWER {
-        return 31;
+        return Err(Refusal::Slice);
     }
     if workspace.len() < RECORD_WORKSPACE {
-        return 31;
+        return Err(Refusal::Slice);
     }
     answer_judged(job, workspace, answer)
 }

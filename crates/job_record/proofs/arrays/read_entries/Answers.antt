@@ -16,7 +16,7 @@ loop-i-preserved c = let inv = c.loop-i.invariant in let job = c.args.job.now in
   omega arith,
   fill_more _ _ _ inv.1 (c.big_endian.ensures.0 ∙ ap (λ (p : ℕ). big_endian job p 1) c.entry_at-at.ensures),
   fill_more _ _ _ inv.2 (c.big_endian-in-loop-i.ensures.0 ∙ ap (λ (p : ℕ). big_endian job (p + 1) 1) c.entry_at-at.ensures),
-  fill_more _ _ _ inv.3 (to_z-of_z w64 _ (record { sfits = c.i64_at.type_inv }) ∙ c.i64_at.ensures ∙ ap (λ (p : ℕ). signed_at job (p + 2)) c.entry_at-at.ensures),
+  fill_more _ _ _ inv.3 (to_z-of_z w64 _ (record { sfits = c.stored_at.type_inv }) ∙ c.stored_at.ensures ∙ ap (λ (p : ℕ). signed_at job (p + 2)) c.entry_at-at.ensures),
   simp length-set inv.4,
   simp length-set inv.5,
   simp length-set inv.6,

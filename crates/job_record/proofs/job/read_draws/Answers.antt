@@ -14,11 +14,11 @@ overflow_mul-count c = let d = drawn_held c.args.job.now c.requires.0 c.parts_of
 pub overflow_add-p : goal.overflow_add-p
 overflow_add-p c = let f = fields c.args.job.now c.requires.0 in omega (arith, c.parts_of-p.ensures.3, f.draws.there, f.small)
 
-pub read_doubles-requires : goal.read_doubles-requires
-read_doubles-requires c = let s = c.args.job.now in let f = fields s c.requires.0 in let d = drawn_held s c.requires.0 c.parts_of-p.ensures.3 c.read_draw_count-drawn.ensures in
+pub read_stored-requires : goal.read_stored-requires
+read_stored-requires c = let s = c.args.job.now in let f = fields s c.requires.0 in let d = drawn_held s c.requires.0 c.parts_of-p.ensures.3 c.read_draw_count-drawn.ensures in
     let e : c.unwrap_or.result * c.parts_of-p.result.rank ≡ job_drawn s = rw (c.unwrap_or.ensures, d, c.parts_of-p.ensures.0) in
     (omega (arith, f.draws_end, c.parts_of-p.ensures.3, e), omega (arith, f.draws_end, f.small, e, c.requires.1))
 
 pub returns : goal.returns
 returns c = let d = drawn_held c.args.job.now c.requires.0 c.parts_of-p.ensures.3 c.read_draw_count-drawn.ensures in
-    c.read_doubles.ensures ∙ simp (c.unwrap_or.ensures ∙ d, c.parts_of-p.ensures.3, c.parts_of-p.ensures.0)
+    c.read_stored.ensures ∙ simp (c.unwrap_or.ensures ∙ d, c.parts_of-p.ensures.3, c.parts_of-p.ensures.0)

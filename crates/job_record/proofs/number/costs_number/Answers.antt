@@ -20,7 +20,7 @@ returns-then-job-costs_end c = let a = c.args in
 pub returns-then-hall_too_large : goal.returns-then-hall_too_large
 unfolding costs_numbers
 returns-then-hall_too_large c = let a = c.args in
-    let read = c.read_signed.ensures ∙ ap (λ (p : ℕ). fill (signed_from a.job.now p) a.n a.c.now) c.entry_at.ensures in
+    let read = c.read_stored.ensures ∙ ap (λ (p : ℕ). fill (signed_from a.job.now p) a.n a.c.now) c.entry_at.ensures in
     let there = le-ltb (length a.job.now) (costs_end a.n a.count) (omega (arith, c.if-job-costs_end.false, c.costs_end.ensures)) in
     let sum = ap (ltb most_magnitude) (sym (magnitude_is a.job.now a.n a.count a.c.now a.values.now read c.requires.3 c.requires.4)) in
     (moves_on_if _ _ _ there (answers_if 15 _ _ (sum ∙ sym c.hall_too_large.ensures ∙ c.if-hall_too_large.true)), λ z. absurd (omega arith))
@@ -28,7 +28,7 @@ returns-then-hall_too_large c = let a = c.args in
 pub returns : goal.returns
 unfolding costs_numbers
 returns c = let a = c.args in
-    let read = c.read_signed.ensures ∙ ap (λ (p : ℕ). fill (signed_from a.job.now p) a.n a.c.now) c.entry_at.ensures in
+    let read = c.read_stored.ensures ∙ ap (λ (p : ℕ). fill (signed_from a.job.now p) a.n a.c.now) c.entry_at.ensures in
     let there = le-ltb (length a.job.now) (costs_end a.n a.count) (omega (arith, c.if-job-costs_end.false, c.costs_end.ensures)) in
     let sum = ap (ltb most_magnitude) (sym (magnitude_is a.job.now a.n a.count a.c.now a.values.now read c.requires.3 c.requires.4)) in
     (moves_on_if _ _ _ there (passes_last 16 _ (sum ∙ sym c.hall_too_large.ensures ∙ c.if-hall_too_large.false)), λ z. read)
