@@ -56,6 +56,7 @@ fn whole_row(
 {
     clear(sums);
     let mut e = from;
+    // the end is found by the entries
     while in_row(count, rows, i, e) {
         take_entry(wide(cols[e]), values[e], factor, rank, sums);
         e += 1;
@@ -78,7 +79,8 @@ fn quotient(sums: &[f64], v: &[f64]) -> f64
     above / below
 }
 
-// A row's multiplier, from its sums.
+// A row's multiplier, from its sums. `divided` stays a flag, for a closure would be no plainer: the definition `multipliers_by` has the flag, so that
+// it and its theorems speak of both calls in a word.
 fn value_of(divided: bool, sums: &[f64], v: &[f64]) -> f64
     requires { length sums.now ≡ length v.now }
     ensures { result ≡ value_of divided sums.now v.now }

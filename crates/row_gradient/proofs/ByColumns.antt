@@ -15,11 +15,11 @@ use native.Mathlib.Nat.{add_assoc, zero-add}
 use native.Mathlib.Omega.{arith}
 use native.Mathlib.Numerals.{add-one}
 use lib.Dec.{eqb}
-use lib.Ieee.{Float, nan}
-use lib.ListN.{length, get_or, set, take, drop, replicate}
+use lib.Ieee.{Float}
+use lib.ListN.{length, get_or, take, drop, replicate}
 use Rattle.laws.specs.Rows.{map_first, row_of}
 use Rattle.laws.specs.Lists.{tabulate, over}
-use Rattle.laws.proofs.Made.{length_tabulate, tabulate_all, tabulate_next, tabulate_ext, tabulate_replicate}
+use Rattle.laws.proofs.Made.{length_tabulate, tabulate_all, tabulate_ext, tabulate_replicate}
 use Rattle.ieee.specs.Floats.{◌-ᶠ◌, at, zero64}
 use Rattle.factor.specs.Shapes.{ColumnsWithin}
 use Rattle.factor.specs.Vectors.{sub_scaled}

@@ -9,7 +9,13 @@ use super::gradient::gradient_blocks;
 use super::two_blocks::two_blocks;
 
 // Rank N: a block of N columns.
-fn one_block<const N: usize>(cols: &[u16], values: &[f64], factor: &[f64], vertex: usize, g: &mut [f64])
+fn one_block<const N: usize>(
+    cols: &[u16],
+    values: &[f64],
+    factor: &[f64],
+    vertex: usize,
+    g: &mut [f64],
+)
     requires g_len { (length g.old ≡ N) × (length cols.now ≡ length values.now) }
     requires columns_within { ColumnsWithin cols.now (length g.old) factor.now }
     ensures { g.new ≡ gradient_of cols.now values.now factor.now vertex (length g.old) }

@@ -1,6 +1,6 @@
 -- `prepared_table::keep` meets its contract. What is kept of the first e entries lies over the front. Assumes nothing.
 use mathlib.Core.Bool.{Bool, true, false}
-use mathlib.Core.Path.{◌≡◌, refl, ◌∙◌}
+use mathlib.Core.Path.{refl, ◌∙◌}
 use Prim.Native.Nat.{ℕ, ◌+◌, ◌≤◌}
 use native.Mathlib.Omega.{arith}
 use Rattle.laws.proofs.Made.{kept_next, kept_count}

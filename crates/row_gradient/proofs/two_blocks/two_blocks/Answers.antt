@@ -3,7 +3,6 @@ use mathlib.Core.Path.{refl, sym, ◌∙◌}
 use Prim.Native.Nat.{◌-◌}
 use native.Mathlib.Nat.{add-zero}
 use native.Mathlib.Omega.{arith}
-use lib.ListN.{length}
 use Rattle.row_gradient.proofs.ByColumns.{block_start_lem, block_next, two_ends, at_rank}
 use Rattle.row_gradient.proofs.two_blocks.two_blocks.Goals as goal
 
