@@ -79,7 +79,7 @@ pub fn write_answer(out: &mut [u8], a: Answer, b: &[u8])
     put_bytes(out, 60, b, a.n as usize);
 }
 
-// A refusal over the front of `out`: 00000002 01 and the number.
+// A refusal over the front of `out`: 00000002 01 and the number, which may be any byte: to take a `Refusal` would ask more of the caller.
 pub fn write_refusal(out: &mut [u8], number: u8)
     requires { 6 ≤ length out.old }
     ensures { out.new ≡ over (refusal_bytes number) out.old }
