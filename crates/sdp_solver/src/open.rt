@@ -18,6 +18,7 @@ use run_record::{OpenSettings, Run, Stage};
 use step_rules::rule_of;
 
 // The stage of a new run: stopped where no sweep is allowed.
+#[tactic(auto, unfolding(run_contract::specs::Calls::first_stage))]
 fn first_stage(most: u32) -> Stage
     ensures { result ≡ first_stage most }
 {

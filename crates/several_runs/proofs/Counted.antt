@@ -1,7 +1,7 @@
 -- How many of the runs are open, counted run by run. Assumes nothing.
 use Prim.Native.Nat.{ℕ, zero, suc, ◌+◌, ◌≤◌, ◌<◌}
 use mathlib.Core.Bool.{false}
-use mathlib.Core.Path.{◌≡◌, refl, sym, ap, subst, ◌∙◌}
+use mathlib.Core.Path.{◌≡◌, refl, subst}
 use native.Mathlib.Numerals.{add-one}
 use native.Mathlib.Omega.{arith}
 use borrow.Author.Tests.{ltb-false}
@@ -39,12 +39,9 @@ one_le Stopped = omega arith
 pub found_few : (at : ℕ → Run) (i : ℕ) {found one : ℕ} → found ≡ open_below at i → one ≡ only_open (at i).stage 1 → i ≤ most_runs → found + one ≤ most_runs + 1
 found_few at i e f l = let a = open_below_le at i in let b = one_le (at i).stage in omega (arith, a, b, e, f)
 
--- the open run's share
+-- an open run is one of them
 pub open_some : {stage : Stage} {k : ℕ} → stage ≡ Open → only_open stage 1 ≤ k → 1 ≤ k
 open_some {stage} {k} e l = subst (λ (s : Stage). only_open s 1 ≤ k) e l
-
-pub open_share : {stage : Stage} {x r : ℕ} → stage ≡ Open → r ≡ x → r ≡ only_open stage x
-open_share {x = x} e f = f ∙ ap (λ (s : Stage). only_open s x) (sym e)
 
 -- eight sweeps or more, eight runs or fewer
 pub turn_many : (sweeps : ℕ) → bad_turn sweeps ≡ false → least_turn ≤ sweeps

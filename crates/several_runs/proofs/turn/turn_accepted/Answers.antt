@@ -1,11 +1,11 @@
 -- `several_runs::turn::turn_accepted` meets its contract. Assumes nothing.
 use mathlib.Core.Path.{refl, ◌∙◌}
 use native.Mathlib.Omega.{arith}
-use Rattle.laws.proofs.MapFirst.{fill_none, fill_more, fill_all}
+use Rattle.laws.proofs.MapFirst.{fill_none, fill_more}
 use Rattle.several_runs.proofs.Counted.{open_below_none, open_below_next, found_few, count_few, turn_few, open_counts}
 use Rattle.several_runs.proofs.Cursors.{cursor_start, cursor_number, cursor_next}
 use Rattle.several_runs.proofs.OnTurns.{turn_good, count_good, number_good}
-use Rattle.several_runs.proofs.Moving.{start, finish, step}
+use Rattle.several_runs.proofs.Moving.{start, step}
 use Rattle.several_runs.proofs.turn.turn_accepted.Goals as goal
 
 pub open_below-open-requires : goal.open_below-open-requires
@@ -53,16 +53,7 @@ overflow_mul-at c = let k = cursor_next _ _ _ c.loop-i.invariant.1 (number_good 
 pub overflow_add-at : goal.overflow_add-at
 overflow_add-at c = let k = cursor_next _ _ _ c.loop-i.invariant.1 (number_good _ _ _ _ _ c.requires _ c.loop-i-test.true) in omega (arith, k.factors_room)
 
-pub loop-i-smaller : goal.loop-i-smaller
-loop-i-smaller c = omega (arith, c.loop-i-test.true)
-
 pub loop-i-preserved : goal.loop-i-preserved
 loop-i-preserved c = let k = cursor_next _ _ _ c.loop-i.invariant.1 (number_good _ _ _ _ _ c.requires _ c.loop-i-test.true) in
     let st = step _ _ _ _ _ c.requires c.loop-i-test.true c.loop-i.invariant.1 c.open_below-open.ensures c.loop-i.invariant.2 c.loop-i.invariant.4 c.share_of-k.ensures c.turn_one.ensures in
     (omega (arith, c.loop-i-test.true), k, open_below_next _ _ c.loop-i.invariant.2 c.open_one-before.ensures, fill_more _ _ _ c.loop-i.invariant.3 st.0, st.1, c.turn_one.auto.factors ∙ c.loop-i.invariant.5)
-
-pub shape_of-factors : goal.shape_of-factors
-shape_of-factors c = c.loop-i.invariant.5
-
-pub returns : goal.returns
-returns c = (fill_all _ _ _ _ c.loop-i.invariant.3 c.loop-i.invariant.0 c.loop-i-test.false, finish _ _ _ _ _ c.requires _ c.loop-i.invariant.4 c.loop-i.invariant.0 c.loop-i-test.false)
