@@ -3,6 +3,7 @@
 --     reduced-run, unpinned-run    the (H, c) of the run
 --     run-fields, lifted-choice    the answer
 --     opened-run, swept-run, unswept-run, finished    open, sweep and finish of a decoded job
+use Rattle.std.specs.Prelude.{Result, Ok, Err}
 use Prim.Native.Nat.{ℕ, zero, suc, ◌+◌, ◌*◌, ◌≤◌, ◌<◌}
 use mathlib.Core.Path.{◌≡◌, refl, sym, ap, subst, ◌∙◌}
 use mathlib.Core.List.{List}
@@ -34,10 +35,6 @@ use Rattle.run_sweep.proofs.Loop.{sweeps_none}
 use Rattle.run_contract.specs.PlainRun.{record_of}
 use Rattle.run_contract.proofs.Accepting.{Sweeping, sweep_accepted}
 use Rattle.run_contract.proofs.Follows.{state_of}
-use Rattle.run_contract.specs.declared.Opened.{Opened}
-use Rattle.run_contract.specs.declared.Opened.TheVariants as O
-use Rattle.run_contract.specs.declared.Finished.{Finished}
-use Rattle.run_contract.specs.declared.Finished.TheVariants as F
 use Rattle.run_contract.specs.declared.FinishResult.{FinishResult}
 use Rattle.run_contract.specs.Calls as Calls
 use Rattle.run_record.specs.Numbers.{sweep_number, finish_number}
@@ -282,7 +279,7 @@ same_settings : {t t' : CostTable} {j j' : Job} {start start' : List Float} → 
     ≡ Calls.settings_of t' j'.rank j'.rule j'.rule_number j'.most j'.minimum j'.objective_tolerance j'.stationarity_tolerance j'.start start'
 same_settings p q r = rw (p, q, r)
 
-all_same : {run run' : Run} {t t' : CostTable} {width width' draw_count drawCount' : ℕ} {draws draws' factor factor' : List Float} {b b' : List ℕ} {dual dual' : List Float} {workspace workspace' : List ℕ} {answer : Finished}
+all_same : {run run' : Run} {t t' : CostTable} {width width' draw_count drawCount' : ℕ} {draws draws' factor factor' : List Float} {b b' : List ℕ} {dual dual' : List Float} {workspace workspace' : List ℕ} {answer : Result FinishResult ℕ}
     → run ≡ run' → t ≡ t' → width ≡ width' → draw_count ≡ drawCount' → draws ≡ draws' → factor ≡ factor'
     → Finishes run t width draw_count draws factor b dual workspace answer b' dual' workspace' → Finishes run' t' width' drawCount' draws' factor' b dual workspace answer b' dual' workspace'
 all_same p q r k l m f = rw (← p, ← q, ← r, ← k, ← l, ← m) f
@@ -298,8 +295,8 @@ module _ {s : List ℕ} {j : Job} {count : ℕ} {rows cols : List ℕ} {values c
   unfolding job_settings
   asked_is = same_settings d.costs_are d.job_is d.start_is
 
-  pub opened_run : {answer : Opened} {factor factor' : List Float} → length factor ≡ open_size (job_settings (run_costs s) s) * open_rank (job_settings (run_costs s) s) → Opens asked factor answer factor'
-      → (answer ≡ O.Started (open_run (job_settings (run_costs s) s))) × (factor' ≡ start_factor (job_settings (run_costs s) s))
+  pub opened_run : {answer : Result Run ℕ} {factor factor' : List Float} → length factor ≡ open_size (job_settings (run_costs s) s) * open_rank (job_settings (run_costs s) s) → Opens asked factor answer factor'
+      → (answer ≡ Ok (open_run (job_settings (run_costs s) s))) × (factor' ≡ start_factor (job_settings (run_costs s) s))
   opened_run {answer} {factor} {factor'} whole o =
       let o' : Opens (job_settings (run_costs s) s) factor answer factor' = subst (λ (x : Settings). Opens x factor answer factor') asked_is o in
       let (is, made) = o'.accepted (o'.numbered ∙ opens s d.accepted (length factor) (omega (arith, whole))) in
@@ -379,10 +376,10 @@ module _ {s : List ℕ} {j : Job} {count : ℕ} {rows cols : List ℕ} {values c
       let none = finishes s d.accepted lengths (omega (arith, drawn_long)) (omega (arith, factor_whole s d.accepted)) (omega arith) (omega arith) wr in
       rw (is, ds, made, d.costs_are, ap (λ (x : Job). x.width) d.job_is, ap (λ (x : Job). x.draw_count) d.job_is) none
 
-  pub finished : {run : Run} {draws factor : List Float} {b b' : List ℕ} {dual dual' : List Float} {workspace workspace' : List ℕ} {answer : Finished} → run ≡ record_of (stopped (run_costs s) s) → draws ≡ job_draws s → factor ≡ (stopped (run_costs s) s).factor
+  pub finished : {run : Run} {draws factor : List Float} {b b' : List ℕ} {dual dual' : List Float} {workspace workspace' : List ℕ} {answer : Result FinishResult ℕ} → run ≡ record_of (stopped (run_costs s) s) → draws ≡ job_draws s → factor ≡ (stopped (run_costs s) s).factor
       → most_wagons ≤ length b → most_signs ≤ length dual → search_workspace ≤ length workspace
       → Finishes run costs j.width j.draw_count draws factor b dual workspace answer b' dual' workspace'
-      → (answer ≡ F.Result (job_result (run_costs s) s)) × (b' ≡ over (job_choice (run_costs s) s) b)
+      → (answer ≡ Ok (job_result (run_costs s) s)) × (b' ≡ over (job_choice (run_costs s) s) b)
   finished {run} {draws} {factor} {b} {b'} {dual} {dual'} {workspace} {workspace'} {answer} is ds made br dr wr f =
       let run₀ = record_of (stopped (run_costs s) s) in
       let factor₀ = (stopped (run_costs s) s).factor in
@@ -395,7 +392,7 @@ module _ {s : List ℕ} {j : Job} {count : ℕ} {rows cols : List ℕ} {values c
       let none = finishes s d.accepted lengths (omega (arith, drawn_long)) (omega (arith, factor_whole s d.accepted)) (omega arith) (omega arith) wr in
       let (made', chosen, multiplied) = g.accepted (g.numbered ∙ none) in
       let whole : take (used run₀) factor₀ ≡ factor₀ = take_all (used run₀) factor₀ (omega (arith, stopped_used)) in (
-        made' ∙ ap (λ (x : List Float). F.Result (finish_result run₀ (run_costs s) width draw_count (job_draws s) x)) whole ∙ ap F.Result result_is,
+        made' ∙ ap (λ (x : List Float). Ok (finish_result run₀ (run_costs s) width draw_count (job_draws s) x)) whole ∙ ap Ok result_is,
         chosen ∙ ap (λ (x : List Float). over (finish_choice run₀ (run_costs s) width draw_count (job_draws s) x) b) whole ∙ ap (λ (x : List ℕ). over x b) choice_is,
       )
 
@@ -410,10 +407,10 @@ module _ {s : List ℕ} {j : Job} {count : ℕ} {rows cols : List ℕ} {values c
 
 -- ---- answers that are told apart
 
-pub started : {opened : Opened} {r x : Run} → opened ≡ O.Started r → opened ≡ O.Started x → r ≡ x
+pub started : {opened : Result Run ℕ} {r x : Run} → opened ≡ Ok r → opened ≡ Ok x → r ≡ x
 started p q = cc
 
-pub resulted : {finished : Finished} {r x : FinishResult} → finished ≡ F.Result r → finished ≡ F.Result x → r ≡ x
+pub resulted : {finished : Result FinishResult ℕ} {r x : FinishResult} → finished ≡ Ok r → finished ≡ Ok x → r ≡ x
 resulted p q = cc
 
 pub positive : (n : ℕ) → (n ≡ 0 → ⊥) → 0 < n
