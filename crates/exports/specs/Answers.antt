@@ -1,8 +1,7 @@
 -- What the exported calls promise: those of a run by the predicates of run_contract, on words; those that answer a value by what the call answers,
 -- made of the number and of what is lent for the value.
-use Rattle.std.specs.Prelude.{ℕ, zero, suc, ◌≤◌, ◌<◌, ◌≡◌, List, ℤ, Float, length, Result, Ok, Err}
+use Rattle.std.specs.Prelude.{ℕ, zero, suc, ◌≤◌, ◌<◌, ◌≡◌, List, Float, length, Result, Ok, Err}
 use Rattle.laws.specs.Lists.{over}
-use Rattle.run_record.specs.declared.Run.{Run}
 use Rattle.run_record.specs.CostTable.{CostTable}
 use Rattle.run_contract.specs.declared.FinishResult.{FinishResult}
 use Rattle.run_contract.specs.Calls.{Opens, Sweeps, Finishes}

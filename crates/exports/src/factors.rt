@@ -32,9 +32,12 @@ pub extern "C" fn wagonplan_raw_compute_rounded_sol(
         out.old (by_number result objective.new) out.new }
     ensures stays { Stays result objective.old objective.new }
 {
-    hand_over(factor_calls::compute_rounded_sol(
-        m, count, rows, cols, values, rank, factor, draw_count, draws, out,
-    ), objective)
+    hand_over(
+        factor_calls::compute_rounded_sol(
+            m, count, rows, cols, values, rank, factor, draw_count, draws, out,
+        ),
+        objective,
+    )
 }
 
 #[unsafe(no_mangle)]

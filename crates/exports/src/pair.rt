@@ -26,18 +26,21 @@ pub extern "C" fn wagonplan_raw_from_principal_submatrix(
         (by_number result entries.new) (slices_of out_rows.new out_cols.new out_values.new) }
     ensures stays { Stays result entries.old entries.new }
 {
-    hand_over(from_principal_submatrix(
-        size,
-        count,
-        rows,
-        cols,
-        values,
-        variable_map,
-        fixed_index,
-        out_rows,
-        out_cols,
-        out_values,
-    ), entries)
+    hand_over(
+        from_principal_submatrix(
+            size,
+            count,
+            rows,
+            cols,
+            values,
+            variable_map,
+            fixed_index,
+            out_rows,
+            out_cols,
+            out_values,
+        ),
+        entries,
+    )
 }
 
 #[unsafe(no_mangle)]

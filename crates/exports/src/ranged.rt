@@ -6,8 +6,8 @@ ghost use Rattle.exports.specs.RangedWords.{ranged_words, ranged_words_of, Range
 
 use crate::words::{RESULT_WORDS, RUN_WORDS, put_words, result_words, run_in};
 use ieee::bits::bits_of_signed;
-use ranged_finish::finish::finish_ranged;
 use ranged_finish::RangedResult;
+use ranged_finish::finish::finish_ranged;
 
 // Three more than a finish's result.
 const RANGED_WORDS: usize = RESULT_WORDS + 3;

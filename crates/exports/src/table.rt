@@ -28,7 +28,10 @@ pub extern "C" fn wagonplan_raw_obj_rounded(
         (objective_of (table_of count rows.now cols.now values.now) (sign_at signs.now)) }
     ensures stays { Stays result value.old value.new }
 {
-    hand_over(sign_tables::obj_rounded(m, count, rows, cols, values, signs), value)
+    hand_over(
+        sign_tables::obj_rounded(m, count, rows, cols, values, signs),
+        value,
+    )
 }
 
 #[unsafe(no_mangle)]
@@ -44,7 +47,10 @@ pub extern "C" fn wagonplan_raw_floor_eighths(
         (floor_of (table_of count rows.now cols.now values.now)) }
     ensures stays { Stays result value.old value.new }
 {
-    hand_over(sign_tables::floor_eighths(m, count, rows, cols, values), value)
+    hand_over(
+        sign_tables::floor_eighths(m, count, rows, cols, values),
+        value,
+    )
 }
 
 #[unsafe(no_mangle)]
@@ -60,7 +66,10 @@ pub extern "C" fn wagonplan_raw_entrywise_lower_bound(
         (entrywise (table_of count rows.now cols.now values.now)) }
     ensures stays { Stays result value.old value.new }
 {
-    hand_over(sign_tables::entrywise_lower_bound(m, count, rows, cols, values), value)
+    hand_over(
+        sign_tables::entrywise_lower_bound(m, count, rows, cols, values),
+        value,
+    )
 }
 
 #[unsafe(no_mangle)]
@@ -78,7 +87,10 @@ pub extern "C" fn wagonplan_raw_eval_qubo_objective(
         (cost_eighths n (value_at (table_of count rows.now cols.now values.now)) (elem_z c.now) (choice_at b.now)) }
     ensures stays { Stays result value.old value.new }
 {
-    hand_over(halls::eval_qubo_objective(n, count, rows, cols, values, c, b), value)
+    hand_over(
+        halls::eval_qubo_objective(n, count, rows, cols, values, c, b),
+        value,
+    )
 }
 
 #[unsafe(no_mangle)]
@@ -100,9 +112,10 @@ pub extern "C" fn wagonplan_raw_qubo_sign_table(
         to_rows.old to_cols.old to_values.old (by_number result entries.new) to_rows.new to_cols.new to_values.new }
     ensures stays { Stays result entries.old entries.new }
 {
-    hand_over(halls::qubo_sign_table(
-        n, count, rows, cols, values, c, to_rows, to_cols, to_values,
-    ), entries)
+    hand_over(
+        halls::qubo_sign_table(n, count, rows, cols, values, c, to_rows, to_cols, to_values),
+        entries,
+    )
 }
 
 #[unsafe(no_mangle)]

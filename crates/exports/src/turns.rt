@@ -4,6 +4,7 @@ ghost use Rattle.laws.specs.Lists.{over};
 ghost use Rattle.limits.specs.Limits.{most_runs};
 ghost use Rattle.several_runs.specs.Turn.{blank, run_at, joined};
 ghost use Rattle.exports.specs.Words.{run_words, run_in, words_of};
+ghost use Rattle.refusal.specs.Number.{numbered};
 ghost use Rattle.exports.specs.TurnWords.{hall_words, runs_in, halls_in, early_number, TurnsWords};
 
 use crate::words::{RUN_WORDS, put_run, run_in};
@@ -114,14 +115,16 @@ pub extern "C" fn wagonplan_raw_turn(
     ensures { TurnsWords sweeps run_count words.old sizes.now rows.now cols.now values.now c.now
         factors.old result words.new factors.new }
 {
-    if let Err(refusal) = early_number(sweeps, run_count, words.len(), sizes.len()) {
-        return refusal.number();
+    let judged = early_number(sweeps, run_count, words.len(), sizes.len());
+    if let Err(early) = judged {
+        return early.number();
     }
     let runs = runs_in(run_count, words);
     let halls = halls_in(run_count, sizes);
-    match turn(
+    let turned = turn(
         run_count, runs, halls, sweeps, rows, cols, values, c, factors,
-    ) {
+    );
+    match turned {
         Ok(after) => {
             put_runs(run_count, after, words);
             0

@@ -3,7 +3,7 @@
 --     reduced-run, unpinned-run    the (H, c) of the run
 --     run-fields, lifted-choice    the answer
 --     opened-run, swept-run, unswept-run, finished    open, sweep and finish of a decoded job
-use Rattle.std.specs.Prelude.{Result, Ok, Err}
+use Rattle.std.specs.Prelude.{Result, Ok}
 use Prim.Native.Nat.{ℕ, zero, suc, ◌+◌, ◌*◌, ◌≤◌, ◌<◌}
 use mathlib.Core.Path.{◌≡◌, refl, sym, ap, subst, ◌∙◌}
 use mathlib.Core.List.{List}

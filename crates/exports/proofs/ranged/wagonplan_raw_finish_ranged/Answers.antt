@@ -13,4 +13,4 @@ pub returns-in-Ok : goal.returns-in-Ok
 returns-in-Ok c = ranged_given 0 _ c.if-words-lt-RUN_WORDS.false c.if-res-lt-RANGED_WORDS.false (rw c.run_in-run.ensures at c.in-Ok.ensures) c.put_ranged.ensures
 
 pub returns-in-Err : goal.returns-in-Err
-returns-in-Err c = ranged_left _ c.if-words-lt-RUN_WORDS.false c.if-res-lt-RANGED_WORDS.false (rw c.run_in-run.ensures at c.in-Err.ensures)
+returns-in-Err c = rw c.number.ensures (ranged_left _ c.if-words-lt-RUN_WORDS.false c.if-res-lt-RANGED_WORDS.false (rw c.run_in-run.ensures at c.in-Err.ensures))

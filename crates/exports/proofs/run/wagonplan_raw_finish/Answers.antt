@@ -13,4 +13,4 @@ pub returns-in-Ok : goal.returns-in-Ok
 returns-in-Ok c = finish_made _ c.if-words-lt-RUN_WORDS.false c.if-res-lt-RESULT_WORDS.false (rw c.run_in-run.ensures at c.in-Ok.ensures) c.put_result.ensures
 
 pub returns-in-Err : goal.returns-in-Err
-returns-in-Err c = finish_left _ c.if-words-lt-RUN_WORDS.false c.if-res-lt-RESULT_WORDS.false (rw c.run_in-run.ensures at c.in-Err.ensures)
+returns-in-Err c = rw c.number.ensures (finish_left _ c.if-words-lt-RUN_WORDS.false c.if-res-lt-RESULT_WORDS.false (rw c.run_in-run.ensures at c.in-Err.ensures))

@@ -19,4 +19,4 @@ returns-in-Ok c = open_made _ c.if-settings-lt-SETTING_WORDS.false c.if-words-lt
 
 pub returns-in-Err : goal.returns-in-Err
 unfolding settings_in
-returns-in-Err c = open_left _ c.if-settings-lt-SETTING_WORDS.false c.if-words-lt-RUN_WORDS.false (rw (c.byte_in.ensures, c.double_of.ensures, c.count_in.ensures, c.count_in-2.ensures, c.double_of-2.ensures, c.double_of-3.ensures, c.byte_in-2.ensures) at c.in-Err.ensures)
+returns-in-Err c = rw c.number.ensures (open_left _ c.if-settings-lt-SETTING_WORDS.false c.if-words-lt-RUN_WORDS.false (rw (c.byte_in.ensures, c.double_of.ensures, c.count_in.ensures, c.count_in-2.ensures, c.double_of-2.ensures, c.double_of-3.ensures, c.byte_in-2.ensures) at c.in-Err.ensures))

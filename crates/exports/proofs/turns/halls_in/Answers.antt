@@ -32,9 +32,6 @@ offset_bounds-halls-i c = omega (arith, c.loop-i-test.true, c.requires.0, c.requ
 pub bounds-halls-i : goal.bounds-halls-i
 bounds-halls-i c = omega (arith, c.loop-i-test.true, c.requires.0, c.requires.1)
 
-pub overflow_add-i : goal.overflow_add-i
-overflow_add-i c = omega (arith, c.loop-i-test.true, c.requires.0, c.requires.1)
-
 pub loop-i-smaller : goal.loop-i-smaller
 loop-i-smaller c = omega (arith, c.loop-i-test.true)
 

@@ -38,9 +38,6 @@ slice_bounds-put_run-end c = omega (arith, c.loop-i-test.true, c.requires.0, c.r
 pub put_run-requires : goal.put_run-requires
 put_run-requires c = rw (length_part (run_words * c.loop-i.i) (run_words * c.loop-i.i + run_words) c.loop-i.words (omega (arith, c.loop-i-test.true, c.requires.0, c.requires.1, c.loop-i.invariant.1.long)), add-sub_cancel_left (run_words * c.loop-i.i) run_words) (omega arith)
 
-pub overflow_add-i : goal.overflow_add-i
-overflow_add-i c = omega (arith, c.loop-i-test.true, c.requires.0, c.requires.1)
-
 pub loop-i-smaller : goal.loop-i-smaller
 loop-i-smaller c = omega (arith, c.loop-i-test.true)
 
