@@ -51,7 +51,7 @@ pub extern "C" fn wagonplan_raw_open(
             put_run(run, words);
             0
         }
-        Err(refusal) => refusal.number(),
+        Err(unopened) => unopened.number(),
     }
 }
 
@@ -73,12 +73,13 @@ pub extern "C" fn wagonplan_raw_sweep(
     if words.len() < RUN_WORDS {
         return 31;
     }
-    match sweep_run(run_in(words), n, count, rows, cols, values, c, k, factor) {
-        Ok(run) => {
-            put_run(run, words);
+    let run = run_in(words);
+    match sweep_run(run, n, count, rows, cols, values, c, k, factor) {
+        Ok(after) => {
+            put_run(after, words);
             0
         }
-        Err(refusal) => refusal.number(),
+        Err(unswept) => unswept.number(),
     }
 }
 
@@ -132,6 +133,6 @@ pub extern "C" fn wagonplan_raw_finish(
             put_result(x, res);
             0
         }
-        Err(refusal) => refusal.number(),
+        Err(unfinished) => unfinished.number(),
     }
 }
