@@ -11,6 +11,7 @@ ghost use Rattle.finalize.specs.Finalize.{choice_of};
 ghost use Rattle.pinned.specs.Pinned.{Reducing};
 ghost use Rattle.block_search.specs.Blocks.{searched_held, fall_held};
 ghost use Rattle.block_search.specs.Clauses.{Low, start_signs, SearchFits};
+ghost use Rattle.tables.specs.Entries.{listed};
 
 use finalize::room;
 use limits::{MOST_ENTRIES, MOST_WAGONS};
@@ -19,6 +20,7 @@ use pinned::reduce::reduce;
 use sign_search::search::search_signs;
 use sign_table::sign_matrix::sign_matrix;
 use tables::check::wide;
+use tables::entries::Entries;
 use tables::objective::{obj_rounded, qubo_binary_from_sign_solution};
 
 // The bytes of the free wagons of b, then the anchor's, which is +.
@@ -35,10 +37,7 @@ fn start_signs(free: &[u16], b: &[u8], signs: &mut [u8])
 // The search on a sign table of f + 1 signs, from the free wagons of b; `found` takes what the answer decodes to. The fall in eighths.
 fn search_from(
     f: usize,
-    entries: usize,
-    rows: &[u16],
-    cols: &[u16],
-    values: &[i64],
+    table: Entries,
     width: usize,
     free: &[u16],
     b: &[u8],
@@ -46,17 +45,17 @@ fn search_from(
     found: &mut [u8],
     workspace: &mut [u64],
 ) -> i64
-    requires lent { Lent entries rows.now cols.now values.now × Accepted most_signs most_sign_entries most_sign_magnitude (suc f) (table_of entries rows.now cols.now values.now) }
+    requires lent { Accepted most_signs most_sign_entries most_sign_magnitude (suc f) (listed table) }
     requires search_fits { SearchFits f width free.now b.now (length found.old) (length workspace.old) × (length signs.old ≡ suc f) }
-    ensures { (result ≡ objective_in (table_of entries rows.now cols.now values.now) (start_signs free.now b.now)
-        -ℤ objective_in (table_of entries rows.now cols.now values.now)
-        (beam_search (table_of entries rows.now cols.now values.now) width (start_signs free.now b.now)).answer)
-        × (found.new ≡ over (choice_of f (beam_search (table_of entries rows.now cols.now values.now) width (start_signs free.now b.now)).answer)
+    ensures { (result ≡ objective_in (listed table.entry) (start_signs free.now b.now)
+        -ℤ objective_in (listed table.entry)
+        (beam_search (listed table.entry) width (start_signs free.now b.now)).answer)
+        × (found.new ≡ over (choice_of f (beam_search (listed table.entry) width (start_signs free.now b.now)).answer)
         found.old) }
 {
     start_signs(free, b, signs);
-    let start = obj_rounded(entries, rows, cols, values, signs);
-    let searched = search_signs(entries, rows, cols, values, width, signs, workspace);
+    let start = obj_rounded(table, signs);
+    let searched = search_signs(table, width, signs, workspace);
     qubo_binary_from_sign_solution(f, signs, found);
     start - searched.least
 }
@@ -64,10 +63,7 @@ fn search_from(
 // The same on (H, c) of f wagons, whose sign table is made.
 fn search_reduced(
     f: usize,
-    count: usize,
-    rows: &[u16],
-    cols: &[u16],
-    values: &[i64],
+    table: Entries,
     c: &[i64],
     width: usize,
     free: &[u16],
@@ -75,13 +71,12 @@ fn search_reduced(
     found: &mut [u8],
     workspace: &mut [u64],
 ) -> i64
-    requires lent { Lent count rows.now cols.now values.now
-        × (f ≤ length c.now) × Hall most_wagons most_entries most_magnitude f (table_of count rows.now cols.now values.now) (elem_z c.now) }
+    requires lent { (f ≤ length c.now) × Hall most_wagons most_entries most_magnitude f (listed table) (elem_z c.now) }
     requires search_fits { SearchFits f width free.now b.now (length found.old) (length workspace.old) }
-    ensures { (result ≡ objective_in (sign_table f (table_of count rows.now cols.now values.now) (elem_z c.now)) (start_signs free.now b.now)
-        -ℤ objective_in (sign_table f (table_of count rows.now cols.now values.now) (elem_z c.now))
-        (beam_search (sign_table f (table_of count rows.now cols.now values.now) (elem_z c.now)) width (start_signs free.now b.now)).answer)
-        × (found.new ≡ over (choice_of f (beam_search (sign_table f (table_of count rows.now cols.now values.now) (elem_z c.now)) width
+    ensures { (result ≡ objective_in (sign_table f (listed table.entry) (elem_z c.now)) (start_signs free.now b.now)
+        -ℤ objective_in (sign_table f (listed table.entry) (elem_z c.now))
+        (beam_search (sign_table f (listed table.entry) (elem_z c.now)) width (start_signs free.now b.now)).answer)
+        × (found.new ≡ over (choice_of f (beam_search (sign_table f (listed table.entry) (elem_z c.now)) width
         (start_signs free.now b.now)).answer) found.old) }
 {
     let mut sign_rows = room::indices();
@@ -90,10 +85,10 @@ fn search_reduced(
     let mut signs = room::signs();
     let entries = sign_matrix(
         f,
-        count,
-        rows,
-        cols,
-        values,
+        table.count,
+        table.rows,
+        table.cols,
+        table.values,
         c,
         &mut sign_rows,
         &mut sign_cols,
@@ -102,10 +97,12 @@ fn search_reduced(
     let m = f + 1;
     search_from(
         f,
-        entries,
-        &sign_rows[..entries],
-        &sign_cols[..entries],
-        &sign_values[..entries],
+        Entries {
+            count: entries,
+            rows: &sign_rows[..entries],
+            cols: &sign_cols[..entries],
+            values: &sign_values[..entries],
+        },
         width,
         free,
         b,
@@ -157,10 +154,12 @@ pub fn search_held(
     let entries = shrunk.count;
     let fall = search_reduced(
         wagons,
-        entries,
-        &to_rows[..entries],
-        &to_cols[..entries],
-        &to_values[..entries],
+        Entries {
+            count: entries,
+            rows: &to_rows[..entries],
+            cols: &to_cols[..entries],
+            values: &to_values[..entries],
+        },
         &to_c[..wagons],
         width,
         &free[..wagons],

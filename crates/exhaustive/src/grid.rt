@@ -6,9 +6,11 @@ ghost use Rattle.laws.specs.Lists.{elem_z};
 ghost use Rattle.limits.specs.Limits.{most_magnitude, most_walked};
 ghost use Rattle.tables.specs.Table.{table_of, Lent, InRange, magnitude_of};
 ghost use Rattle.exhaustive.specs.Walk.{LaidOut, Small, raised_field, Raised, Raisable, start_field, Starts};
+ghost use Rattle.tables.specs.Entries.{listed};
 
 use limits::MOST_WALKED;
 use tables::check::wide;
+use tables::entries::Entries;
 
 // The square's places, row by row.
 pub const PLACES: usize = MOST_WALKED * MOST_WALKED;
@@ -23,15 +25,14 @@ fn add_at(i: usize, j: usize, value: i64, grid: &mut [i64; PLACES])
 }
 
 // Lays the entries out over zeros.
-pub fn lay_out(count: usize, rows: &[u16], cols: &[u16], values: &[i64], grid: &mut [i64; PLACES])
-    requires { Lent count rows.now cols.now values.now × InRange most_walked (table_of count rows.now cols.now values.now)
-        × (magnitude_of (table_of count rows.now cols.now values.now) ≤ most_magnitude) × (grid.old ≡ replicate (most_walked * most_walked) (pos 0)) }
-    ensures { LaidOut (table_of count rows.now cols.now values.now) grid.new }
+pub fn lay_out(table: Entries, grid: &mut [i64; PLACES])
+    requires { InRange most_walked (listed table) × (magnitude_of (listed table) ≤ most_magnitude) × (grid.old ≡ replicate (most_walked * most_walked) (pos 0)) }
+    ensures { LaidOut (listed table.entry) grid.new }
 {
-    for k in 0..count {
-        let i = wide(rows[k]);
-        let j = wide(cols[k]);
-        add_at(i, j, values[k], grid);
+    for k in 0..table.count {
+        let i = wide(table.rows[k]);
+        let j = wide(table.cols[k]);
+        add_at(i, j, table.values[k], grid);
     }
 }
 

@@ -7,9 +7,11 @@ ghost use Rattle.tables.specs.Table.{table_of, Lent};
 ghost use Rattle.tables.specs.Check.{Hall};
 ghost use Rattle.exhaustive.specs.Choices.{digits_of, walk_cost, least_number};
 ghost use Rattle.exhaustive.specs.Walk.{Standing, Walked-on};
+ghost use Rattle.tables.specs.Entries.{listed};
 
 use crate::grid::{PLACES, lay_out, raise, start_fields};
 use limits::MOST_WALKED;
+use tables::entries::Entries;
 
 // The least cost so far, whose choice it is, and how many choices were visited.
 #[derive(Drop)]
@@ -84,22 +86,14 @@ fn put_digits(n: usize, k: u64, b: &mut [u8])
 }
 
 // The first choice of least cost, which goes to b.
-pub fn least_of(
-    n: usize,
-    count: usize,
-    rows: &[u16],
-    cols: &[u16],
-    values: &[i64],
-    c: &[i64],
-    b: &mut [u8],
-) -> Kept
-    requires { Lent count rows.now cols.now values.now × (n ≤ length c.now) × (n ≤ length b.old) × (n ≤ most_walked) × Hall most_wagons most_entries most_magnitude n (table_of count rows.now cols.now values.now) (elem_z c.now) }
-    ensures found { (result.least ≡ walk_cost n (table_of count rows.now cols.now values.now) (elem_z c.now) (least_number n (table_of count rows.now cols.now values.now) (elem_z c.now)))
+pub fn least_of(n: usize, table: Entries, c: &[i64], b: &mut [u8]) -> Kept
+    requires { (n ≤ length c.now) × (n ≤ length b.old) × (n ≤ most_walked) × Hall most_wagons most_entries most_magnitude n (listed table) (elem_z c.now) }
+    ensures found { (result.least ≡ walk_cost n (listed table.entry) (elem_z c.now) (least_number n (listed table.entry) (elem_z c.now)))
         × (result.visited ≡ 2 ^ n) }
-    ensures choice { b.new ≡ over (digits_of n (least_number n (table_of count rows.now cols.now values.now) (elem_z c.now))) b.old }
+    ensures choice { b.new ≡ over (digits_of n (least_number n (listed table.entry) (elem_z c.now))) b.old }
 {
     let mut grid = [0i64; PLACES];
-    lay_out(count, rows, cols, values, &mut grid);
+    lay_out(table, &mut grid);
     let mut fields = [0i64; MOST_WALKED];
     start_fields(n, &grid, c, &mut fields);
     let found = walk(

@@ -16,11 +16,13 @@ ghost use Rattle.maxcut_oracle.specs.Whole.{whole_multipliers};
 ghost use Rattle.factor_calls.specs.Numbers.{rounded_number, dual_number, divided_number};
 ghost use Rattle.factor_calls.specs.Equation8.{divided_multipliers, multipliers_by};
 ghost use Rattle.factor_calls.specs.Answers.{RoundsFactor, Multiplies};
+ghost use Rattle.tables.specs.Entries.{listed};
 
 use limits::{MOST_RANK, MOST_SIGNS};
 use numbers::{divided_number, dual_number, rounded_number};
 use refusal::Refusal;
 use run_limits::rank_meant;
+use tables::entries::Entries;
 use whole::whole_multipliers;
 
 // Room for a direction, or for a row's sums.
@@ -40,30 +42,23 @@ fn signs_room() -> [u8; MOST_SIGNS]
 // The rounding of accepted arguments, with room for a draw's direction and its signs.
 fn round(
     m: usize,
-    count: usize,
-    rows: &[u16],
-    cols: &[u16],
-    values: &[i64],
+    table: Entries,
     rank: usize,
     factor: &[f64],
     draw_count: usize,
     draws: &[f64],
     out: &mut [u8],
 ) -> i64
-    requires lent { Lent count rows.now cols.now values.now × InRange m (table_of count rows.now cols.now values.now)
-        × (magnitude_of (table_of count rows.now cols.now values.now) ≤ most_sign_magnitude) }
+    requires lent { InRange m (listed table) × (magnitude_of (listed table) ≤ most_sign_magnitude) }
     requires rank_in_bounds { (m * rank ≤ length factor.now) × (draw_count * rank ≤ length draws.now) × (1 ≤ draw_count) × (m ≤ length out.old) × (m ≤ most_signs) × (rank ≤ most_rank) }
-    ensures value { result ≡ rounded_objective factor.now rank m draws.now (table_of count rows.now cols.now values.now) draw_count }
+    ensures value { result ≡ rounded_objective factor.now rank m draws.now (listed table.entry) draw_count }
     ensures out_after { out.new ≡ over (rounded_sol factor.now rank m draws.now
-        (table_of count rows.now cols.now values.now) draw_count) out.old }
+        (listed table.entry) draw_count) out.old }
 {
     let mut direction = direction_room();
     let mut signs = signs_room();
     rounding::compute_rounded_sol(
-        count,
-        rows,
-        cols,
-        values,
+        table,
         factor,
         rank,
         m,
@@ -108,35 +103,33 @@ pub fn compute_rounded_sol(
     )?;
     let meant = rank_meant(m, rank);
     let objective = round(
-        m, count, rows, cols, values, meant, factor, draw_count, draws, out,
+        m,
+        Entries {
+            count,
+            rows,
+            cols,
+            values,
+        },
+        meant,
+        factor,
+        draw_count,
+        draws,
+        out,
     );
     Ok(objective)
 }
 
 // The multipliers of accepted arguments, divided or not, with room for a row's sums.
-fn multiply(
-    divided: bool,
-    m: usize,
-    count: usize,
-    rows: &[u16],
-    cols: &[u16],
-    values: &[i64],
-    rank: usize,
-    factor: &[f64],
-    out: &mut [f64],
-)
-    requires lent { Lent count rows.now cols.now values.now × InRange m (table_of count rows.now cols.now values.now) × Rising (table_of count rows.now cols.now values.now) }
+fn multiply(divided: bool, m: usize, table: Entries, rank: usize, factor: &[f64], out: &mut [f64])
+    requires lent { InRange m (listed table) × Rising (listed table) }
     requires rank_in_bounds { (m * rank ≤ length factor.now) × (m ≤ length out.old) × (rank ≤ most_rank) }
-    ensures { out.new ≡ over (multipliers_by divided (table_of count rows.now cols.now values.now) m rank factor.now) out.old }
+    ensures { out.new ≡ over (multipliers_by divided (listed table.entry) m rank factor.now) out.old }
 {
     let mut sums = direction_room();
     whole_multipliers(
         divided,
         m,
-        count,
-        rows,
-        cols,
-        values,
+        table,
         rank,
         factor,
         &mut sums[..rank],
@@ -163,7 +156,19 @@ pub fn dual_variables(
 {
     dual_number(m, count, rows, cols, values, rank, factor.len(), out.len())?;
     let meant = rank_meant(m, rank);
-    multiply(false, m, count, rows, cols, values, meant, factor, out);
+    multiply(
+        false,
+        m,
+        Entries {
+            count,
+            rows,
+            cols,
+            values,
+        },
+        meant,
+        factor,
+        out,
+    );
     Ok(())
 }
 
@@ -185,6 +190,18 @@ pub fn dual_variables_divided(
         out.old (numbered result) out.new }
 {
     divided_number(m, count, rows, cols, values, rank, factor.len(), out.len())?;
-    multiply(true, m, count, rows, cols, values, rank, factor, out);
+    multiply(
+        true,
+        m,
+        Entries {
+            count,
+            rows,
+            cols,
+            values,
+        },
+        rank,
+        factor,
+        out,
+    );
     Ok(())
 }

@@ -11,10 +11,12 @@ ghost use Rattle.factor.specs.Vectors.{add_scaled};
 ghost use Rattle.factor.specs.Norms.{dot_of};
 ghost use Rattle.maxcut_oracle.specs.Whole.{whole_row};
 ghost use Rattle.factor_calls.specs.Equation8.{value_of, multipliers_by};
+ghost use Rattle.tables.specs.Entries.{listed};
 
 use factor::rows::{add_scaled, clear, row};
 use factor::sums::dot;
 use tables::check::wide;
+use tables::entries::Entries;
 
 // Whether entry e is there, in row i.
 fn in_row(count: usize, rows: &[u16], i: usize, e: usize) -> bool
@@ -38,27 +40,24 @@ fn take_entry(j: usize, value: i64, factor: &[f64], rank: usize, sums: &mut [f64
 // Row i of the table, whose entries start at `from`, times the factor; the result is where those of row i + 1 start.
 fn whole_row(
     m: usize,
-    count: usize,
-    rows: &[u16],
-    cols: &[u16],
-    values: &[i64],
+    table: Entries,
     rank: usize,
     factor: &[f64],
     i: usize,
     from: usize,
     sums: &mut [f64],
 ) -> usize
-    requires lent { Lent count rows.now cols.now values.now × InRange m (table_of count rows.now cols.now values.now) }
-    requires rising { Rising (table_of count rows.now cols.now values.now) × At (table_of count rows.now cols.now values.now) from i 0 }
+    requires lent { InRange m (listed table) }
+    requires rising { Rising (listed table) × At (listed table) from i 0 }
     requires rank_in_bounds { (m * rank ≤ length factor.now) × (length sums.old ≡ rank) }
-    ensures sums_after { sums.new ≡ whole_row (table_of count rows.now cols.now values.now) rank factor.now i }
-    ensures at { At (table_of count rows.now cols.now values.now) result (i + 1) 0 }
+    ensures sums_after { sums.new ≡ whole_row (listed table.entry) rank factor.now i }
+    ensures at { At (listed table.entry) result (i + 1) 0 }
 {
     clear(sums);
     let mut e = from;
     // the end is found by the entries
-    while in_row(count, rows, i, e) {
-        take_entry(wide(cols[e]), values[e], factor, rank, sums);
+    while in_row(table.count, table.rows, i, e) {
+        take_entry(wide(table.cols[e]), table.values[e], factor, rank, sums);
         e += 1;
     }
     e
@@ -95,22 +94,19 @@ fn value_of(divided: bool, sums: &[f64], v: &[f64]) -> f64
 pub fn whole_multipliers(
     divided: bool,
     m: usize,
-    count: usize,
-    rows: &[u16],
-    cols: &[u16],
-    values: &[i64],
+    table: Entries,
     rank: usize,
     factor: &[f64],
     sums: &mut [f64],
     dual: &mut [f64],
 )
-    requires lent { Lent count rows.now cols.now values.now × InRange m (table_of count rows.now cols.now values.now) × Rising (table_of count rows.now cols.now values.now) }
+    requires lent { InRange m (listed table) × Rising (listed table) }
     requires rank_in_bounds { (m * rank ≤ length factor.now) × (length sums.old ≡ rank) × (length dual.old ≡ m) }
-    ensures { dual.new ≡ multipliers_by divided (table_of count rows.now cols.now values.now) m rank factor.now }
+    ensures { dual.new ≡ multipliers_by divided (listed table.entry) m rank factor.now }
 {
     let mut from = 0;
     for i in 0..m {
-        from = whole_row(m, count, rows, cols, values, rank, factor, i, from, sums);
+        from = whole_row(m, table, rank, factor, i, from, sums);
         dual[i] = value_of(divided, sums, row(factor, rank, i));
     }
 }

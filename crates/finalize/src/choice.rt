@@ -4,10 +4,12 @@ ghost use Rattle.tables.specs.Table.{table_of, Lent};
 ghost use Rattle.tables.specs.Check.{Accepted};
 ghost use Rattle.limits.specs.Limits.{most_signs, most_sign_entries, most_sign_magnitude, most_rank};
 ghost use Rattle.finalize.specs.Clauses.{ChoiceFits, Chooses};
+ghost use Rattle.tables.specs.Entries.{listed};
 
 use super::room;
 use rounding::compute_rounded_sol;
 use sign_search::search::search_signs;
+use tables::entries::Entries;
 use tables::objective::qubo_binary_from_sign_solution;
 
 // The cost of the rounded choice, that of the search's answer, and the rounds.
@@ -21,10 +23,7 @@ pub struct Chosen {
 // `choose`, with room for a direction of rank numbers and twice n + 1 signs.
 fn search_from(
     n: usize,
-    entries: usize,
-    rows: &[u16],
-    cols: &[u16],
-    values: &[i64],
+    table: Entries,
     rank: usize,
     width: usize,
     draw_count: usize,
@@ -36,17 +35,14 @@ fn search_from(
     b: &mut [u8],
     workspace: &mut [u64],
 ) -> Chosen
-    requires lent { Lent entries rows.now cols.now values.now × Accepted most_signs most_sign_entries most_sign_magnitude (suc n) (table_of entries rows.now cols.now values.now) }
+    requires lent { Accepted most_signs most_sign_entries most_sign_magnitude (suc n) (listed table) }
     requires choice_fits { ChoiceFits n rank width draw_count (length draws.now) (length factor.now) (length b.old) (length workspace.old)
         × (length direction.old ≡ rank) × (length signs.old ≡ suc n) × (length best.old ≡ suc n) }
-    ensures { Chooses (table_of entries rows.now cols.now values.now) n rank width draw_count draws.now
+    ensures { Chooses (listed table.entry) n rank width draw_count draws.now
         factor.now b.old b.new result.rounded_cost result.cost result.rounds }
 {
     let rounded_cost = compute_rounded_sol(
-        entries,
-        rows,
-        cols,
-        values,
+        table,
         factor,
         rank,
         n + 1,
@@ -56,7 +52,7 @@ fn search_from(
         signs,
         best,
     );
-    let found = search_signs(entries, rows, cols, values, width, best, workspace);
+    let found = search_signs(table, width, best, workspace);
     qubo_binary_from_sign_solution(n, best, b);
     Chosen {
         rounded_cost,
@@ -68,10 +64,7 @@ fn search_from(
 // The rounded choice of the factor's n + 1 rows, and the search from it on their sign table; b takes the choice found.
 pub fn choose(
     n: usize,
-    entries: usize,
-    rows: &[u16],
-    cols: &[u16],
-    values: &[i64],
+    table: Entries,
     rank: usize,
     width: usize,
     draw_count: usize,
@@ -80,9 +73,9 @@ pub fn choose(
     b: &mut [u8],
     workspace: &mut [u64],
 ) -> Chosen
-    requires lent { Lent entries rows.now cols.now values.now × Accepted most_signs most_sign_entries most_sign_magnitude (suc n) (table_of entries rows.now cols.now values.now) }
+    requires lent { Accepted most_signs most_sign_entries most_sign_magnitude (suc n) (listed table) }
     requires choice_fits { ChoiceFits n rank width draw_count (length draws.now) (length factor.now) (length b.old) (length workspace.old) × (rank ≤ most_rank) }
-    ensures { Chooses (table_of entries rows.now cols.now values.now) n rank width draw_count draws.now
+    ensures { Chooses (listed table.entry) n rank width draw_count draws.now
         factor.now b.old b.new result.rounded_cost result.cost result.rounds }
 {
     let mut direction = room::direction();
@@ -91,10 +84,7 @@ pub fn choose(
     let m = n + 1;
     search_from(
         n,
-        entries,
-        rows,
-        cols,
-        values,
+        table,
         rank,
         width,
         draw_count,

@@ -12,12 +12,14 @@ ghost use Rattle.tables.specs.Table.{table_of, Lent};
 ghost use Rattle.tables.specs.Check.{Hall, Accepted};
 ghost use Rattle.limits.specs.Limits.{most_wagons, most_entries, most_magnitude, most_signs, most_sign_entries, most_sign_magnitude};
 ghost use Rattle.finalize.specs.Clauses.{Fits, Works, Finalizes};
+ghost use Rattle.tables.specs.Entries.{listed};
 
 use choice::choose;
 use multipliers::multipliers;
 use room::{eighths, indices};
 use sign_table::sign_matrix::sign_matrix;
 use tables::bound::entrywise_lower_bound;
+use tables::entries::Entries;
 use tables::objective::floor_eighths;
 
 // The figures of a finish; the choice and the multipliers are in the slices lent for them. Floor and costs are in eighths.
@@ -34,10 +36,7 @@ pub struct Figures {
 // The finish on the sign table of n wagons, from a factor of n + 1 rows.
 fn finalize_signs(
     n: usize,
-    entries: usize,
-    rows: &[u16],
-    cols: &[u16],
-    values: &[i64],
+    table: Entries,
     rank: usize,
     width: usize,
     draw_count: usize,
@@ -47,26 +46,31 @@ fn finalize_signs(
     dual_variables: &mut [f64],
     workspace: &mut [u64],
 ) -> Figures
-    requires lent { Lent entries rows.now cols.now values.now × Accepted most_signs most_sign_entries most_sign_magnitude (suc n) (table_of entries rows.now cols.now values.now) }
+    requires lent { Accepted most_signs most_sign_entries most_sign_magnitude (suc n) (listed table) }
     requires fits { Fits n rank width draw_count (length draws.now) (length factor.now) (length b.old) (length dual_variables.old) (length workspace.old)
         × (length factor.now ≡ suc n * rank) }
-    ensures { Works (table_of entries rows.now cols.now values.now) n rank width draw_count draws.now factor.now
+    ensures { Works (listed table.entry) n rank width draw_count draws.now factor.now
         b.old b.new dual_variables.old dual_variables.new result.diagonal_sum result.float_bound result.floor result.rounded_cost result.cost result.rounds }
 {
-    let floor = floor_eighths(entries, rows, cols, values);
-    let float_bound = entrywise_lower_bound(entries, rows, cols, values);
+    let floor = floor_eighths(table);
+    let float_bound = entrywise_lower_bound(table);
     let diagonal_sum = multipliers(
         n + 1,
-        entries,
-        rows,
-        cols,
-        values,
+        table,
         rank,
         factor,
         dual_variables,
     );
     let chosen = choose(
-        n, entries, rows, cols, values, rank, width, draw_count, draws, factor, b, workspace,
+        n,
+        table,
+        rank,
+        width,
+        draw_count,
+        draws,
+        factor,
+        b,
+        workspace,
     );
     Figures {
         diagonal_sum,
@@ -81,10 +85,7 @@ fn finalize_signs(
 // The finish on (H, c) of n wagons, from the factor's first n + 1 rows; b takes the choice, `dual_variables` the multipliers.
 pub fn finalize(
     n: usize,
-    count: usize,
-    rows: &[u16],
-    cols: &[u16],
-    values: &[i64],
+    table: Entries,
     c: &[i64],
     rank: usize,
     width: usize,
@@ -95,10 +96,9 @@ pub fn finalize(
     dual_variables: &mut [f64],
     workspace: &mut [u64],
 ) -> Figures
-    requires lent { Lent count rows.now cols.now values.now
-        × (n ≤ length c.now) × Hall most_wagons most_entries most_magnitude n (table_of count rows.now cols.now values.now) (elem_z c.now) }
+    requires lent { (n ≤ length c.now) × Hall most_wagons most_entries most_magnitude n (listed table) (elem_z c.now) }
     requires fits { Fits n rank width draw_count (length draws.now) (length factor.now) (length b.old) (length dual_variables.old) (length workspace.old) }
-    ensures { Finalizes n (table_of count rows.now cols.now values.now) (elem_z c.now) rank width draw_count
+    ensures { Finalizes n (listed table.entry) (elem_z c.now) rank width draw_count
         draws.now (take (suc n * rank) factor.now) b.old b.new dual_variables.old dual_variables.new result.diagonal_sum result.float_bound result.floor result.rounded_cost result.cost result.rounds }
 {
     let mut sign_rows = indices();
@@ -106,10 +106,10 @@ pub fn finalize(
     let mut sign_values = eighths();
     let entries = sign_matrix(
         n,
-        count,
-        rows,
-        cols,
-        values,
+        table.count,
+        table.rows,
+        table.cols,
+        table.values,
         c,
         &mut sign_rows,
         &mut sign_cols,
@@ -118,10 +118,12 @@ pub fn finalize(
     let size = (n + 1) * rank;
     finalize_signs(
         n,
-        entries,
-        &sign_rows[..entries],
-        &sign_cols[..entries],
-        &sign_values[..entries],
+        Entries {
+            count: entries,
+            rows: &sign_rows[..entries],
+            cols: &sign_cols[..entries],
+            values: &sign_values[..entries],
+        },
         rank,
         width,
         draw_count,

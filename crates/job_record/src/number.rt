@@ -19,6 +19,7 @@ use crate::versions::{is_known, most_wagons_of};
 use limits::{MOST_BYTES, MOST_ENTRIES, MOST_MAGNITUDE};
 use refusal::Refusal;
 use tables::check::{bad_order, hall_too_large};
+use tables::entries::Entries;
 use tables::mirror::unmirrored;
 
 // The length of the rest, in a record of `len` bytes.
@@ -91,7 +92,12 @@ fn entries_number(
     if whole < count {
         return Err(Refusal::Frame);
     }
-    if unmirrored(count, rows, cols, values) {
+    if unmirrored(Entries {
+        count,
+        rows,
+        cols,
+        values,
+    }) {
         return Err(Refusal::Mirror);
     }
     Ok(())

@@ -11,6 +11,7 @@ use crate::check::limited_number;
 use crate::search::search_limited;
 use limits::SEARCH_WORKSPACE;
 use refusal::Refusal;
+use tables::entries::Entries;
 
 // Searches from the first n bytes of `present` by single wagons, over choices in which at most k wagons stand in another store than there; the anchor
 // stays. `choice` takes the choice found, a byte 0 or 1 for each wagon; the answer is its cost in eighths and the rounds. The workspace holds a level: 1,024 words at least; a longer one keeps its tail.
@@ -45,10 +46,12 @@ pub fn limited_search(
     )?;
     let found = search_limited(
         n,
-        count,
-        rows,
-        cols,
-        values,
+        Entries {
+            count,
+            rows,
+            cols,
+            values,
+        },
         c,
         present,
         k,

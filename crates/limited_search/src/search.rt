@@ -6,10 +6,12 @@ ghost use Rattle.tables.specs.Table.{table_of, Lent};
 ghost use Rattle.tables.specs.Check.{Hall, Accepted};
 ghost use Rattle.sign_table.specs.SignTable.{sign_table};
 ghost use Rattle.limited_search.specs.Search.{present_signs, SearchFits, Leaves};
+ghost use Rattle.tables.specs.Entries.{listed};
 
 use finalize::room;
 use sign_search::search::{Searched, search_within};
 use sign_table::sign_matrix::sign_matrix;
+use tables::entries::Entries;
 use tables::objective::qubo_binary_from_sign_solution;
 
 // The first n bytes of the present choice, then the anchor's, which is +.
@@ -24,10 +26,7 @@ fn start_signs(n: usize, present: &[u8], signs: &mut [u8])
 // The search on a sign table of n + 1 signs; `found` takes what the answer decodes to.
 fn search_from(
     n: usize,
-    entries: usize,
-    rows: &[u16],
-    cols: &[u16],
-    values: &[i64],
+    table: Entries,
     present: &[u8],
     k: usize,
     width: usize,
@@ -35,14 +34,12 @@ fn search_from(
     found: &mut [u8],
     workspace: &mut [u64],
 ) -> Searched
-    requires { Lent entries rows.now cols.now values.now
-        × Accepted most_signs most_sign_entries most_sign_magnitude (suc n) (table_of entries rows.now cols.now values.now)
-        × SearchFits n present.now width (length found.old) (length workspace.old) × (length signs.old ≡ suc n) }
-    ensures { Leaves (table_of entries rows.now cols.now values.now) n present.now k width found.old found.new
+    requires { Accepted most_signs most_sign_entries most_sign_magnitude (suc n) (listed table) × SearchFits n present.now width (length found.old) (length workspace.old) × (length signs.old ≡ suc n) }
+    ensures { Leaves (listed table.entry) n present.now k width found.old found.new
         result.least result.rounds }
 {
     start_signs(n, present, signs);
-    let searched = search_within(entries, rows, cols, values, width, signs, workspace, n, k);
+    let searched = search_within(table, width, signs, workspace, n, k);
     qubo_binary_from_sign_solution(n, signs, found);
     searched
 }
@@ -50,10 +47,7 @@ fn search_from(
 // The same on (H, c), whose sign table is made.
 pub fn search_limited(
     n: usize,
-    count: usize,
-    rows: &[u16],
-    cols: &[u16],
-    values: &[i64],
+    table: Entries,
     c: &[i64],
     present: &[u8],
     k: usize,
@@ -61,10 +55,8 @@ pub fn search_limited(
     found: &mut [u8],
     workspace: &mut [u64],
 ) -> Searched
-    requires { Lent count rows.now cols.now values.now
-        × (n ≤ length c.now) × Hall most_wagons most_entries most_magnitude n (table_of count rows.now cols.now values.now) (elem_z c.now)
-        × SearchFits n present.now width (length found.old) (length workspace.old) }
-    ensures { Leaves (sign_table n (table_of count rows.now cols.now values.now) (elem_z c.now)) n present.now k width
+    requires { (n ≤ length c.now) × Hall most_wagons most_entries most_magnitude n (listed table) (elem_z c.now) × SearchFits n present.now width (length found.old) (length workspace.old) }
+    ensures { Leaves (sign_table n (listed table.entry) (elem_z c.now)) n present.now k width
         found.old found.new result.least result.rounds }
 {
     let mut sign_rows = room::indices();
@@ -73,10 +65,10 @@ pub fn search_limited(
     let mut signs = room::signs();
     let entries = sign_matrix(
         n,
-        count,
-        rows,
-        cols,
-        values,
+        table.count,
+        table.rows,
+        table.cols,
+        table.values,
         c,
         &mut sign_rows,
         &mut sign_cols,
@@ -85,10 +77,12 @@ pub fn search_limited(
     let m = n + 1;
     search_from(
         n,
-        entries,
-        &sign_rows[..entries],
-        &sign_cols[..entries],
-        &sign_values[..entries],
+        Entries {
+            count: entries,
+            rows: &sign_rows[..entries],
+            cols: &sign_cols[..entries],
+            values: &sign_values[..entries],
+        },
         present,
         k,
         width,

@@ -6,9 +6,11 @@ ghost use Rattle.tables.specs.Table.{table_of, Lent, InRange};
 ghost use Rattle.tables.specs.Stored.{Room};
 ghost use Rattle.limits.specs.Limits.{most_wagons};
 ghost use Rattle.pinned.specs.Pinned.{is_free, place_of, free_entry, LastFree, Put, Renumbered};
+ghost use Rattle.tables.specs.Entries.{listed};
 
 use limits::MOST_WAGONS;
 use tables::check::wide;
+use tables::entries::Entries;
 
 // The place of a wagon that is held. No `Option`: a list of those is twice as long, and each place goes into a slice of plain indices.
 const HELD: u16 = MOST_WAGONS as u16;
@@ -112,25 +114,29 @@ fn put_entry(
 
 // The free entries; how many they are. The walk ends with the last of them, so that nothing is written behind.
 pub fn free_entries(
-    count: usize,
-    rows: &[u16],
-    cols: &[u16],
-    values: &[i64],
+    table: Entries,
     places: &[u16; MOST_WAGONS],
     to_rows: &mut [u16],
     to_cols: &mut [u16],
     to_values: &mut [i64],
 ) -> usize
-    requires { Lent count rows.now cols.now values.now × InRange most_wagons (table_of count rows.now cols.now values.now) × (count < 65536)
-        × Room 0 count to_rows.old to_cols.old to_values.old }
-    ensures { Renumbered places.now (table_of count rows.now cols.now values.now)
+    requires { InRange most_wagons (listed table) × (table.count < 65536) × Room 0 table.count to_rows.old to_cols.old to_values.old }
+    ensures { Renumbered places.now (listed table.entry)
         to_rows.old to_cols.old to_values.old to_rows.new to_cols.new to_values.new result }
 {
-    let end = free_end(count, rows, cols, places);
+    let end = free_end(table.count, table.rows, table.cols, places);
     let mut at = 0;
     for l in 0..end {
         at = put_entry(
-            rows, cols, values, places, l, to_rows, to_cols, to_values, at,
+            table.rows,
+            table.cols,
+            table.values,
+            places,
+            l,
+            to_rows,
+            to_cols,
+            to_values,
+            at,
         );
     }
     at

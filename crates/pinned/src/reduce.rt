@@ -10,10 +10,12 @@ ghost use Rattle.tables.specs.Stored.{Room};
 ghost use Rattle.tables.specs.Cost.{bit, choice_at};
 ghost use Rattle.limits.specs.Limits.{most_wagons, most_magnitude};
 ghost use Rattle.pinned.specs.Pinned.{is_free, free_of, held_byte, Reducing, Shrinks, beside_term, held_term, BesideFits};
+ghost use Rattle.tables.specs.Entries.{listed};
 
 use crate::entries::{free_entries, free_places};
 use limits::MOST_WAGONS;
 use tables::check::wide;
+use tables::entries::Entries;
 
 // The states are bytes that a job has as they stand: 0 and 1 are stores, any other is free. They stay bytes and become no enum.
 
@@ -98,21 +100,14 @@ fn entry_term(cols: &[u16], values: &[i64], held: &[u8; MOST_WAGONS], l: usize) 
 }
 
 // What the held wagons add to the linear cost of each wagon, by one walk over the entries.
-fn beside_sums(
-    count: usize,
-    rows: &[u16],
-    cols: &[u16],
-    values: &[i64],
-    held: &[u8; MOST_WAGONS],
-) -> [i64; MOST_WAGONS]
-    requires { Lent count rows.now cols.now values.now × InRange most_wagons (table_of count rows.now cols.now values.now)
-        × (magnitude_of (table_of count rows.now cols.now values.now) ≤ most_magnitude) }
-    ensures { result ≡ tabulate (λ i. sum count (beside_term (table_of count rows.now cols.now values.now) (choice_at held.now) i)) most_wagons }
+fn beside_sums(table: Entries, held: &[u8; MOST_WAGONS]) -> [i64; MOST_WAGONS]
+    requires { InRange most_wagons (listed table) × (magnitude_of (listed table) ≤ most_magnitude) }
+    ensures { result ≡ tabulate (λ i. sum table.entry.count (beside_term (listed table.entry) (choice_at held.now) i)) most_wagons }
 {
     let mut sums = [0i64; MOST_WAGONS];
-    for l in 0..count {
-        let i = wide(rows[l]);
-        sums[i] += entry_term(cols, values, held, l);
+    for l in 0..table.count {
+        let i = wide(table.rows[l]);
+        sums[i] += entry_term(table.cols, table.values, held, l);
     }
     sums
 }
@@ -182,12 +177,29 @@ fn reduce_to(
 {
     let held = held_choice(n, states);
     // H is its own mirror image. Read by columns, the entries of a row all ask for the store of one wagon, so that the branch is easily guessed.
-    let sums = beside_sums(count, cols, rows, values, &held);
+    let sums = beside_sums(
+        Entries {
+            count,
+            rows: cols,
+            cols: rows,
+            values,
+        },
+        &held,
+    );
     let constant = held_cost(n, c, &sums, &held);
     put_costs(c, &sums, free, to_c);
     let places = free_places(n, states);
     let entries = free_entries(
-        count, rows, cols, values, &places, to_rows, to_cols, to_values,
+        Entries {
+            count,
+            rows,
+            cols,
+            values,
+        },
+        &places,
+        to_rows,
+        to_cols,
+        to_values,
     );
     Costs {
         count: entries,

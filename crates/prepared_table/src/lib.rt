@@ -6,10 +6,12 @@ ghost use Rattle.laws.specs.Lists.{elem, elem_z, over, put_if, next_if, kept};
 ghost use Rattle.ieee.specs.Floats.{eighth_of};
 ghost use Rattle.tables.specs.Table.{table_of, Lent, InRange};
 ghost use Rattle.prepared_table.specs.Work.{set_by, sets_aside, stays_by, stays, prepared_rows, prepared_cols, prepared_values, row_start, starts_of, work_starts, diagonal_of, diagonal_sum};
+ghost use Rattle.tables.specs.Entries.{listed};
 
 use factor::rows::clear;
 use factor::sums::sum;
 use tables::check::wide;
+use tables::entries::Entries;
 
 // Whether a diagonal value that isn't 0 is found by now, after one more entry.
 fn found_by(found: bool, i: u16, j: u16, value: i64) -> bool
@@ -19,13 +21,12 @@ fn found_by(found: bool, i: u16, j: u16, value: i64) -> bool
 }
 
 // Whether the diagonal is set aside: one of its values isn't 0.
-fn sets_aside(count: usize, rows: &[u16], cols: &[u16], values: &[i64]) -> bool
-    requires { Lent count rows.now cols.now values.now }
-    ensures { result ≡ sets_aside (table_of count rows.now cols.now values.now) }
+fn sets_aside(table: Entries) -> bool
+    ensures { result ≡ sets_aside (listed table.entry) }
 {
     let mut found = false;
-    for e in 0..count {
-        found = found_by(found, rows[e], cols[e], values[e]);
+    for e in 0..table.count {
+        found = found_by(found, table.rows[e], table.cols[e], table.values[e]);
     }
     found
 }
@@ -99,32 +100,49 @@ fn set_starts(rows: &[u16], m: usize, starts: &mut [usize])
 
 // The table without its diagonal if that isn't all 0: rows, columns, doubles and row starts, and how many entries stay.
 pub fn separate_diagonal(
-    count: usize,
-    rows: &[u16],
-    cols: &[u16],
-    values: &[i64],
+    table: Entries,
     m: usize,
     work_rows: &mut [u16],
     work_cols: &mut [u16],
     work_values: &mut [f64],
     starts: &mut [usize],
 ) -> usize
-    requires lent { Lent count rows.now cols.now values.now }
-    requires count_in_bounds { (count ≤ length work_rows.old) × (count ≤ length work_cols.old) × (count ≤ length work_values.old) × (m < length starts.old) }
-    ensures value { result ≡ length (prepared_rows (table_of count rows.now cols.now values.now)) }
-    ensures work_rows_after { work_rows.new ≡ over (prepared_rows (table_of count rows.now cols.now values.now)) work_rows.old }
-    ensures work_cols_after { work_cols.new ≡ over (prepared_cols (table_of count rows.now cols.now values.now)) work_cols.old }
-    ensures work_values_after { work_values.new ≡ over (prepared_values (table_of count rows.now cols.now values.now)) work_values.old }
-    ensures starts_after { starts.new ≡ over (work_starts (table_of count rows.now cols.now values.now) m) starts.old }
+    requires count_in_bounds { (table.count ≤ length work_rows.old) × (table.count ≤ length work_cols.old) × (table.count ≤ length work_values.old) × (m < length starts.old) }
+    ensures value { result ≡ length (prepared_rows (listed table.entry)) }
+    ensures work_rows_after { work_rows.new ≡ over (prepared_rows (listed table.entry)) work_rows.old }
+    ensures work_cols_after { work_cols.new ≡ over (prepared_cols (listed table.entry)) work_cols.old }
+    ensures work_values_after { work_values.new ≡ over (prepared_values (listed table.entry)) work_values.old }
+    ensures starts_after { starts.new ≡ over (work_starts (listed table.entry) m) starts.old }
 {
-    let aside = sets_aside(count, rows, cols, values);
-    let stay = keep(count, rows, cols, aside, work_rows, |e| rows[e]);
-    keep(count, rows, cols, aside, work_cols, |e| cols[e]);
+    let aside = sets_aside(table);
+    let stay = keep(
+        table.count,
+        table.rows,
+        table.cols,
+        aside,
+        work_rows,
+        |e| table.rows[e],
+    );
+    keep(
+        table.count,
+        table.rows,
+        table.cols,
+        aside,
+        work_cols,
+        |e| table.cols[e],
+    );
     let value = |e: usize| -> f64
-        requires { e < length values.now }
-        ensures { result ≡ eighth_of (elem_z values.entry.now e) }
-    { ieee::eighth(values[e]) };
-    keep(count, rows, cols, aside, work_values, value);
+        requires { e < length table.values.now }
+        ensures { result ≡ eighth_of (elem_z table.entry.values.now e) }
+    { ieee::eighth(table.values[e]) };
+    keep(
+        table.count,
+        table.rows,
+        table.cols,
+        aside,
+        work_values,
+        value,
+    );
     set_starts(&work_rows[..stay], m, starts);
     stay
 }
@@ -141,41 +159,32 @@ fn put_diagonal(diagonal: &mut [f64], i: u16, j: u16, value: i64)
 }
 
 // The diagonal, as long as `out`: 0.0 where no entry is stored.
-fn set_diagonal(count: usize, rows: &[u16], cols: &[u16], values: &[i64], out: &mut [f64])
-    requires lent { Lent count rows.now cols.now values.now }
-    requires in_range { InRange (length out.old) (table_of count rows.now cols.now values.now) }
-    ensures { out.new ≡ diagonal_of (table_of count rows.now cols.now values.now) (length out.old) }
+fn set_diagonal(table: Entries, out: &mut [f64])
+    requires in_range { InRange (length out.old) (listed table) }
+    ensures { out.new ≡ diagonal_of (listed table.entry) (length out.old) }
 {
     clear(out);
-    for e in 0..count {
-        put_diagonal(out, rows[e], cols[e], values[e]);
+    for e in 0..table.count {
+        put_diagonal(out, table.rows[e], table.cols[e], table.values[e]);
     }
 }
 
 // The diagonal, as long as `out`, and its sum.
-fn sum_diagonal(count: usize, rows: &[u16], cols: &[u16], values: &[i64], out: &mut [f64]) -> f64
-    requires lent { Lent count rows.now cols.now values.now }
-    requires in_range { InRange (length out.old) (table_of count rows.now cols.now values.now) }
-    ensures value { result ≡ diagonal_sum (table_of count rows.now cols.now values.now) (length out.old) }
-    ensures out_after { out.new ≡ diagonal_of (table_of count rows.now cols.now values.now) (length out.old) }
+fn sum_diagonal(table: Entries, out: &mut [f64]) -> f64
+    requires in_range { InRange (length out.old) (listed table) }
+    ensures value { result ≡ diagonal_sum (listed table.entry) (length out.old) }
+    ensures out_after { out.new ≡ diagonal_of (listed table.entry) (length out.old) }
 {
-    set_diagonal(count, rows, cols, values, out);
+    set_diagonal(table, out);
     sum(out)
 }
 
 // The diagonal of m values in the first places of `out`, and its sum.
-pub fn diagonal(
-    count: usize,
-    rows: &[u16],
-    cols: &[u16],
-    values: &[i64],
-    m: usize,
-    out: &mut [f64],
-) -> f64
-    requires lent { Lent count rows.now cols.now values.now × (m ≤ length out.old) }
-    requires in_range { InRange m (table_of count rows.now cols.now values.now) }
-    ensures value { result ≡ diagonal_sum (table_of count rows.now cols.now values.now) m }
-    ensures out_after { out.new ≡ over (diagonal_of (table_of count rows.now cols.now values.now) m) out.old }
+pub fn diagonal(table: Entries, m: usize, out: &mut [f64]) -> f64
+    requires lent { m ≤ length out.old }
+    requires in_range { InRange m (listed table) }
+    ensures value { result ≡ diagonal_sum (listed table.entry) m }
+    ensures out_after { out.new ≡ over (diagonal_of (listed table.entry) m) out.old }
 {
-    sum_diagonal(count, rows, cols, values, &mut out[..m])
+    sum_diagonal(table, &mut out[..m])
 }

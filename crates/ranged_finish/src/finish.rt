@@ -13,6 +13,7 @@ use refusal::Refusal;
 use run_record::Run;
 use run_record::lengths::FinishSlices;
 use sdp_solver::finish::finish_accepted;
+use tables::entries::Entries;
 use tables::objective::eval_qubo_objective;
 
 // The finish that no number refuses.
@@ -56,9 +57,38 @@ fn finish_ranged_accepted(
         dual_variables,
         workspace,
     );
-    let least = eval_qubo_objective(n, count, rows, cols, low, low_c, b);
-    let most = eval_qubo_objective(n, count, rows, cols, high, high_c, b);
-    let floor = floor_of(n, count, rows, cols, low, low_c);
+    let least = eval_qubo_objective(
+        n,
+        Entries {
+            count,
+            rows,
+            cols,
+            values: low,
+        },
+        low_c,
+        b,
+    );
+    let most = eval_qubo_objective(
+        n,
+        Entries {
+            count,
+            rows,
+            cols,
+            values: high,
+        },
+        high_c,
+        b,
+    );
+    let floor = floor_of(
+        n,
+        Entries {
+            count,
+            rows,
+            cols,
+            values: low,
+        },
+        low_c,
+    );
     RangedResult {
         result,
         low: least,

@@ -13,6 +13,7 @@ ghost use Rattle.ranged_finish.specs.Numbers.{above, larger, ranged_number};
 use limits::{MOST_ENTRIES, MOST_MAGNITUDE, MOST_WAGONS};
 use refusal::Refusal;
 use tables::check::{bad_order, bad_size};
+use tables::entries::Entries;
 use tables::mirror::unmirrored;
 
 // Whether the low end is above the high one.
@@ -85,10 +86,20 @@ fn ranges_unmirrored(count: usize, rows: &[u16], cols: &[u16], low: &[i64], high
     requires { Lent count rows.now cols.now low.now × Lent count rows.now cols.now high.now × Placed (elem rows.now) (elem cols.now) count }
     ensures { result ≡ (unmirrored (table_of count rows.now cols.now low.now) || unmirrored (table_of count rows.now cols.now high.now)) }
 {
-    if unmirrored(count, rows, cols, low) {
+    if unmirrored(Entries {
+        count,
+        rows,
+        cols,
+        values: low,
+    }) {
         return true;
     }
-    unmirrored(count, rows, cols, high)
+    unmirrored(Entries {
+        count,
+        rows,
+        cols,
+        values: high,
+    })
 }
 
 // What is refused of a ranged table.

@@ -10,10 +10,12 @@ ghost use Rattle.limits.specs.Limits.{most_sign_magnitude};
 ghost use Rattle.factor.specs.Vectors.{unit};
 ghost use Rattle.tables.specs.Table.{table_of, Lent, InRange, magnitude_of};
 ghost use Rattle.rounding.specs.Rounding.{plus_byte, rounded_sign, draw_signs, signs_of, rounded_sols, draw_objective, rounded_sol, rounded_objective};
+ghost use Rattle.tables.specs.Entries.{listed};
 
 use factor::rows::{copy, normalize, row};
 use factor::sums::dot;
 use local_search::least::keep_better;
+use tables::entries::Entries;
 use tables::objective::obj_rounded;
 
 // A sign's byte: 0 is +, 1 is −.
@@ -97,10 +99,7 @@ pub fn compute_rounded_sols(
 
 // The signs of draw k and their objective.
 fn evaluate_draw(
-    count: usize,
-    rows: &[u16],
-    cols: &[u16],
-    values: &[i64],
+    table: Entries,
     factor: &[f64],
     rank: usize,
     m: usize,
@@ -109,22 +108,18 @@ fn evaluate_draw(
     direction: &mut [f64],
     signs: &mut [u8],
 ) -> i64
-    requires lent { Lent count rows.now cols.now values.now × InRange m (table_of count rows.now cols.now values.now)
-        × (magnitude_of (table_of count rows.now cols.now values.now) ≤ most_sign_magnitude) }
+    requires lent { InRange m (listed table) × (magnitude_of (listed table) ≤ most_sign_magnitude) }
     requires rank_in_bounds { (m * rank ≤ length factor.now) × (k * rank + rank ≤ length draws.now) × (length direction.old ≡ rank) × (length signs.old ≡ m) }
-    ensures value { result ≡ draw_objective factor.now rank m draws.now (table_of count rows.now cols.now values.now) k }
+    ensures value { result ≡ draw_objective factor.now rank m draws.now (listed table.entry) k }
     ensures signs_after { signs.new ≡ signs_of factor.now rank m draws.now k }
 {
     round_draw(factor, row(draws, rank, k), rank, m, direction, signs);
-    obj_rounded(count, rows, cols, values, signs)
+    obj_rounded(table, signs)
 }
 
 // The first draw of least objective: its signs, and the objective in eighths. What is left in `direction` and `signs` is free.
 pub fn compute_rounded_sol(
-    count: usize,
-    rows: &[u16],
-    cols: &[u16],
-    values: &[i64],
+    table: Entries,
     factor: &[f64],
     rank: usize,
     m: usize,
@@ -134,20 +129,15 @@ pub fn compute_rounded_sol(
     signs: &mut [u8],
     best: &mut [u8],
 ) -> i64
-    requires lent { Lent count rows.now cols.now values.now × InRange m (table_of count rows.now cols.now values.now)
-        × (magnitude_of (table_of count rows.now cols.now values.now) ≤ most_sign_magnitude) }
+    requires lent { InRange m (listed table) × (magnitude_of (listed table) ≤ most_sign_magnitude) }
     requires rank_in_bounds { (m * rank ≤ length factor.now) × (draw_count * rank ≤ length draws.now) × (1 ≤ draw_count)
         × (length direction.old ≡ rank) × (length signs.old ≡ m) × (length best.old ≡ m) }
-    ensures value { result ≡ rounded_objective factor.now rank m draws.now (table_of count rows.now cols.now values.now) draw_count }
-    ensures best_after { best.new ≡ rounded_sol factor.now rank m draws.now (table_of count rows.now cols.now values.now) draw_count }
+    ensures value { result ≡ rounded_objective factor.now rank m draws.now (listed table.entry) draw_count }
+    ensures best_after { best.new ≡ rounded_sol factor.now rank m draws.now (listed table.entry) draw_count }
 {
-    let mut least = evaluate_draw(
-        count, rows, cols, values, factor, rank, m, draws, 0, direction, best,
-    );
+    let mut least = evaluate_draw(table, factor, rank, m, draws, 0, direction, best);
     for k in 1..draw_count {
-        let objective = evaluate_draw(
-            count, rows, cols, values, factor, rank, m, draws, k, direction, signs,
-        );
+        let objective = evaluate_draw(table, factor, rank, m, draws, k, direction, signs);
         least = keep_better(least, best, objective, signs);
     }
     least

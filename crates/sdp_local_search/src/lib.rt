@@ -13,6 +13,7 @@ use crate::signs::search_from;
 use limits::SEARCH_WORKSPACE;
 use refusal::Refusal;
 use sign_search::search::Searched;
+use tables::entries::Entries;
 
 // 01's local search from the first m signs of `start`, of which any byte but 0 is −. The signs of the answer go to `out`, as 0 and 1; its objective
 // in eighths and the rounds are answered.
@@ -43,10 +44,12 @@ pub fn beam_search(
         workspace.len(),
     )?;
     let found = search_from(
-        count,
-        rows,
-        cols,
-        values,
+        Entries {
+            count,
+            rows,
+            cols,
+            values,
+        },
         width,
         start,
         &mut out[0..m],

@@ -4,8 +4,10 @@ ghost use Rattle.limits.specs.Limits.{most_signs, most_words};
 ghost use Rattle.tables.specs.Table.{table_of, Lent};
 ghost use Rattle.sign_search.specs.Clauses.{Sound, LevelRoom, Found-by};
 ghost use Rattle.sdp_local_search.specs.BeamSearch.{sign_byte, sign_bytes};
+ghost use Rattle.tables.specs.Entries.{listed};
 
 use sign_search::search::{Searched, search_signs};
+use tables::entries::Entries;
 
 // A sign as 0 or 1: any byte but 0 is 1.
 fn sign_byte(x: u8) -> u8
@@ -26,21 +28,16 @@ fn read_signs(start: &[u8], kept: &mut [u8])
 
 // Searches from the first signs of `start`, as many as `kept` holds, which takes the answer's.
 pub fn search_from(
-    count: usize,
-    rows: &[u16],
-    cols: &[u16],
-    values: &[i64],
+    table: Entries,
     width: usize,
     start: &[u8],
     kept: &mut [u8],
     workspace: &mut [u64],
 ) -> Searched
-    requires { LevelRoom most_signs most_words (length kept.old) width (length workspace.old)
-        × Sound (length kept.old) (table_of count rows.now cols.now values.now)
-        × Lent count rows.now cols.now values.now × (length kept.old ≤ length start.now) }
-    ensures { Found-by (table_of count rows.now cols.now values.now) width
+    requires { LevelRoom most_signs most_words (length kept.old) width (length workspace.old) × Sound (length kept.old) (listed table) × (length kept.old ≤ length start.now) }
+    ensures { Found-by (listed table.entry) width
         (sign_bytes (length kept.old) start.now) result.least result.rounds kept.new }
 {
     read_signs(start, kept);
-    search_signs(count, rows, cols, values, width, kept, workspace)
+    search_signs(table, width, kept, workspace)
 }

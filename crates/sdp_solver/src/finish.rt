@@ -12,6 +12,7 @@ use run_contract::FinishResult;
 use run_record::Run;
 use run_record::lengths::FinishSlices;
 use run_record::numbers::finish_number;
+use tables::entries::Entries;
 
 // Finishes a stopped run that nothing refuses.
 pub fn finish_accepted(
@@ -38,10 +39,12 @@ pub fn finish_accepted(
     let rank = run.rank;
     let figures = finalize(
         n,
-        count,
-        rows,
-        cols,
-        values,
+        Entries {
+            count,
+            rows,
+            cols,
+            values,
+        },
         c,
         rank,
         width,

@@ -9,6 +9,7 @@ ghost use Rattle.sdp_solver.specs.Usable.{Usable};
 use finalize::room::{eighths, indices};
 use prepared_table::separate_diagonal;
 use sign_table::sign_matrix::sign_matrix;
+use tables::entries::Entries;
 
 // The table in the first places of the slices; how many entries it has.
 pub fn call_work(
@@ -47,10 +48,12 @@ pub fn call_work(
         &mut sign_values,
     );
     separate_diagonal(
-        entries,
-        &sign_rows[..entries],
-        &sign_cols[..entries],
-        &sign_values[..entries],
+        Entries {
+            count: entries,
+            rows: &sign_rows[..entries],
+            cols: &sign_cols[..entries],
+            values: &sign_values[..entries],
+        },
         n + 1,
         work_rows,
         work_cols,

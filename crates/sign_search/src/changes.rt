@@ -7,9 +7,11 @@ ghost use Rattle.limits.specs.Limits.{most_sign_magnitude};
 ghost use Rattle.tables.specs.Table.{table_of, Lent, sign, sign_at};
 ghost use Rattle.tables.specs.Flip.{flip_share, flip_term};
 ghost use Rattle.sign_search.specs.Clauses.{SumsFit, Cleared, RowTurned, changes_over};
+ghost use Rattle.tables.specs.Entries.{listed};
 
 use local_search::rows::sign_at;
 use tables::check::wide;
+use tables::entries::Entries;
 
 // Sets the first m changes to 0; those behind them stay.
 pub fn clear(changes: &mut [i64], m: usize)
@@ -39,23 +41,16 @@ fn entry_change(i: u16, j: u16, value: i64, x: u8, y: u8) -> i64
 }
 
 // What entry k adds to the change by flipping the sign of its row.
-fn change_term(
-    entries: usize,
-    rows: &[u16],
-    cols: &[u16],
-    values: &[i64],
-    signs: &[u8],
-    k: usize,
-) -> i64
-    requires { (k < entries) × SumsFit (length signs.now) (table_of entries rows.now cols.now values.now) × Lent entries rows.now cols.now values.now }
-    ensures { result ≡ flip_term (table_of entries rows.now cols.now values.now) (sign_at signs.now) (get_or rows.now k 0) k }
+fn change_term(table: Entries, signs: &[u8], k: usize) -> i64
+    requires { (k < table.count) × SumsFit (length signs.now) (listed table) }
+    ensures { result ≡ flip_term (listed table.entry) (sign_at signs.now) (get_or table.entry.rows.now k 0) k }
 {
-    let i = rows[k];
-    let j = cols[k];
+    let i = table.rows[k];
+    let j = table.cols[k];
     entry_change(
         i,
         j,
-        values[k],
+        table.values[k],
         sign_at(signs, wide(i)),
         sign_at(signs, wide(j)),
     )
@@ -74,45 +69,29 @@ fn turn_row(changes: &mut [i64], row: usize, i: usize, held: i64) -> i64
 }
 
 // Adds every entry to the change of its row, a row's entries in one sum.
-fn sum_rows(
-    entries: usize,
-    rows: &[u16],
-    cols: &[u16],
-    values: &[i64],
-    signs: &[u8],
-    changes: &mut [i64],
-)
-    requires { SumsFit (length signs.now) (table_of entries rows.now cols.now values.now)
-        × (length signs.now ≤ length changes.old) × (0 < entries)
-        × Cleared (length signs.now) changes.old × Lent entries rows.now cols.now values.now }
-    ensures { changes.new ≡ changes_over (table_of entries rows.now cols.now values.now) signs.now changes.old }
+fn sum_rows(table: Entries, signs: &[u8], changes: &mut [i64])
+    requires { SumsFit (length signs.now) (listed table) × (length signs.now ≤ length changes.old) × (0 < table.count) × Cleared (length signs.now) changes.old }
+    ensures { changes.new ≡ changes_over (listed table.entry) signs.now changes.old }
 {
-    let mut row = wide(rows[0]);
+    let mut row = wide(table.rows[0]);
     let mut held: i64 = 0;
-    for k in 0..entries {
-        let i = wide(rows[k]);
+    for k in 0..table.count {
+        let i = wide(table.rows[k]);
         held = turn_row(changes, row, i, held);
         row = i;
-        held += change_term(entries, rows, cols, values, signs, k);
+        held += change_term(table, signs, k);
     }
     changes[row] += held;
 }
 
 // The changes by flipping each sign, in one pass over the entries; what stands behind them stays.
-pub fn changes_of(
-    entries: usize,
-    rows: &[u16],
-    cols: &[u16],
-    values: &[i64],
-    signs: &[u8],
-    changes: &mut [i64],
-)
-    requires { SumsFit (length signs.now) (table_of entries rows.now cols.now values.now) × (length signs.now ≤ length changes.old) × Lent entries rows.now cols.now values.now }
-    ensures { changes.new ≡ changes_over (table_of entries rows.now cols.now values.now) signs.now changes.old }
+pub fn changes_of(table: Entries, signs: &[u8], changes: &mut [i64])
+    requires { SumsFit (length signs.now) (listed table) × (length signs.now ≤ length changes.old) }
+    ensures { changes.new ≡ changes_over (listed table.entry) signs.now changes.old }
 {
     clear(changes, signs.len());
-    if entries == 0 {
+    if table.count == 0 {
         return;
     }
-    sum_rows(entries, rows, cols, values, signs, changes);
+    sum_rows(table, signs, changes);
 }

@@ -6,6 +6,7 @@ ghost use Rattle.local_search.specs.Level.{sign_level, TidyLevel, Ascending};
 ghost use Rattle.local_search.specs.Children.{parent_of, Appended, Kept};
 ghost use Rattle.sign_search.specs.Within.{bounds};
 ghost use Rattle.sign_search.specs.Clauses.{Changes, AtHand, RowExpands, RowAppends, LevelExpands, NextLevel, AdvanceFits, BoundsFit, table_children};
+ghost use Rattle.tables.specs.Entries.{listed};
 
 use crate::changes::changes_of;
 use crate::moves::move_to;
@@ -13,13 +14,11 @@ use crate::within::{expand_near, first_flips};
 use local_search::children::first_level;
 use local_search::level::copy_objectives;
 use sign_words::words::copy;
+use tables::entries::Entries;
 
 // Puts a parent's children in that are within the bounds, by index.
 pub fn expand_row(
-    entries: usize,
-    rows: &[u16],
-    cols: &[u16],
-    values: &[i64],
+    table: Entries,
     objective: i64,
     parent: &[u64],
     current: &mut [u8],
@@ -33,30 +32,18 @@ pub fn expand_row(
     flips: usize,
     most: usize,
 ) -> usize
-    requires { RowExpands (table_of entries rows.now cols.now values.now) (length parent.now) (parent_of objective (unpacked (length current.old) parent.now))
-        count width (length changes.old) (length objectives.old) (length signs.old)
-        × (length current_row.old ≡ length parent.now) × AtHand (table_of entries rows.now cols.now values.now) current.old current_row.old changes.old
-        × Lent entries rows.now cols.now values.now × Ascending (take count objectives.old) × BoundsFit flips origin.now (length parent.now) (length current.old)
-        × Tidy (length current.old) parent.now }
+    requires { RowExpands (listed table) (length parent.now) (parent_of objective (unpacked (length current.old) parent.now))
+        count width (length changes.old) (length objectives.old) (length signs.old) × (length current_row.old ≡ length parent.now) × AtHand (listed table) current.old current_row.old changes.old × Ascending (take count objectives.old) × BoundsFit flips origin.now (length parent.now) (length current.old) × Tidy (length current.old) parent.now }
     ensures kept { Kept width (sign_level (length parent.now) (length current.old) count objectives.old signs.old)
-        (table_children (table_of entries rows.now cols.now values.now) (bounds flips most (unpacked (length current.old) origin.now)) (length current.old)
+        (table_children (listed table.entry) (bounds flips most (unpacked (length current.old) origin.now)) (length current.old)
         (parent_of objective (unpacked (length current.old) parent.now)))
         (sign_level (length parent.now) (length current.old) result objectives.new signs.new) result }
-    ensures at_hand { AtHand (table_of entries rows.now cols.now values.now) current.new current_row.new changes.new }
+    ensures at_hand { AtHand (listed table.entry) current.new current_row.new changes.new }
     ensures tidy { Tidy (length current.old) parent.now
         → TidyLevel (length parent.now) (length current.old) count objectives.old signs.old
         → TidyLevel (length parent.now) (length current.old) result objectives.new signs.new }
 {
-    move_to(
-        entries,
-        rows,
-        cols,
-        values,
-        current,
-        current_row,
-        changes,
-        parent,
-    );
+    move_to(table, current, current_row, changes, parent);
     expand_near(
         changes, objective, parent, flips, objectives, signs, count, width, current, origin, most,
     )
@@ -64,10 +51,7 @@ pub fn expand_row(
 
 // Level 1: all children of the start that are within the bounds, by index.
 pub fn append_row(
-    entries: usize,
-    rows: &[u16],
-    cols: &[u16],
-    values: &[i64],
+    table: Entries,
     objective: i64,
     start: &[u8],
     start_row: &[u64],
@@ -77,28 +61,24 @@ pub fn append_row(
     flips: usize,
     most: usize,
 ) -> usize
-    requires { RowAppends (table_of entries rows.now cols.now values.now) (length start_row.now) (parent_of objective start.now) (length changes.old)
-        (length objectives.old) (length signs.old) × (unpacked (length start.now) start_row.now ≡ start.now)
-        × Lent entries rows.now cols.now values.now × (flips ≤ length start.now) }
-    ensures appended { Appended [] (table_children (table_of entries rows.now cols.now values.now) (bounds flips most start.now)
+    requires { RowAppends (listed table) (length start_row.now) (parent_of objective start.now) (length changes.old)
+        (length objectives.old) (length signs.old) × (unpacked (length start.now) start_row.now ≡ start.now) × (flips ≤ length start.now) }
+    ensures appended { Appended [] (table_children (listed table.entry) (bounds flips most start.now)
         (length start.now)
         (parent_of objective start.now))
         (sign_level (length start_row.now) (length start.now) result objectives.new signs.new) result (length start.now) }
-    ensures changes { Changes (table_of entries rows.now cols.now values.now) start.now changes.new }
+    ensures changes { Changes (listed table.entry) start.now changes.new }
     ensures tidy { Tidy (length start.now) start_row.now
         → TidyLevel (length start_row.now) (length start.now) result objectives.new signs.new }
 {
-    changes_of(entries, rows, cols, values, start, changes);
+    changes_of(table, start, changes);
     let first = first_flips(flips, most);
     first_level(changes, objective, start_row, first, objectives, signs)
 }
 
 // Level k + 1 from level k: the children by parent, then index, the first `width` of them in order.
 pub fn expand_level(
-    entries: usize,
-    rows: &[u16],
-    cols: &[u16],
-    values: &[i64],
+    table: Entries,
     words: usize,
     from_objectives: &[i64],
     from_signs: &[u64],
@@ -113,15 +93,12 @@ pub fn expand_level(
     flips: usize,
     most: usize,
 ) -> usize
-    requires { LevelExpands (table_of entries rows.now cols.now values.now) words (length current.old) from_count width from_objectives.now
-        from_signs.now (length changes.old) (length objectives.old) (length signs.old)
-        × (length current_row.old ≡ words) × AtHand (table_of entries rows.now cols.now values.now) current.old current_row.old changes.old
-        × Lent entries rows.now cols.now values.now × BoundsFit flips origin.now words (length current.old)
-        × TidyLevel words (length current.old) from_count from_objectives.now from_signs.now }
-    ensures next_level { NextLevel (table_of entries rows.now cols.now values.now) (bounds flips most (unpacked (length current.old) origin.now)) (length current.old) width
+    requires { LevelExpands (listed table) words (length current.old) from_count width from_objectives.now
+        from_signs.now (length changes.old) (length objectives.old) (length signs.old) × (length current_row.old ≡ words) × AtHand (listed table) current.old current_row.old changes.old × BoundsFit flips origin.now words (length current.old) × TidyLevel words (length current.old) from_count from_objectives.now from_signs.now }
+    ensures next_level { NextLevel (listed table.entry) (bounds flips most (unpacked (length current.old) origin.now)) (length current.old) width
         (sign_level words (length current.old) from_count from_objectives.now from_signs.now)
         (sign_level words (length current.old) result objectives.new signs.new) result }
-    ensures at_hand { AtHand (table_of entries rows.now cols.now values.now) current.new current_row.new changes.new }
+    ensures at_hand { AtHand (listed table.entry) current.new current_row.new changes.new }
     ensures tidy { TidyLevel words (length current.old) from_count from_objectives.now from_signs.now
         → TidyLevel words (length current.old) result objectives.new signs.new }
 {
@@ -131,10 +108,7 @@ pub fn expand_level(
         let end = at + words;
         let objective = from_objectives[k];
         kept = expand_row(
-            entries,
-            rows,
-            cols,
-            values,
+            table,
             objective,
             &from_signs[at..end],
             current,
@@ -154,10 +128,7 @@ pub fn expand_level(
 
 // Makes the next level in the other buffers, and copies it back.
 pub fn advance(
-    entries: usize,
-    rows: &[u16],
-    cols: &[u16],
-    values: &[i64],
+    table: Entries,
     words: usize,
     current: &mut [u8],
     current_row: &mut [u64],
@@ -172,23 +143,17 @@ pub fn advance(
     flips: usize,
     most: usize,
 ) -> usize
-    requires { AdvanceFits (table_of entries rows.now cols.now values.now) words (length current.old) count width objectives.old signs.old
-        (length changes.old) (length next_objectives.old) (length next_signs.old)
-        × (length current_row.old ≡ words) × AtHand (table_of entries rows.now cols.now values.now) current.old current_row.old changes.old
-        × Lent entries rows.now cols.now values.now × BoundsFit flips origin.now words (length current.old)
-        × TidyLevel words (length current.old) count objectives.old signs.old }
-    ensures next_level { NextLevel (table_of entries rows.now cols.now values.now) (bounds flips most (unpacked (length current.old) origin.now)) (length current.old) width
+    requires { AdvanceFits (listed table) words (length current.old) count width objectives.old signs.old
+        (length changes.old) (length next_objectives.old) (length next_signs.old) × (length current_row.old ≡ words) × AtHand (listed table) current.old current_row.old changes.old × BoundsFit flips origin.now words (length current.old) × TidyLevel words (length current.old) count objectives.old signs.old }
+    ensures next_level { NextLevel (listed table.entry) (bounds flips most (unpacked (length current.old) origin.now)) (length current.old) width
         (sign_level words (length current.old) count objectives.old signs.old)
         (sign_level words (length current.old) result objectives.new signs.new) result }
-    ensures at_hand { AtHand (table_of entries rows.now cols.now values.now) current.new current_row.new changes.new }
+    ensures at_hand { AtHand (listed table.entry) current.new current_row.new changes.new }
     ensures tidy { TidyLevel words (length current.old) count objectives.old signs.old
         → TidyLevel words (length current.old) result objectives.new signs.new }
 {
     let kept = expand_level(
-        entries,
-        rows,
-        cols,
-        values,
+        table,
         words,
         objectives,
         signs,

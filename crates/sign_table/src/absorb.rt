@@ -4,8 +4,10 @@ ghost use Rattle.laws.specs.Sum.{sum, total, only};
 ghost use Rattle.laws.specs.Lists.{elem, elem_z};
 ghost use Rattle.tables.specs.Table.{table_of, Lent, magnitude_of};
 ghost use Rattle.sign_table.specs.Walk.{in_row, is_here, stored_column, next_column, here_value, after_here, row_term, RowAt, RowSummed};
+ghost use Rattle.tables.specs.Entries.{listed};
 
 use tables::check::wide;
+use tables::entries::Entries;
 
 // Whether entry k is there, in row i.
 fn in_row(count: usize, rows: &[u16], i: usize, k: usize) -> bool
@@ -72,20 +74,11 @@ pub fn after_here(count: usize, rows: &[u16], cols: &[u16], i: usize, j: usize, 
 }
 
 // The value of entry k where it stands at (i, j), else 0.
-fn stored_value(
-    count: usize,
-    rows: &[u16],
-    cols: &[u16],
-    values: &[i64],
-    i: usize,
-    j: usize,
-    k: usize,
-) -> i64
-    requires { Lent count rows.now cols.now values.now }
-    ensures { result ≡ cond (is_here count (elem rows.now) (elem cols.now) i j k) (elem_z values.now k) (pos 0) }
+fn stored_value(table: Entries, i: usize, j: usize, k: usize) -> i64
+    ensures { result ≡ cond (is_here table.entry.count (elem table.entry.rows.now) (elem table.entry.cols.now) i j k) (elem_z table.entry.values.now k) (pos 0) }
 {
-    if is_here(count, rows, cols, i, j, k) {
-        values[k]
+    if is_here(table.count, table.rows, table.cols, i, j, k) {
+        table.values[k]
     } else {
         0
     }
@@ -100,22 +93,11 @@ fn linear_value(c: &[i64], i: usize, j: usize) -> i64
 }
 
 // The absorbed value at (i, j).
-pub fn here_value(
-    count: usize,
-    rows: &[u16],
-    cols: &[u16],
-    values: &[i64],
-    c: &[i64],
-    i: usize,
-    j: usize,
-    k: usize,
-) -> i64
-    requires { Lent count rows.now cols.now values.now
-        × (i < length c.now) × (nat_abs (elem_z c.now i) ≤ 2 ^ 59)
-        × (magnitude_of (table_of count rows.now cols.now values.now) ≤ 2 ^ 60) }
-    ensures { result ≡ here_value (table_of count rows.now cols.now values.now) (elem_z c.now) i j k }
+pub fn here_value(table: Entries, c: &[i64], i: usize, j: usize, k: usize) -> i64
+    requires { (i < length c.now) × (nat_abs (elem_z c.now i) ≤ 2 ^ 59) × (magnitude_of (listed table) ≤ 2 ^ 60) }
+    ensures { result ≡ here_value (listed table.entry) (elem_z c.now) i j k }
 {
-    let stored = stored_value(count, rows, cols, values, i, j, k);
+    let stored = stored_value(table, i, j, k);
     stored + linear_value(c, i, j)
 }
 

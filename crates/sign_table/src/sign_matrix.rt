@@ -7,6 +7,7 @@ ghost use Rattle.sign_table.specs.Walk.{Wrote, Room};
 ghost use Rattle.sign_table.specs.Clauses.{Fits, RowFits, wagon_rows, anchor_row, Put, PutAll, RowPut, AnchorPut};
 
 use crate::absorb::{after_here, here_value, next_column, row_sum};
+use tables::entries::Entries;
 
 // One entry, at `at`.
 fn put(
@@ -71,7 +72,18 @@ fn put_row(
     let mut at = len;
     let mut j = next_column(n, count, rows, cols, c, i, 0, start);
     while j < n {
-        let value = here_value(count, rows, cols, values, c, i, j, k);
+        let value = here_value(
+            Entries {
+                count,
+                rows,
+                cols,
+                values,
+            },
+            c,
+            i,
+            j,
+            k,
+        );
         put(to_rows, to_cols, to_values, at, i, j, value);
         at += 1;
         k = after_here(count, rows, cols, i, j, k);

@@ -14,6 +14,7 @@ use limits::{MOST_ENTRIES, MOST_WAGONS};
 use refusal::Refusal;
 use sign_table::sign_matrix::sign_matrix;
 use tables::check::{bad_size, short_table, too_short};
+use tables::entries::Entries;
 use tables::objective;
 
 // 31 of `eval_qubo_objective`.
@@ -49,7 +50,17 @@ pub fn eval_qubo_objective(
 {
     let short = cost_short(n, count, rows, cols, values, c, b);
     checked_hall(short, n, count, rows, cols, values, c)?;
-    Ok(objective::eval_qubo_objective(n, count, rows, cols, values, c, b))
+    Ok(objective::eval_qubo_objective(
+        n,
+        Entries {
+            count,
+            rows,
+            cols,
+            values,
+        },
+        c,
+        b,
+    ))
 }
 
 // 31 of the slices for the sign table, by their lengths.

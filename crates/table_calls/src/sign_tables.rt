@@ -10,6 +10,7 @@ use crate::checked::checked_table;
 use limits::MOST_SIGN_ENTRIES;
 use refusal::Refusal;
 use tables::check::{bad_signs, short_table, too_short};
+use tables::entries::Entries;
 use tables::{bound, objective};
 
 // 31 of `obj_rounded`.
@@ -42,7 +43,15 @@ pub fn obj_rounded(
 {
     let short = objective_short(m, count, rows, cols, values, signs);
     checked_table(short, m, count, rows, cols, values)?;
-    Ok(objective::obj_rounded(count, rows, cols, values, signs))
+    Ok(objective::obj_rounded(
+        Entries {
+            count,
+            rows,
+            cols,
+            values,
+        },
+        signs,
+    ))
 }
 
 // The floor under every objective, in eighths.
@@ -58,7 +67,12 @@ pub fn floor_eighths(
 {
     let short = short_table(MOST_SIGN_ENTRIES, count, rows, cols, values);
     checked_table(short, m, count, rows, cols, values)?;
-    Ok(objective::floor_eighths(count, rows, cols, values))
+    Ok(objective::floor_eighths(Entries {
+        count,
+        rows,
+        cols,
+        values,
+    }))
 }
 
 // The floor in doubles, less a margin.
@@ -74,5 +88,10 @@ pub fn entrywise_lower_bound(
 {
     let short = short_table(MOST_SIGN_ENTRIES, count, rows, cols, values);
     checked_table(short, m, count, rows, cols, values)?;
-    Ok(bound::entrywise_lower_bound(count, rows, cols, values))
+    Ok(bound::entrywise_lower_bound(Entries {
+        count,
+        rows,
+        cols,
+        values,
+    }))
 }

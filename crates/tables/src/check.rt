@@ -7,6 +7,7 @@ ghost use Rattle.refusal.specs.Number.{numbered};
 ghost use Rattle.tables.specs.Table.{table_of, Lent};
 ghost use Rattle.tables.specs.Check.{bad_size, bad_signs, before, bad_entry, bad_order, placed_number, hall_number, table_number, short_table};
 
+use crate::entries::Entries;
 use crate::mirror::unmirrored;
 use limits::MOST_SIGNS;
 use refusal::Refusal;
@@ -124,7 +125,12 @@ fn placed_number(
     if bad_order(size, count, rows, cols) {
         return Err(Refusal::Entry);
     }
-    if unmirrored(count, rows, cols, values) {
+    if unmirrored(Entries {
+        count,
+        rows,
+        cols,
+        values,
+    }) {
         return Err(Refusal::Mirror);
     }
     Ok(())

@@ -15,8 +15,11 @@ returns-in_err-walk_number c = record {
   accepted = λ e. absurd (some_number _ (c.in_err-walk_number.ensures ∙ e));
 }
 
+pub invariant_of-least_of : goal.invariant_of-least_of
+invariant_of-least_of c = record { lent = (walk_accepted c.args.n c.args.count c.args.rows.now c.args.cols.now c.args.values.now c.args.c.now (length c.args.b.now) (sym c.in_ok-walk_number.ensures)).0 }
+
 pub least_of-found-requires : goal.least_of-found-requires
-least_of-found-requires c = walk_accepted c.args.n c.args.count c.args.rows.now c.args.cols.now c.args.values.now c.args.c.now (length c.args.b.now) (sym c.in_ok-walk_number.ensures)
+least_of-found-requires c = let given = (walk_accepted c.args.n c.args.count c.args.rows.now c.args.cols.now c.args.values.now c.args.c.now (length c.args.b.now) (sym c.in_ok-walk_number.ensures)) in (given.1, given.2, given.3, given.4)
 
 pub returns : goal.returns
 returns c = let a = c.args in let e = sym c.in_ok-walk_number.ensures in let v = c.least_of-found in record { refused = λ n. absurd (n e); accepted = λ z. (_, refl, found a.c.now (walk_accepted a.n a.count a.rows.now a.cols.now a.values.now a.c.now (length a.b.now) e).4 v.ensures.choice (held _ c.struct_told-1.given.0.1 ∙ v.ensures.found.0) v.ensures.found.1) }

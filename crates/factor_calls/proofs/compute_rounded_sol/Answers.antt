@@ -15,9 +15,13 @@ returns-in_err-rounded_number c = record { answers = ap in_numbers (passed c.fro
 pub rank_meant-meant-requires : goal.rank_meant-meant-requires
 rank_meant-meant-requires c = let a = c.args in let u = rounded_accepted a.m a.count a.rows.now a.cols.now a.values.now a.rank (length a.factor.now) a.draw_count (length a.draws.now) (length a.out.now) (sym c.in_ok-rounded_number.ensures) in (λ e. u.table.signs, u.rank_low)
 
+pub invariant_of-round : goal.invariant_of-round
+invariant_of-round c = let a = c.args in let u = rounded_accepted a.m a.count a.rows.now a.cols.now a.values.now a.rank (length a.factor.now) a.draw_count (length a.draws.now) (length a.out.now) (sym c.in_ok-rounded_number.ensures) in
+      record { lent = u.lent }
+
 pub round-objective-requires : goal.round-objective-requires
 round-objective-requires c = let a = c.args in let u = rounded_accepted a.m a.count a.rows.now a.cols.now a.values.now a.rank (length a.factor.now) a.draw_count (length a.draws.now) (length a.out.now) (sym c.in_ok-rounded_number.ensures) in
-    record { lent = (u.lent, u.table.in_range, u.table.magnitude); rank_in_bounds = (rw c.rank_meant-meant.ensures.0 u.factor_long, rw c.rank_meant-meant.ensures.0 u.draws_long, u.some, u.out_long, u.table.signs, c.rank_meant-meant.ensures.1) }
+    record { lent = (u.table.in_range, u.table.magnitude); rank_in_bounds = (rw c.rank_meant-meant.ensures.0 u.factor_long, rw c.rank_meant-meant.ensures.0 u.draws_long, u.some, u.out_long, u.table.signs, c.rank_meant-meant.ensures.1) }
 
 pub returns : goal.returns
 returns c = record { answers = ap Ok (held c.round-objective.result c.round-objective.type_inv ∙ (rw c.rank_meant-meant.ensures.0 at c.round-objective.ensures.value)) ∙ accepted_is _ _ _ c.in_ok-rounded_number.ensures refl; signs_are = (rw c.rank_meant-meant.ensures.0 at c.round-objective.ensures.out_after) ∙ accepted_is _ _ _ c.in_ok-rounded_number.ensures refl }

@@ -6,11 +6,8 @@ use Rattle.prepared_table.proofs.Preparing.{length_diagonal_of}
 use Rattle.prepared_table.proofs.diagonal.Goals as goal
 
 pub slice_bounds-sum_diagonal-end-2 : goal.slice_bounds-sum_diagonal-end-2
-slice_bounds-sum_diagonal-end-2 c = sym (length-take-le _ _ c.requires.lent.1)
-
-pub sum_diagonal-requires : goal.sum_diagonal-requires
-sum_diagonal-requires c = record { lent = c.requires.lent.0; in_range = rw (length-take-le c.args.m c.args.out.now c.requires.lent.1) c.requires.in_range }
+slice_bounds-sum_diagonal-end-2 c = sym (length-take-le _ _ c.requires.lent)
 
 pub returns : goal.returns
-returns c = let n : length (take c.args.m c.args.out.now) ≡ c.args.m = length-take-le _ _ c.requires.lent.1 in
+returns c = let n : length (take c.args.m c.args.out.now) ≡ c.args.m = length-take-le _ _ c.requires.lent in
     record { value = rw n at c.sum_diagonal.ensures.value; out_after = rw (c.sum_diagonal.ensures.out_after, n, length_diagonal_of) }

@@ -19,8 +19,8 @@ pub put_diagonal-requires : goal.put_diagonal-requires
 put_diagonal-requires c = omega (arith, c.requires.in_range.rows_in c.loop-e.e c.loop-e-test.true, c.clear.auto.g)
 
 pub loop-e-preserved : goal.loop-e-preserved
-loop-e-preserved c = (omega arith, omega arith, (rw (held (get_or c.args.values.now c.loop-e.e (pos 0)) c.put_diagonal-arg-in-loop-e-1.given) at c.put_diagonal.ensures) ∙ up_to_next _ _ _ _ c.loop-e.invariant.2)
+loop-e-preserved c = (omega arith, omega arith, (rw (held (get_or c.args.table.values.now c.loop-e.e (pos 0)) c.put_diagonal-arg-in-loop-e-3-1.given) at c.put_diagonal.ensures) ∙ up_to_next _ _ _ _ c.loop-e.invariant.2)
 
 pub returns : goal.returns
 unfolding diagonal_of
-returns c = let e : c.loop-e.e ≡ c.args.count = omega arith in let n : length c.clear.new.g ≡ length c.args.out.now = c.clear.auto.g in rw (e, n) at c.loop-e.invariant.2
+returns c = let e : c.loop-e.e ≡ c.args.table.count = omega arith in let n : length c.clear.new.g ≡ length c.args.out.now = c.clear.auto.g in rw (e, n) at c.loop-e.invariant.2

@@ -15,8 +15,8 @@ unfolding any_below
 loop-e-init c = search rules
 
 pub loop-e-preserved : goal.loop-e-preserved
-loop-e-preserved c = (omega arith, (rw (held (get_or c.args.values.now c.loop-e.e (pos 0)) c.found_by-arg-1.given) at c.found_by-found.ensures) ∙ below_next _ _ _ c.loop-e.invariant.1)
+loop-e-preserved c = (omega arith, (rw (held (get_or c.args.table.values.now c.loop-e.e (pos 0)) c.found_by-arg-in-loop-e-2-1.given) at c.found_by-found.ensures) ∙ below_next _ _ _ c.loop-e.invariant.1)
 
 pub returns : goal.returns
 unfolding sets_aside
-returns c = let e : c.loop-e.e ≡ c.args.count = omega arith in rw e at c.loop-e.invariant.1
+returns c = let e : c.loop-e.e ≡ c.args.table.count = omega arith in rw e at c.loop-e.invariant.1

@@ -8,7 +8,7 @@ use Rattle.prepared_table.specs.Work.{set_by}
 use Rattle.prepared_table.proofs.sets_aside.Given as goal
 
 abbrev pub invariant-loop-e : goal.invariant-loop-e
-invariant-loop-e l = (l.e ≤ l.count) × (l.found ≡ any_below l.e (λ k. set_by (eqb (elem l.rows k) (elem l.cols k)) (eqb (nat_abs (elem_z l.values k)) 0)))
+invariant-loop-e l = (l.e ≤ l.table.count) × (l.found ≡ any_below l.e (λ k. set_by (eqb (elem l.table.rows.now k) (elem l.table.cols.now k)) (eqb (nat_abs (elem_z l.table.values.now k)) 0)))
 
 abbrev pub decreases-loop-e : goal.decreases-loop-e
-decreases-loop-e l = l.count - l.e
+decreases-loop-e l = l.table.count - l.e

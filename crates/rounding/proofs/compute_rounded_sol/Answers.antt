@@ -26,7 +26,7 @@ keep_better-least-requires c = omega (arith, c.loop-k.auto.best, c.loop-k.auto.s
 
 pub loop-k-preserved : goal.loop-k-preserved
 loop-k-preserved c = let a = c.args in
-    let f = draw_objective a.factor.now a.rank a.m a.draws.now (table_of a.count a.rows.now a.cols.now a.values.now) in
+    let f = draw_objective a.factor.now a.rank a.m a.draws.now (table_of a.table.count a.table.rows.now a.table.cols.now a.table.values.now) in
     let g = signs_of a.factor.now a.rank a.m a.draws.now in
     let l = c.loop-k in
     let o = c.evaluate_draw-objective in

@@ -6,4 +6,4 @@ use Rattle.rounding.specs.Rounding.{first_least, signs_of, draw_objective}
 use Rattle.rounding.proofs.compute_rounded_sol.Given as goal
 
 abbrev pub invariant-loop-k : goal.invariant-loop-k
-invariant-loop-k l = (l.least ≡ draw_objective l.factor l.rank l.m l.draws (table_of l.count l.rows l.cols l.values) (first_least (draw_objective l.factor l.rank l.m l.draws (table_of l.count l.rows l.cols l.values)) (l.k - 1))) × (l.best ≡ signs_of l.factor l.rank l.m l.draws (first_least (draw_objective l.factor l.rank l.m l.draws (table_of l.count l.rows l.cols l.values)) (l.k - 1)))
+invariant-loop-k l = (l.least ≡ draw_objective l.factor l.rank l.m l.draws (table_of l.table.count l.table.rows.now l.table.cols.now l.table.values.now) (first_least (draw_objective l.factor l.rank l.m l.draws (table_of l.table.count l.table.rows.now l.table.cols.now l.table.values.now)) (l.k - 1))) × (l.best ≡ signs_of l.factor l.rank l.m l.draws (first_least (draw_objective l.factor l.rank l.m l.draws (table_of l.table.count l.table.rows.now l.table.cols.now l.table.values.now)) (l.k - 1)))

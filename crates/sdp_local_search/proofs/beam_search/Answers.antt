@@ -40,17 +40,19 @@ slice_bounds-search_from-end-2 c =
     (sym c.in_ok-search_refusal.ensures) in
     k.workspace_there
 
+pub invariant_of-search_from : goal.invariant_of-search_from
+invariant_of-search_from c = let a = c.args in
+    let k = call_ready a.m a.count a.rows.now a.cols.now a.values.now a.width (length a.start.now) (length a.out.now) (length a.workspace.now)
+    (sym c.in_ok-search_refusal.ensures) in
+    let m : length (take (a.m - 0) (drop 0 a.out.now)) ≡ a.m = part_size a.m a.out.now k.out_there in
+    let n : length (take (search_workspace - 0) (drop 0 a.workspace.now)) ≡ search_workspace = part_size search_workspace a.workspace.now k.workspace_there in record { lent = k.lent }
+
 pub search_from-found-requires : goal.search_from-found-requires
 search_from-found-requires c = let a = c.args in
     let k = call_ready a.m a.count a.rows.now a.cols.now a.values.now a.width (length a.start.now) (length a.out.now) (length a.workspace.now)
     (sym c.in_ok-search_refusal.ensures) in
     let m : length (take (a.m - 0) (drop 0 a.out.now)) ≡ a.m = part_size a.m a.out.now k.out_there in
-    let n : length (take (search_workspace - 0) (drop 0 a.workspace.now)) ≡ search_workspace = part_size search_workspace a.workspace.now k.workspace_there in (
-      rw (m, n) (record { signs_few = k.signs_few; width_few = omega (arith, k.width_few); level_room = omega arith }),
-      rw m k.sound,
-      k.lent,
-      rw m k.start_there,
-    )
+    let n : length (take (search_workspace - 0) (drop 0 a.workspace.now)) ≡ search_workspace = part_size search_workspace a.workspace.now k.workspace_there in (rw (m, n) (record { signs_few = k.signs_few; width_few = omega (arith, k.width_few); level_room = omega arith }), rw m k.sound, rw m k.start_there)
 
 pub returns : goal.returns
 returns c = let a = c.args in

@@ -98,9 +98,33 @@ slice_bounds-search_reduced-end-5 c =
     omega (arith, fewer, c.reduce-shrunk.auto.free) in
     sym (length-take-le _ _ (free_fit))
 
+pub invariant_of-search_reduced : goal.invariant_of-search_reduced
+invariant_of-search_reduced c = let few : c.reduce-shrunk.result.count ≤ most_entries =
+      entries_few c.requires.0 c.reduce-shrunk.ensures.2 in
+      let fewer : c.reduce-shrunk.result.free ≤ most_wagons =
+      omega (arith, wagons_few c.requires.0 c.reduce-shrunk.ensures.2 c.reduce-shrunk.ensures.1, c.requires.0.hall.wagons) in
+      let rows_fit : c.reduce-shrunk.result.count ≤ length c.reduce-shrunk.new.to_rows =
+      omega (arith, few, c.reduce-shrunk.auto.to_rows) in
+      let cols_fit : c.reduce-shrunk.result.count ≤ length c.reduce-shrunk.new.to_cols =
+      omega (arith, few, c.reduce-shrunk.auto.to_cols) in
+      let values_fit : c.reduce-shrunk.result.count ≤ length c.reduce-shrunk.new.to_values =
+      omega (arith, few, c.reduce-shrunk.auto.to_values) in
+      let costs_fit : c.reduce-shrunk.result.free ≤ length c.reduce-shrunk.new.to_c =
+      omega (arith, fewer, c.reduce-shrunk.auto.to_c) in
+      let free_fit : c.reduce-shrunk.result.free ≤ length c.reduce-shrunk.new.free =
+      omega (arith, fewer, c.reduce-shrunk.auto.free) in
+      let costs_many : length (take c.reduce-shrunk.result.free c.reduce-shrunk.new.to_c) ≡ c.reduce-shrunk.result.free =
+      length-take-le _ _ (costs_fit) in
+      let free_many : length (take c.reduce-shrunk.result.free c.reduce-shrunk.new.free) ≡ c.reduce-shrunk.result.free =
+      length-take-le _ _ (free_fit) in
+      let free_is : take c.reduce-shrunk.result.free c.reduce-shrunk.new.free ≡ free_of c.args.n c.args.states.now =
+      free_cut _ _ _ _ _ c.reduce-shrunk.ensures.0 c.reduce-shrunk.ensures.1 in
+      let hall : Hall most_wagons most_entries most_magnitude c.reduce-shrunk.result.free (table_of c.reduce-shrunk.result.count (take c.reduce-shrunk.result.count c.reduce-shrunk.new.to_rows) (take c.reduce-shrunk.result.count c.reduce-shrunk.new.to_cols) (take c.reduce-shrunk.result.count c.reduce-shrunk.new.to_values)) (elem_z (take c.reduce-shrunk.result.free c.reduce-shrunk.new.to_c)) =
+      front_hall c.requires.0 c.reduce-shrunk.ensures.2 c.reduce-shrunk.ensures.1 (record { rows_room = omega (arith, few); cols_room = omega (arith, few); values_room = omega (arith, few) }) in
+      record { lent = lent_front _ _ _ _ (rows_fit) (cols_fit) (values_fit) }
+
 pub search_reduced-fall-requires : goal.search_reduced-fall-requires
-search_reduced-fall-requires c =
-    let few : c.reduce-shrunk.result.count ≤ most_entries =
+search_reduced-fall-requires c = let few : c.reduce-shrunk.result.count ≤ most_entries =
     entries_few c.requires.0 c.reduce-shrunk.ensures.2 in
     let fewer : c.reduce-shrunk.result.free ≤ most_wagons =
     omega (arith, wagons_few c.requires.0 c.reduce-shrunk.ensures.2 c.reduce-shrunk.ensures.1, c.requires.0.hall.wagons) in
@@ -122,7 +146,7 @@ search_reduced-fall-requires c =
     free_cut _ _ _ _ _ c.reduce-shrunk.ensures.0 c.reduce-shrunk.ensures.1 in
     let hall : Hall most_wagons most_entries most_magnitude c.reduce-shrunk.result.free (table_of c.reduce-shrunk.result.count (take c.reduce-shrunk.result.count c.reduce-shrunk.new.to_rows) (take c.reduce-shrunk.result.count c.reduce-shrunk.new.to_cols) (take c.reduce-shrunk.result.count c.reduce-shrunk.new.to_values)) (elem_z (take c.reduce-shrunk.result.free c.reduce-shrunk.new.to_c)) =
     front_hall c.requires.0 c.reduce-shrunk.ensures.2 c.reduce-shrunk.ensures.1 (record { rows_room = omega (arith, few); cols_room = omega (arith, few); values_room = omega (arith, few) }) in
-    record { lent = (lent_front _ _ _ _ (rows_fit) (cols_fit) (values_fit), omega (arith, costs_many), hall); search_fits = record { wagons_many = free_many; wagons_there = free_in_lem c.args.n _ c.args.states.now (free_is) (omega (arith, c.requires.1)); bytes_low = c.requires.2; width_few = c.requires.3; found_room = omega (arith, fewer); space_room = c.requires.4 } }
+    record { lent = (omega (arith, costs_many), hall); search_fits = record { wagons_many = free_many; wagons_there = free_in_lem c.args.n _ c.args.states.now (free_is) (omega (arith, c.requires.1)); bytes_low = c.requires.2; width_few = c.requires.3; found_room = omega (arith, fewer); space_room = c.requires.4 } }
 
 pub slice_bounds-free-end-2 : goal.slice_bounds-free-end-2
 slice_bounds-free-end-2 c =

@@ -4,4 +4,4 @@ use Rattle.exhaustive.proofs.Placing.{Laid}
 use Rattle.exhaustive.proofs.grid.lay_out.Given as goal
 
 abbrev pub invariant-loop-k : goal.invariant-loop-k
-invariant-loop-k l = (l.k ≤ l.count) × Laid l.rows l.cols l.values l.k l.grid
+invariant-loop-k l = (l.k ≤ l.table.count) × Laid l.table.rows.now l.table.cols.now l.table.values.now l.k l.grid

@@ -11,7 +11,7 @@ use Rattle.factor_calls.specs.Equation8.{value_of}
 use Rattle.factor_calls.proofs.whole.whole_multipliers.Given as goal
 
 abbrev pub invariant-loop-i : goal.invariant-loop-i
-invariant-loop-i l = (l.i ≤ l.m) × (length l.sums ≡ l.rank) × (length l.dual ≡ length l.initial.dual) × (l.dual ≡ over (tabulate (λ j. value_of l.divided (whole_row (table_of l.count l.rows l.cols l.values) l.rank l.factor j) (row_of l.rank l.factor j)) l.i) l.initial.dual) × At (table_of l.count l.rows l.cols l.values) l.from l.i 0
+invariant-loop-i l = (l.i ≤ l.m) × (length l.sums ≡ l.rank) × (length l.dual ≡ length l.initial.dual) × (l.dual ≡ over (tabulate (λ j. value_of l.divided (whole_row (table_of l.table.count l.table.rows.now l.table.cols.now l.table.values.now) l.rank l.factor j) (row_of l.rank l.factor j)) l.i) l.initial.dual) × At (table_of l.table.count l.table.rows.now l.table.cols.now l.table.values.now) l.from l.i 0
 
 abbrev pub decreases-loop-i : goal.decreases-loop-i
 decreases-loop-i l = l.m - l.i

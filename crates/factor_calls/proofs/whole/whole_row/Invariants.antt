@@ -11,7 +11,7 @@ use Rattle.maxcut_oracle.specs.Whole.{whole_turn}
 use Rattle.factor_calls.proofs.whole.whole_row.Given as goal
 
 abbrev pub invariant-loop-sums : goal.invariant-loop-sums
-invariant-loop-sums l = RowAt l.count (elem l.rows) l.e l.i × (length l.sums ≡ l.rank) × (l.sums ≡ up_to (whole_turn (table_of l.count l.rows l.cols l.values) l.rank l.factor l.i) l.e (replicate l.rank zero64))
+invariant-loop-sums l = RowAt l.table.count (elem l.table.rows.now) l.e l.i × (length l.sums ≡ l.rank) × (l.sums ≡ up_to (whole_turn (table_of l.table.count l.table.rows.now l.table.cols.now l.table.values.now) l.rank l.factor l.i) l.e (replicate l.rank zero64))
 
 abbrev pub decreases-loop-sums : goal.decreases-loop-sums
-decreases-loop-sums l = l.count - l.e
+decreases-loop-sums l = l.table.count - l.e

@@ -11,18 +11,17 @@ use Rattle.finalize.proofs.choice.search_from.Goals as goal
 
 pub compute_rounded_sol-rounded_cost-requires : goal.compute_rounded_sol-rounded_cost-requires
 compute_rounded_sol-rounded_cost-requires c = rw (add-one c.args.n)
-    (record { lent = (c.requires.lent.0, c.requires.lent.1.in_range, c.requires.lent.1.magnitude); rank_in_bounds = (c.requires.choice_fits.0.factor_room, c.requires.choice_fits.0.draws_room, c.requires.choice_fits.0.draws_some, c.requires.choice_fits.1, c.requires.choice_fits.2, c.requires.choice_fits.3) })
+    (record { lent = (c.requires.lent.in_range, c.requires.lent.magnitude); rank_in_bounds = (c.requires.choice_fits.0.factor_room, c.requires.choice_fits.0.draws_room, c.requires.choice_fits.0.draws_some, c.requires.choice_fits.1, c.requires.choice_fits.2, c.requires.choice_fits.3) })
 
 pub search_signs-found-requires : goal.search_signs-found-requires
 search_signs-found-requires c =
     let rounded-long : length c.compute_rounded_sol-rounded_cost.new.best ≡ suc c.args.n =
     c.compute_rounded_sol-rounded_cost.auto.best ∙ c.requires.choice_fits.3 in
     let a = c.args in (
-      room c.requires.lent.1 (rounded-long) c.requires.choice_fits.0.width_few c.requires.choice_fits.0.space_room,
+      room c.requires.lent (rounded-long) c.requires.choice_fits.0.width_few c.requires.choice_fits.0.space_room,
       rw c.compute_rounded_sol-rounded_cost.ensures.best_after
-          (rounded_binary a.factor.now a.rank (a.n + 1) a.draws.now (table_of a.entries a.rows.now a.cols.now a.values.now) a.draw_count),
-      sound c.requires.lent.1 (rounded-long),
-      c.requires.lent.0,
+          (rounded_binary a.factor.now a.rank (a.n + 1) a.draws.now (table_of a.table.count a.table.rows.now a.table.cols.now a.table.values.now) a.draw_count),
+      sound c.requires.lent (rounded-long),
     )
 
 pub qubo_binary_from_sign_solution-requires : goal.qubo_binary_from_sign_solution-requires
@@ -33,6 +32,6 @@ qubo_binary_from_sign_solution-requires c =
 
 pub returns : goal.returns
 returns c = let a = c.args in
-    chooses (table_of a.entries a.rows.now a.cols.now a.values.now) a.n a.rank a.width a.draw_count a.draws.now a.factor.now a.b.now _ _ _ _ c.search_signs-found.result.least _ _
-    c.compute_rounded_sol-rounded_cost.ensures.best_after (held c.compute_rounded_sol-rounded_cost.result c.compute_rounded_sol-rounded_cost.type_inv ∙ c.compute_rounded_sol-rounded_cost.ensures.value) c.search_signs-found.ensures (objective_held c.requires.lent.1 _ c.search_signs-found.ensures.least_is)
+    chooses (table_of a.table.count a.table.rows.now a.table.cols.now a.table.values.now) a.n a.rank a.width a.draw_count a.draws.now a.factor.now a.b.now _ _ _ _ c.search_signs-found.result.least _ _
+    c.compute_rounded_sol-rounded_cost.ensures.best_after (held c.compute_rounded_sol-rounded_cost.result c.compute_rounded_sol-rounded_cost.type_inv ∙ c.compute_rounded_sol-rounded_cost.ensures.value) c.search_signs-found.ensures (objective_held c.requires.lent _ c.search_signs-found.ensures.least_is)
     c.qubo_binary_from_sign_solution.ensures c.requires.choice_fits.0.b_room

@@ -10,7 +10,7 @@ use Rattle.finalize.proofs.Fronts.{length_dual}
 use Rattle.finalize.proofs.multipliers.multipliers.Goals as goal
 
 pub diagonal-sum-requires : goal.diagonal-sum-requires
-diagonal-sum-requires c = record { lent = (c.requires.lent.0, omega (arith, c.numbers-aside.ensures.most_signs_value, c.requires.m_le_most_signs.0)); in_range = c.requires.lent.1 }
+diagonal-sum-requires c = record { lent = omega (arith, c.numbers-aside.ensures.most_signs_value, c.requires.m_le_most_signs.0); in_range = c.requires.lent.0 }
 
 pub slice_bounds-aside-end : goal.slice_bounds-aside-end
 slice_bounds-aside-end c =
@@ -43,13 +43,12 @@ pub slice_bounds-multiply_out-end-8 : goal.slice_bounds-multiply_out-end-8
 slice_bounds-multiply_out-end-8 c = sym (length-take-le _ _ c.requires.m_le_most_signs.3)
 
 pub multiply_out-requires : goal.multiply_out-requires
-multiply_out-requires c =
-    let sums-fit : c.args.rank ≤ length c.direction-sums.result =
+multiply_out-requires c = let sums-fit : c.args.rank ≤ length c.direction-sums.result =
     omega (arith, c.direction-sums.ensures.most_rank_value, c.requires.m_le_most_signs.2) in
     let a = c.args in record {
-      lent = (c.requires.lent.0, c.requires.lent.1, c.requires.lent.2);
+      lent = (c.requires.lent.0, c.requires.lent.1);
       diagonal_value = (
-        rw c.diagonal-sum.ensures.out_after (work_front _ _ _ (length_diagonal_of (table_of a.entries a.rows.now a.cols.now a.values.now) a.m)),
+        rw c.diagonal-sum.ensures.out_after (work_front _ _ _ (length_diagonal_of (table_of a.table.count a.table.rows.now a.table.cols.now a.table.values.now) a.m)),
         record {
           rows_room = omega (arith, c.indices-work_rows.ensures.most_sign_entries_value, c.requires.m_le_most_signs.1);
           cols_room = omega (arith, c.indices-work_cols.ensures.most_sign_entries_value, c.requires.m_le_most_signs.1);
@@ -62,4 +61,4 @@ multiply_out-requires c =
     }
 
 pub returns : goal.returns
-returns c = let a = c.args in record { value = c.diagonal-sum.ensures.value; dual_after = rw (c.multiply_out.ensures, length_dual (table_of a.entries a.rows.now a.cols.now a.values.now) a.m a.rank a.factor.now) }
+returns c = let a = c.args in record { value = c.diagonal-sum.ensures.value; dual_after = rw (c.multiply_out.ensures, length_dual (table_of a.table.count a.table.rows.now a.table.cols.now a.table.values.now) a.m a.rank a.factor.now) }

@@ -9,4 +9,4 @@ use mathlib.Core.Path.{◌≡◌}
 use Rattle.pinned.proofs.reduce.beside_sums.Given as goal
 
 abbrev pub invariant-loop-l : goal.invariant-loop-l
-invariant-loop-l l = (l.l ≤ l.count) × (l.sums ≡ tabulate (λ i. S.sum l.l (beside_term (table_of l.count l.rows l.cols l.values) (choice_at l.held) i)) most_wagons)
+invariant-loop-l l = (l.l ≤ l.table.count) × (l.sums ≡ tabulate (λ i. S.sum l.l (beside_term (table_of l.table.count l.table.rows.now l.table.cols.now l.table.values.now) (choice_at l.held) i)) most_wagons)

@@ -19,6 +19,17 @@ finish_accepted-result-requires c =
     finish_lengths c.args.draws.now c.args.factor.now c.args.b.now c.args.dual_variables.now c.args.workspace.now in
     finish_ok c.args.run (table) c.args.width c.args.draw_count (lent) c.requires
 
+pub invariant_of-eval_qubo_objective : goal.invariant_of-eval_qubo_objective
+invariant_of-eval_qubo_objective c = let table : RangedTable =
+    ranged_table c.args.n c.args.count c.args.rows.now c.args.cols.now c.args.low.now c.args.high.now c.args.low_c.now c.args.high_c.now in
+    let lent : FinishLengths =
+    finish_lengths c.args.draws.now c.args.factor.now c.args.b.now c.args.dual_variables.now c.args.workspace.now in
+    let high : Finishable c.args.run (high_of (table)) c.args.width c.args.draw_count (lent) =
+    finish_accepted _ _ _ _ _ (finish_ok c.args.run (table) c.args.width c.args.draw_count (lent) c.requires) in
+    let low : Usable (low_of (table)) =
+    low_usable (table) (ranged_lent c.args.run (table) c.args.width c.args.draw_count (lent) c.requires)
+    (ranged_ok c.args.run (table) c.args.width c.args.draw_count (lent) c.requires) in record { lent = (low).slices }
+
 pub eval_qubo_objective-least-requires : goal.eval_qubo_objective-least-requires
 eval_qubo_objective-least-requires c =
     let table : RangedTable =
@@ -30,7 +41,15 @@ eval_qubo_objective-least-requires c =
     let low : Usable (low_of (table)) =
     low_usable (table) (ranged_lent c.args.run (table) c.args.width c.args.draw_count (lent) c.requires)
     (ranged_ok c.args.run (table) c.args.width c.args.draw_count (lent) c.requires) in
-    ((low).slices, (low).costs, omega (arith, (high).fits.b_room, c.finish_accepted-result.auto.b), (low).hall.in_range, omega (arith, (low).hall.magnitude))
+    ((low).costs, omega (arith, (high).fits.b_room, c.finish_accepted-result.auto.b), (low).hall.in_range, omega (arith, (low).hall.magnitude))
+
+pub invariant_of-eval_qubo_objective : goal.invariant_of-eval_qubo_objective
+invariant_of-eval_qubo_objective c = let table : RangedTable =
+    ranged_table c.args.n c.args.count c.args.rows.now c.args.cols.now c.args.low.now c.args.high.now c.args.low_c.now c.args.high_c.now in
+    let lent : FinishLengths =
+    finish_lengths c.args.draws.now c.args.factor.now c.args.b.now c.args.dual_variables.now c.args.workspace.now in
+    let high : Finishable c.args.run (high_of (table)) c.args.width c.args.draw_count (lent) =
+    finish_accepted _ _ _ _ _ (finish_ok c.args.run (table) c.args.width c.args.draw_count (lent) c.requires) in record { lent = (high).slices }
 
 pub eval_qubo_objective-most-requires : goal.eval_qubo_objective-most-requires
 eval_qubo_objective-most-requires c =
@@ -40,7 +59,16 @@ eval_qubo_objective-most-requires c =
     finish_lengths c.args.draws.now c.args.factor.now c.args.b.now c.args.dual_variables.now c.args.workspace.now in
     let high : Finishable c.args.run (high_of (table)) c.args.width c.args.draw_count (lent) =
     finish_accepted _ _ _ _ _ (finish_ok c.args.run (table) c.args.width c.args.draw_count (lent) c.requires) in
-    ((high).slices, (high).costs, omega (arith, (high).fits.b_room, c.finish_accepted-result.auto.b), (high).hall.in_range, omega (arith, (high).hall.magnitude))
+    ((high).costs, omega (arith, (high).fits.b_room, c.finish_accepted-result.auto.b), (high).hall.in_range, omega (arith, (high).hall.magnitude))
+
+pub invariant_of-floor_of : goal.invariant_of-floor_of
+invariant_of-floor_of c = let table : RangedTable =
+    ranged_table c.args.n c.args.count c.args.rows.now c.args.cols.now c.args.low.now c.args.high.now c.args.low_c.now c.args.high_c.now in
+    let lent : FinishLengths =
+    finish_lengths c.args.draws.now c.args.factor.now c.args.b.now c.args.dual_variables.now c.args.workspace.now in
+    let low : Usable (low_of (table)) =
+    low_usable (table) (ranged_lent c.args.run (table) c.args.width c.args.draw_count (lent) c.requires)
+    (ranged_ok c.args.run (table) c.args.width c.args.draw_count (lent) c.requires) in record { lent = (low).slices }
 
 pub floor_of-floor-requires : goal.floor_of-floor-requires
 floor_of-floor-requires c =
@@ -51,7 +79,7 @@ floor_of-floor-requires c =
     let low : Usable (low_of (table)) =
     low_usable (table) (ranged_lent c.args.run (table) c.args.width c.args.draw_count (lent) c.requires)
     (ranged_ok c.args.run (table) c.args.width c.args.draw_count (lent) c.requires) in
-    ((low).slices, (low).costs, (low).hall)
+    ((low).costs, (low).hall)
 
 pub shape_of-b : goal.shape_of-b
 shape_of-b c = c.finish_accepted-result.auto.b

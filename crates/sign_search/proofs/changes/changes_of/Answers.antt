@@ -10,21 +10,21 @@ use Rattle.sign_search.proofs.changes.changes_of.Goals as goal
 pub clear-requires : goal.clear-requires
 clear-requires c = c.requires.1
 
-pub shape_of-changes-then-entries-eq0 : goal.shape_of-changes-then-entries-eq0
-shape_of-changes-then-entries-eq0 c = c.clear.auto.changes
+pub shape_of-changes-then-table-eq0 : goal.shape_of-changes-then-table-eq0
+shape_of-changes-then-table-eq0 c = c.clear.auto.changes
 
-pub returns-then-entries-eq0 : goal.returns-then-entries-eq0
-returns-then-entries-eq0 c = let k = c.clear in
+pub returns-then-table-eq0 : goal.returns-then-table-eq0
+returns-then-table-eq0 c = let k = c.clear in
     let a = c.args in
-    let t = table_of a.entries a.rows.now a.cols.now a.values.now in
+    let t = table_of a.table.count a.table.rows.now a.table.cols.now a.table.values.now in
     over_cleared t a.signs.now a.changes.now k.new.changes k.new.changes k.ensures
     (changes_laid t a.signs.now k.new.changes k.new.changes
-    (changes_none t a.signs.now k.new.changes c.requires.0 c.if-entries-eq0.true (omega (arith, k.auto.changes, c.requires.1)) (cleared (length a.signs.now) a.changes.now k.new.changes c.requires.1 k.ensures))
+    (changes_none t a.signs.now k.new.changes c.requires.0 c.if-table-eq0.true (omega (arith, k.auto.changes, c.requires.1)) (cleared (length a.signs.now) a.changes.now k.new.changes c.requires.1 k.ensures))
     refl refl)
 
 pub sum_rows-requires : goal.sum_rows-requires
 sum_rows-requires c = let k = c.clear in
-    (c.requires.0, omega (arith, k.auto.changes, c.requires.1), omega arith, cleared (length c.args.signs.now) c.args.changes.now k.new.changes c.requires.1 k.ensures, c.requires.2)
+    (c.requires.0, omega (arith, k.auto.changes, c.requires.1), omega arith, cleared (length c.args.signs.now) c.args.changes.now k.new.changes c.requires.1 k.ensures)
 
 pub shape_of-changes : goal.shape_of-changes
 shape_of-changes c = c.sum_rows.auto.changes ∙ c.clear.auto.changes
@@ -32,4 +32,4 @@ shape_of-changes c = c.sum_rows.auto.changes ∙ c.clear.auto.changes
 pub returns : goal.returns
 returns c = let k = c.clear in
     let a = c.args in
-    over_cleared (table_of a.entries a.rows.now a.cols.now a.values.now) a.signs.now a.changes.now k.new.changes _ k.ensures c.sum_rows.ensures
+    over_cleared (table_of a.table.count a.table.rows.now a.table.cols.now a.table.values.now) a.signs.now a.changes.now k.new.changes _ k.ensures c.sum_rows.ensures

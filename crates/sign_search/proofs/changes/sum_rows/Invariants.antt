@@ -9,8 +9,8 @@ use Rattle.sign_search.specs.Clauses.{Summed}
 use Rattle.sign_search.proofs.changes.sum_rows.Given as goal
 
 abbrev pub invariant-loop-k : goal.invariant-loop-k
-invariant-loop-k l = (l.k ≤ l.entries) × (length l.changes ≡ length l.initial.changes) × Summed (table_of l.entries l.rows l.cols l.values) l.signs l.k l.row (l.held) l.changes
+invariant-loop-k l = (l.k ≤ l.table.count) × (length l.changes ≡ length l.initial.changes) × Summed (table_of l.table.count l.table.rows.now l.table.cols.now l.table.values.now) l.signs l.k l.row (l.held) l.changes
     × (drop (length l.signs) l.changes ≡ drop (length l.signs) l.initial.changes)
 
 abbrev pub decreases-loop-k : goal.decreases-loop-k
-decreases-loop-k l = l.entries - l.k
+decreases-loop-k l = l.table.count - l.k

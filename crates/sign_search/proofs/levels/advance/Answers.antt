@@ -7,7 +7,7 @@ use Rattle.local_search.proofs.Decoded.{sign_level_copied, tidy_copied}
 use Rattle.sign_search.proofs.levels.advance.Goals as goal
 
 pub expand_level-kept-requires : goal.expand_level-kept-requires
-expand_level-kept-requires c = (c.requires.0.expands, c.requires.1, c.requires.2, c.requires.3, c.requires.4, c.requires.5)
+expand_level-kept-requires c = (c.requires.0.expands, c.requires.1, c.requires.2, c.requires.3, c.requires.4)
 
 pub overflow_mul-taken : goal.overflow_mul-taken
 overflow_mul-taken c =

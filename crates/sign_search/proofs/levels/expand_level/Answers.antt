@@ -17,7 +17,7 @@ use Rattle.sign_search.proofs.levels.expand_level.Goals as goal
 
 pub loop-k-init : goal.loop-k-init
 loop-k-init c = let a = c.args in
-    let t = (table_of a.entries a.rows.now a.cols.now a.values.now) in
+    let t = (table_of a.table.count a.table.rows.now a.table.cols.now a.table.values.now) in
     let m = length a.current.now in (
       omega arith,
       refl,
@@ -59,23 +59,22 @@ expand_row-kept-requires c = let a = c.args in
     let m = length a.current.now in
     let room = row_room a.words a.from_count l.k (length a.from_signs.now) (omega arith) c.requires.0.from_signs_room in (
       rw l.invariant.4
-          (parent_expands (table_of a.entries a.rows.now a.cols.now a.values.now) a.words m a.from_objectives.now a.from_signs.now l.k room
+          (parent_expands (table_of a.table.count a.table.rows.now a.table.cols.now a.table.values.now) a.words m a.from_objectives.now a.from_signs.now l.k room
           _ a.from_count a.width l.kept (length l.changes) (length l.objectives) (length l.signs) (to_z-of_z {w = w64} (sfits_of c.objective-1.given)) (omega arith) l.invariant.6.room
           (rw (l.invariant.1, l.invariant.2, l.invariant.3) c.requires.0)),
       l.invariant.5 ∙ c.requires.1 ∙ sym (part_long a.words a.from_objectives.now a.from_signs.now l.k room),
       l.invariant.7,
-      c.requires.3,
       sign_rising a.width a.words m l.kept l.objectives l.signs [] _ l.kept
           (omega (arith, l.invariant.2, l.invariant.6.room, c.requires.0.objectives_room)) tt l.invariant.6,
-      rw (l.invariant.4, part_long a.words a.from_objectives.now a.from_signs.now l.k room) c.requires.4,
-      rw l.invariant.4 (tidy_part a.words m l.k a.from_count a.from_objectives.now a.from_signs.now room (omega arith) c.requires.0.from_objectives_room c.requires.5),
+      rw (l.invariant.4, part_long a.words a.from_objectives.now a.from_signs.now l.k room) c.requires.3,
+      rw l.invariant.4 (tidy_part a.words m l.k a.from_count a.from_objectives.now a.from_signs.now room (omega arith) c.requires.0.from_objectives_room c.requires.4),
     )
 
 pub loop-k-preserved : goal.loop-k-preserved
 loop-k-preserved c = let a = c.args in
     let l = c.loop-k in
     let v = c.expand_row-kept in
-    let t = (table_of a.entries a.rows.now a.cols.now a.values.now) in
+    let t = (table_of a.table.count a.table.rows.now a.table.cols.now a.table.values.now) in
     let m = length a.current.now in
     let room = row_room a.words a.from_count l.k (length a.from_signs.now) c.loop-k-test.true c.requires.0.from_signs_room in
     let long = part_long a.words a.from_objectives.now a.from_signs.now l.k room in (
@@ -113,7 +112,7 @@ shape_of-signs c = c.loop-k.invariant.3
 pub returns : goal.returns
 returns c = let l = c.loop-k in
     let a = c.args in record {
-      next_level = next_level_lem (table_of a.entries a.rows.now a.cols.now a.values.now) (bounds a.flips a.most (unpacked (length a.current.now) a.origin.now)) a.words (length a.current.now) a.width l.k a.from_count l.kept a.from_objectives.now a.from_signs.now
+      next_level = next_level_lem (table_of a.table.count a.table.rows.now a.table.cols.now a.table.values.now) (bounds a.flips a.most (unpacked (length a.current.now) a.origin.now)) a.words (length a.current.now) a.width l.k a.from_count l.kept a.from_objectives.now a.from_signs.now
           (sign_level a.words (length a.current.now) l.kept l.objectives l.signs) (omega arith) l.invariant.6;
       at_hand = l.invariant.7;
       tidy = l.invariant.8;

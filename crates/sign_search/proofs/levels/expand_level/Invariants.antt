@@ -13,8 +13,8 @@ use Rattle.sign_search.proofs.levels.expand_level.Given as goal
 
 abbrev pub invariant-loop-k : goal.invariant-loop-k
 invariant-loop-k l = (l.k ≤ l.from_count) × (length l.changes ≡ length l.initial.changes) × (length l.objectives ≡ length l.initial.objectives) × (length l.signs ≡ length l.initial.signs) × (length l.current ≡ length l.initial.current) × (length l.current_row ≡ length l.initial.current_row)
-    × Kept l.width [] (children_of (λ x. table_children (table_of l.entries l.rows l.cols l.values) (bounds l.flips l.most (unpacked (length l.initial.current) l.origin)) (length l.initial.current) (decoded (length l.initial.current) x)) (level_of l.words l.k l.from_objectives l.from_signs)) (sign_level l.words (length l.initial.current) l.kept l.objectives l.signs) l.kept
-    × AtHand (table_of l.entries l.rows l.cols l.values) l.current l.current_row l.changes
+    × Kept l.width [] (children_of (λ x. table_children (table_of l.table.count l.table.rows.now l.table.cols.now l.table.values.now) (bounds l.flips l.most (unpacked (length l.initial.current) l.origin)) (length l.initial.current) (decoded (length l.initial.current) x)) (level_of l.words l.k l.from_objectives l.from_signs)) (sign_level l.words (length l.initial.current) l.kept l.objectives l.signs) l.kept
+    × AtHand (table_of l.table.count l.table.rows.now l.table.cols.now l.table.values.now) l.current l.current_row l.changes
     × (TidyLevel l.words (length l.initial.current) l.from_count l.from_objectives l.from_signs → TidyLevel l.words (length l.initial.current) l.kept l.objectives l.signs)
 
 abbrev pub decreases-loop-k : goal.decreases-loop-k

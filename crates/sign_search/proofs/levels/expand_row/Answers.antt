@@ -16,25 +16,20 @@ use Rattle.sign_search.proofs.levels.expand_row.Goals as goal
 
 pub move_to-requires : goal.move_to-requires
 move_to-requires c = let a = c.args in
-    let long = length_unpacked (length a.current.now) a.parent.now in (
-      rw long at c.requires.0.table,
-      record { signs_held = omega (arith, c.requires.0.signs_held, long, c.requires.1); words_few = omega (arith, c.requires.0.words_few, c.requires.1); as_long = c.requires.1 },
-      c.requires.2,
-      c.requires.3,
-    )
+    let long = length_unpacked (length a.current.now) a.parent.now in (rw long at c.requires.0.table, record { signs_held = omega (arith, c.requires.0.signs_held, long, c.requires.1); words_few = omega (arith, c.requires.0.words_few, c.requires.1); as_long = c.requires.1 }, c.requires.2)
 
 pub expand_near-requires : goal.expand_near-requires
 expand_near-requires c = let k = c.move_to in
     let a = c.args in
     let changes = k.new.changes in (
       rw (to_z-of_z c.ranges.objective)
-          (row_expands (table_of a.entries a.rows.now a.cols.now a.values.now) (length a.current.now) a.objective a.parent.now changes
-          (subst (λ (x : List ℕ). Changes (table_of a.entries a.rows.now a.cols.now a.values.now) x changes) k.ensures.current_after k.ensures.at_hand.changes_are)
-          (bounds a.flips a.most (unpacked (length a.current.now) a.origin.now)) c.requires.5.flips_few
+          (row_expands (table_of a.table.count a.table.rows.now a.table.cols.now a.table.values.now) (length a.current.now) a.objective a.parent.now changes
+          (subst (λ (x : List ℕ). Changes (table_of a.table.count a.table.rows.now a.table.cols.now a.table.values.now) x changes) k.ensures.current_after k.ensures.at_hand.changes_are)
+          (bounds a.flips a.most (unpacked (length a.current.now) a.origin.now)) c.requires.4.flips_few
           a.count a.width (length a.objectives.now) (length a.signs.now) (rw k.auto.changes c.requires.0)),
-      c.requires.4,
-      omega (arith, c.requires.5.flips_few, k.auto.current),
-      both_packed (length a.current.now) k.new.current a.parent.now a.origin.now a.flips k.auto.current k.ensures.current_after c.requires.5 c.requires.6
+      c.requires.3,
+      omega (arith, c.requires.4.flips_few, k.auto.current),
+      both_packed (length a.current.now) k.new.current a.parent.now a.origin.now a.flips k.auto.current k.ensures.current_after c.requires.4 c.requires.5
           (omega (arith, c.requires.0.signs_held, length_unpacked (length a.current.now) a.parent.now)) c.requires.0.words_few,
     )
 
@@ -57,10 +52,10 @@ pub returns : goal.returns
 returns c = let e = c.expand_near in
     let k = c.move_to in
     let a = c.args in
-    let t = (table_of a.entries a.rows.now a.cols.now a.values.now) in
+    let t = (table_of a.table.count a.table.rows.now a.table.cols.now a.table.values.now) in
     let m = length a.current.now in
     let b = bounds a.flips a.most (unpacked (length a.current.now) a.origin.now) in
     let changes = k.new.changes in
     let is = subst (λ (x : List ℕ). Changes t x changes) k.ensures.current_after k.ensures.at_hand.changes_are in
     let held : m ≤ 64 * length a.parent.now = omega (arith, c.requires.0.signs_held, length_unpacked m a.parent.now) in
-    let taken = rw (to_z-of_z c.ranges.objective, k.ensures.current_after, length_unpacked m a.parent.now) at e.ensures in record { kept = row_kept t m a.objective a.parent.now changes is b c.requires.5.flips_few a.width a.count e.result a.objectives.now e.new.objectives a.signs.now e.new.signs held taken; at_hand = k.ensures.at_hand; tidy = row_tidy t m a.objective a.parent.now changes is b c.requires.5.flips_few a.width a.count e.result a.objectives.now e.new.objectives a.signs.now e.new.signs held taken }
+    let taken = rw (to_z-of_z c.ranges.objective, k.ensures.current_after, length_unpacked m a.parent.now) at e.ensures in record { kept = row_kept t m a.objective a.parent.now changes is b c.requires.4.flips_few a.width a.count e.result a.objectives.now e.new.objectives a.signs.now e.new.signs held taken; at_hand = k.ensures.at_hand; tidy = row_tidy t m a.objective a.parent.now changes is b c.requires.4.flips_few a.width a.count e.result a.objectives.now e.new.objectives a.signs.now e.new.signs held taken }

@@ -14,7 +14,7 @@ loop-i-init c = (refl, refl, refl, c.requires.2, c.sign_apart-i.ensures)
 
 pub flip_at_hand-requires : goal.flip_at_hand-requires
 flip_at_hand-requires c = let l = c.loop-i in
-    (rw l.invariant.0 c.requires.0, omega (arith, l.invariant.0), omega (arith, l.invariant.0, l.invariant.1, c.requires.1.signs_held), l.invariant.3, c.requires.3)
+    (rw l.invariant.0 c.requires.0, omega (arith, l.invariant.0), omega (arith, l.invariant.0, l.invariant.1, c.requires.1.signs_held), l.invariant.3)
 
 pub sign_apart-i-requires-in-loop-i : goal.sign_apart-i-requires-in-loop-i
 sign_apart-i-requires-in-loop-i c = let l = c.loop-i in
@@ -37,4 +37,4 @@ loop-i-preserved c = let l = c.loop-i in
 pub returns : goal.returns
 returns c = let l = c.loop-i in
     let a = c.args in
-    record { current_after = hand_moved (table_of a.entries a.rows.now a.cols.now a.values.now) l.current l.current_row a.target.now l.changes (length a.current.now) l.i l.invariant.0 (omega arith) l.invariant.3 l.invariant.4; at_hand = l.invariant.3 }
+    record { current_after = hand_moved (table_of a.table.count a.table.rows.now a.table.cols.now a.table.values.now) l.current l.current_row a.target.now l.changes (length a.current.now) l.i l.invariant.0 (omega arith) l.invariant.3 l.invariant.4; at_hand = l.invariant.3 }

@@ -6,7 +6,7 @@ use Rattle.sign_search.specs.Clauses.{Turned}
 use Rattle.sign_search.proofs.moves.turn_entries.Given as goal
 
 abbrev pub invariant-loop-k : goal.invariant-loop-k
-invariant-loop-k l = (l.from ≤ l.k) × (l.k ≤ l.entries) × (length l.changes ≡ length l.initial.changes) × Turned (table_of l.entries l.rows l.cols l.values) l.current l.i l.k l.initial.changes l.changes
+invariant-loop-k l = (l.from ≤ l.k) × (l.k ≤ l.table.count) × (length l.changes ≡ length l.initial.changes) × Turned (table_of l.table.count l.table.rows.now l.table.cols.now l.table.values.now) l.current l.i l.k l.initial.changes l.changes
 
 abbrev pub decreases-loop-k : goal.decreases-loop-k
 decreases-loop-k l = l.to - l.k

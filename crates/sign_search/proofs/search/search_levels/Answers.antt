@@ -36,13 +36,12 @@ append_row-count-requires c = let a = c.args in (
       }),
   c.requires.3.signs,
   c.requires.4,
-  c.requires.5,
 )
 
 pub loop-count-init : goal.loop-count-init
 loop-count-init c = let f = c.append_row-count in
     let a = c.args in
-    let t = (table_of a.entries a.rows.now a.cols.now a.values.now) in
+    let t = (table_of a.table.count a.table.rows.now a.table.cols.now a.table.values.now) in
     let start = parent_of (to_z w64 (of_z w64 a.objective)) a.current.now in
     let n = length a.kept.now in (
       refl,
@@ -71,7 +70,7 @@ pub advance-count-requires : goal.advance-count-requires
 advance-count-requires c = let l = c.loop-count in
     let a = c.args in
     let f = c.append_row-count in
-    let t = (table_of a.entries a.rows.now a.cols.now a.values.now) in (
+    let t = (table_of a.table.count a.table.rows.now a.table.cols.now a.table.values.now) in (
       rw l.invariant.9
           (record {
             expands = record {
@@ -91,8 +90,7 @@ advance-count-requires c = let l = c.loop-count in
           }),
       l.invariant.13,
       l.invariant.10,
-      c.requires.4,
-      record { flips_few = omega (arith, l.invariant.9, c.requires.5); as_long = ap length c.requires.6; start_tidy = rw (l.invariant.9, c.requires.6) c.requires.3.tidy },
+      record { flips_few = omega (arith, l.invariant.9, c.requires.4); as_long = ap length c.requires.5; start_tidy = rw (l.invariant.9, c.requires.5) c.requires.3.tidy },
       rw l.invariant.9 l.invariant.11,
     )
 
@@ -102,10 +100,10 @@ overflow_add-rounds c =
     let l = c.loop-count in
     let a = c.args in
     omega (arith, length_sign_level (length a.kept.now) (length a.current.now) l.count l.objectives l.signs l.invariant.6) in
-    let more-rounds : let a = c.args in c.loop-count.rounds < (searched_in (table_of a.entries a.rows.now a.cols.now a.values.now) (bounds a.flips a.most a.current.now) a.width (parent_of (to_z w64 (of_z w64 a.objective)) a.current.now)).rounds =
+    let more-rounds : let a = c.args in c.loop-count.rounds < (searched_in (table_of a.table.count a.table.rows.now a.table.cols.now a.table.values.now) (bounds a.flips a.most a.current.now) a.width (parent_of (to_z w64 (of_z w64 a.objective)) a.current.now)).rounds =
     let l = c.loop-count in
     let a = c.args in
-    let t = (table_of a.entries a.rows.now a.cols.now a.values.now) in
+    let t = (table_of a.table.count a.table.rows.now a.table.cols.now a.table.values.now) in
     searching_more (change_in t) (exists_in t (bounds a.flips a.most a.current.now)) a.width (height_in t a.current.now) (parent_of (to_z w64 (of_z w64 a.objective)) a.current.now) _ _ l.rounds (filled) l.invariant.8 in
     omega (arith, more-rounds, c.loop-count.invariant.8.few)
 
@@ -115,10 +113,10 @@ loop-count-smaller c =
     let l = c.loop-count in
     let a = c.args in
     omega (arith, length_sign_level (length a.kept.now) (length a.current.now) l.count l.objectives l.signs l.invariant.6) in
-    let more-rounds : let a = c.args in c.loop-count.rounds < (searched_in (table_of a.entries a.rows.now a.cols.now a.values.now) (bounds a.flips a.most a.current.now) a.width (parent_of (to_z w64 (of_z w64 a.objective)) a.current.now)).rounds =
+    let more-rounds : let a = c.args in c.loop-count.rounds < (searched_in (table_of a.table.count a.table.rows.now a.table.cols.now a.table.values.now) (bounds a.flips a.most a.current.now) a.width (parent_of (to_z w64 (of_z w64 a.objective)) a.current.now)).rounds =
     let l = c.loop-count in
     let a = c.args in
-    let t = (table_of a.entries a.rows.now a.cols.now a.values.now) in
+    let t = (table_of a.table.count a.table.rows.now a.table.cols.now a.table.values.now) in
     searching_more (change_in t) (exists_in t (bounds a.flips a.most a.current.now)) a.width (height_in t a.current.now) (parent_of (to_z w64 (of_z w64 a.objective)) a.current.now) _ _ l.rounds (filled) l.invariant.8 in
     omega (arith, more-rounds)
 
@@ -133,10 +131,10 @@ loop-count-preserved c =
     let l = c.loop-count in
     let a = c.args in
     let f = c.append_row-count in
-    let t = (table_of a.entries a.rows.now a.cols.now a.values.now) in
+    let t = (table_of a.table.count a.table.rows.now a.table.cols.now a.table.values.now) in
     let m = length a.current.now in
     let n = length a.kept.now in
-    let next = rw (l.invariant.9, c.requires.6, c.requires.3.signs) at v.ensures.next_level in
+    let next = rw (l.invariant.9, c.requires.5, c.requires.3.signs) at v.ensures.next_level in
     let among = ap (λ (i : ℕ). best below (parent_of (to_z w64 l.least-bits) l.kept) (level_of i l.count l.objectives l.signs)) l.invariant.0 in (
       k.auto.kept ∙ l.invariant.0,
       v.auto.changes ∙ l.invariant.1,
@@ -185,7 +183,7 @@ shape_of-next_signs c = c.loop-count.invariant.5
 pub returns : goal.returns
 returns c = let l = c.loop-count in
     let a = c.args in
-    let t = (table_of a.entries a.rows.now a.cols.now a.values.now) in
+    let t = (table_of a.table.count a.table.rows.now a.table.cols.now a.table.values.now) in
     let m = length a.current.now in
     let n = length a.kept.now in
     let none : l.count ≡ 0 = omega arith in

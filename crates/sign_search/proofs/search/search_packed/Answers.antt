@@ -48,7 +48,6 @@ search_levels-requires c = let r = c.requires.0 in
       rw (to_z-of_z c.ranges.objective) c.requires.5,
       c.requires.6,
       c.requires.7,
-      c.requires.8,
       part-again (length a.kept.now) a.kept.now _ _ refl c.copy.ensures,
     )
 

@@ -12,18 +12,7 @@ pub slice_bounds-current_row-end : goal.slice_bounds-current_row-end
 slice_bounds-current_row-end c = omega (arith, c.sign_words-words.ensures, few_words (length c.args.current.now))
 
 pub search_words-requires : goal.search_words-requires
-search_words-requires c = let m = length c.args.current.now in (
-  c.requires.0,
-  c.requires.1,
-  simp (length-take, length-drop) (omega (arith, c.sign_words-words.ensures, few_words m)),
-  simp (length-take, length-drop) (omega (arith, c.sign_words-words.ensures, few_words m, enough_words m c.requires.0.signs_few)),
-  refl,
-  c.requires.2,
-  c.requires.3,
-  rw (to_z-of_z c.ranges.objective) c.requires.4,
-  c.requires.5,
-  c.requires.6,
-)
+search_words-requires c = let m = length c.args.current.now in (c.requires.0, c.requires.1, simp (length-take, length-drop) (omega (arith, c.sign_words-words.ensures, few_words m)), simp (length-take, length-drop) (omega (arith, c.sign_words-words.ensures, few_words m, enough_words m c.requires.0.signs_few)), refl, c.requires.2, c.requires.3, rw (to_z-of_z c.ranges.objective) c.requires.4, c.requires.5)
 
 pub shape_of-current : goal.shape_of-current
 shape_of-current c = c.search_words.auto.current

@@ -23,7 +23,6 @@ search_packed-found-requires c = let a = c.args in
         same = c.copy.ensures;
       },
       c.requires.8,
-      c.requires.9,
     )
 
 pub unpack-requires : goal.unpack-requires

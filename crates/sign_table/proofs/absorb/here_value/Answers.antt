@@ -9,9 +9,9 @@ use Rattle.sign_table.proofs.absorb.here_value.Goals as goal
 pub overflow_add-result : goal.overflow_add-result
 overflow_add-result c = let a = c.args in
     let p = c.requires in
-    rw (held c.stored_value-stored.result c.stored_value-stored.type_inv, held c.linear_value.result c.linear_value.type_inv, c.stored_value-stored.ensures, c.linear_value.ensures) (here_fits (table_of a.count a.rows.now a.cols.now a.values.now) (elem_z a.c.now) a.i a.j a.k p.3 p.2)
+    rw (held c.stored_value-stored.result c.stored_value-stored.type_inv, held c.linear_value.result c.linear_value.type_inv, c.stored_value-stored.ensures, c.linear_value.ensures) (here_fits (table_of a.table.count a.table.rows.now a.table.cols.now a.table.values.now) (elem_z a.c.now) a.i a.j a.k p.2 p.1)
 
 pub returns : goal.returns
 returns c = let a = c.args in
     let p = c.requires in
-    rw (held c.stored_value-stored.result c.stored_value-stored.type_inv, held c.linear_value.result c.linear_value.type_inv, c.stored_value-stored.ensures, c.linear_value.ensures) (to_z-of_z (here_fits (table_of a.count a.rows.now a.cols.now a.values.now) (elem_z a.c.now) a.i a.j a.k p.3 p.2))
+    rw (held c.stored_value-stored.result c.stored_value-stored.type_inv, held c.linear_value.result c.linear_value.type_inv, c.stored_value-stored.ensures, c.linear_value.ensures) (to_z-of_z (here_fits (table_of a.table.count a.table.rows.now a.table.cols.now a.table.values.now) (elem_z a.c.now) a.i a.j a.k p.2 p.1))

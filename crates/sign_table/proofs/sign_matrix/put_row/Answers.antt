@@ -10,9 +10,12 @@ pub loop-j-init : goal.loop-j-init
 loop-j-init c = let p = c.requires in
     (row_begin p.2 p.3 p.4 c.next_column-j.ensures, refl, refl, refl)
 
+pub invariant_of-here_value : goal.invariant_of-here_value
+invariant_of-here_value c = let p = c.requires in record { lent = p.0 }
+
 pub here_value-value-requires : goal.here_value-value-requires
 here_value-value-requires c = let p = c.requires in
-    (p.0, omega arith, linear_small p.2 c.args.i p.3, omega (arith, p.2.small))
+    (omega arith, linear_small p.2 c.args.i p.3, omega (arith, p.2.small))
 
 pub put-requires : goal.put-requires
 put-requires c = let p = c.requires in

@@ -15,9 +15,13 @@ pub returns-in_err-checked_table : goal.returns-in_err-checked_table
 returns-in_err-checked_table c = let a = c.args in
     ap in_numbers (passed c.from_residual.ensures.1) ∙ refused_is _ _ _ (floor_numbered a.m a.count a.rows.now a.cols.now a.values.now c.short_table-short.ensures c.in_err-checked_table.ensures) (some_number _)
 
+pub invariant_of-floor_eighths : goal.invariant_of-floor_eighths
+invariant_of-floor_eighths c = let a = c.args in
+    let (lent, ok) = floor_accepted a.m a.count a.rows.now a.cols.now a.values.now (sym (floor_numbered a.m a.count a.rows.now a.cols.now a.values.now c.short_table-short.ensures c.in_ok-checked_table.ensures)) in record { lent = lent }
+
 pub floor_eighths-requires : goal.floor_eighths-requires
 floor_eighths-requires c = let a = c.args in
-    let (lent, ok) = floor_accepted a.m a.count a.rows.now a.cols.now a.values.now (sym (floor_numbered a.m a.count a.rows.now a.cols.now a.values.now c.short_table-short.ensures c.in_ok-checked_table.ensures)) in (lent, ok.magnitude)
+    let (lent, ok) = floor_accepted a.m a.count a.rows.now a.cols.now a.values.now (sym (floor_numbered a.m a.count a.rows.now a.cols.now a.values.now c.short_table-short.ensures c.in_ok-checked_table.ensures)) in ok.magnitude
 
 pub returns : goal.returns
 returns c = let a = c.args in ap Ok (held c.floor_eighths.result c.floor_eighths.type_inv ∙ c.floor_eighths.ensures) ∙ accepted_is _ _ _ (floor_numbered a.m a.count a.rows.now a.cols.now a.values.now c.short_table-short.ensures c.in_ok-checked_table.ensures) refl

@@ -16,8 +16,8 @@ loop-k-init c = (omega arith, refl)
 
 pub bound_term-bound-requires : goal.bound_term-bound-requires
 bound_term-bound-requires c = let a = c.args in
-    rw (held (elem_z a.values.now c.loop-k.k) c.bound_term-arg-1.given) (value_small (table_of a.count a.rows.now a.cols.now a.values.now) c.requires.1 c.loop-k.k c.loop-k-test.true)
+    rw (held (elem_z a.table.values.now c.loop-k.k) c.bound_term-arg-1.given) (value_small (table_of a.table.count a.table.rows.now a.table.cols.now a.table.values.now) c.requires c.loop-k.k c.loop-k-test.true)
 
 pub loop-k-preserved : goal.loop-k-preserved
 loop-k-preserved c = let a = c.args in
-    (omega arith, bound_more (table_of a.count a.rows.now a.cols.now a.values.now) c.loop-k.k c.loop-k.invariant.1 (c.bound_term-bound.ensures ∙ rw (held (elem_z a.values.now c.loop-k.k) c.bound_term-arg-1.given)))
+    (omega arith, bound_more (table_of a.table.count a.table.rows.now a.table.cols.now a.table.values.now) c.loop-k.k c.loop-k.invariant.1 (c.bound_term-bound.ensures ∙ rw (held (elem_z a.table.values.now c.loop-k.k) c.bound_term-arg-1.given)))

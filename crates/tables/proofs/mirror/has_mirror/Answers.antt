@@ -5,12 +5,12 @@ use Rattle.tables.specs.Table.{table_of}
 use Rattle.tables.proofs.Checks.{absent, present}
 use Rattle.tables.proofs.mirror.has_mirror.Goals as goal
 
-pub returns-then-j-count : goal.returns-then-j-count
-returns-then-j-count c = let here = c.find_place-j.ensures in
+pub returns-then-j-table : goal.returns-then-j-table
+returns-then-j-table c = let here = c.find_place-j.ensures in
     let a = c.args in
-    c.is_mirror.ensures ∙ present (table_of a.count a.rows.now a.cols.now a.values.now) a.k _ _ c.requires.1 c.place_at-key.ensures here.1 here.2 c.if-j-count.true
+    c.is_mirror.ensures ∙ present (table_of a.table.count a.table.rows.now a.table.cols.now a.table.values.now) a.k _ _ c.requires.0 c.place_at-key.ensures here.1 here.2 c.if-j-table.true
 
-pub returns-else-j-count : goal.returns-else-j-count
-returns-else-j-count c = let here = c.find_place-j.ensures in
+pub returns-else-j-table : goal.returns-else-j-table
+returns-else-j-table c = let here = c.find_place-j.ensures in
     let a = c.args in
-    le-ltb _ _ c.if-j-count.false ∙ absent (table_of a.count a.rows.now a.cols.now a.values.now) a.k _ _ c.requires.1 c.place_at-key.ensures here.1 here.2 c.if-j-count.false
+    le-ltb _ _ c.if-j-table.false ∙ absent (table_of a.table.count a.table.rows.now a.table.cols.now a.table.values.now) a.k _ _ c.requires.0 c.place_at-key.ensures here.1 here.2 c.if-j-table.false

@@ -12,7 +12,7 @@ unfolding any_below
 loop-k-init c = (search rules, refl)
 
 pub loop-k-preserved : goal.loop-k-preserved
-loop-k-preserved c = (search rules, below_passed _ _ c.loop-k.invariant.1 (ap not (below_at _ _ _ c.if-count-p.false (sym c.is_mirror.ensures ∙ c.if-not-is_mirror.false))))
+loop-k-preserved c = (search rules, below_passed _ _ c.loop-k.invariant.1 (ap not (below_at _ _ _ c.if-table-p.false (sym c.is_mirror.ensures ∙ c.if-not-is_mirror.false))))
 
 pub returns : goal.returns
 unfolding unmirrored

@@ -8,7 +8,7 @@ use Rattle.tables.specs.Check.{is_mirror}
 use Rattle.tables.proofs.mirror.unmirrored_by_search.Given as goal
 
 abbrev pub invariant-loop-k : goal.invariant-loop-k
-invariant-loop-k l = (l.k ≤ l.count) × (any_below l.k (λ j. not (any_below l.count (is_mirror (table_of l.count l.rows l.cols l.values) j))) ≡ false)
+invariant-loop-k l = (l.k ≤ l.table.count) × (any_below l.k (λ j. not (any_below l.table.count (is_mirror (table_of l.table.count l.table.rows.now l.table.cols.now l.table.values.now) j))) ≡ false)
 
 abbrev pub decreases-loop-k : goal.decreases-loop-k
-decreases-loop-k l = l.count - l.k
+decreases-loop-k l = l.table.count - l.k

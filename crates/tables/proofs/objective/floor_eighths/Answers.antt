@@ -13,8 +13,8 @@ loop-k-init c = (omega arith, refl)
 
 pub overflow_add-sum : goal.overflow_add-sum
 overflow_add-sum c = let a = c.args in
-    turn_fits (floor_held (table_of a.count a.rows.now a.cols.now a.values.now) c.requires.1) c.loop-k.k c.loop-k.sum-bits c.floor_term-sum.result c.loop-k-test.true c.loop-k.invariant.1 c.floor_term-sum.type_inv c.floor_term-sum.ensures
+    turn_fits (floor_held (table_of a.table.count a.table.rows.now a.table.cols.now a.table.values.now) c.requires) c.loop-k.k c.loop-k.sum-bits c.floor_term-sum.result c.loop-k-test.true c.loop-k.invariant.1 c.floor_term-sum.type_inv c.floor_term-sum.ensures
 
 pub loop-k-preserved : goal.loop-k-preserved
 loop-k-preserved c = let a = c.args in
-    (omega arith, turn_is (floor_held (table_of a.count a.rows.now a.cols.now a.values.now) c.requires.1) c.loop-k.k c.loop-k.sum-bits c.floor_term-sum.result c.loop-k-test.true c.loop-k.invariant.1 c.floor_term-sum.type_inv c.floor_term-sum.ensures)
+    (omega arith, turn_is (floor_held (table_of a.table.count a.table.rows.now a.table.cols.now a.table.values.now) c.requires) c.loop-k.k c.loop-k.sum-bits c.floor_term-sum.result c.loop-k-test.true c.loop-k.invariant.1 c.floor_term-sum.type_inv c.floor_term-sum.ensures)

@@ -8,4 +8,4 @@ use Rattle.tables.proofs.objective.floor_term.Goals as goal
 pub entry_least-requires : goal.entry_least-requires
 entry_least-requires c = let a = c.args in
     let p = c.requires in
-    rw (held (elem_z a.values.now a.k) c.entry_least-arg-1.given) (value_small (table_of a.count a.rows.now a.cols.now a.values.now) p.2 a.k p.1)
+    rw (held (elem_z a.table.values.now a.k) c.entry_least-arg-1.given) (value_small (table_of a.table.count a.table.rows.now a.table.cols.now a.table.values.now) p.1 a.k p.0)

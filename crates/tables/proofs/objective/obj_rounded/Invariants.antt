@@ -6,7 +6,7 @@ use mathlib.Core.Path.{◌≡◌}
 use Rattle.tables.proofs.objective.obj_rounded.Given as goal
 
 abbrev pub invariant-loop-k : goal.invariant-loop-k
-invariant-loop-k l = (l.k ≤ l.count) × (l.sum ≡ S.sum l.k (objective_term (table_of l.count l.rows l.cols l.values) (sign_at l.signs)))
+invariant-loop-k l = (l.k ≤ l.table.count) × (l.sum ≡ S.sum l.k (objective_term (table_of l.table.count l.table.rows.now l.table.cols.now l.table.values.now) (sign_at l.signs)))
 
 abbrev pub decreases-loop-k : goal.decreases-loop-k
-decreases-loop-k l = l.count - l.k
+decreases-loop-k l = l.table.count - l.k

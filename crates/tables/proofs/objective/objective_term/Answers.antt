@@ -8,4 +8,4 @@ use Rattle.tables.proofs.objective.objective_term.Goals as goal
 pub entry_share-requires : goal.entry_share-requires
 entry_share-requires c = let a = c.args in
     let p = c.requires in
-    rw (held (elem_z a.values.now a.k) c.entry_share-arg-1.given) (value_small (table_of a.count a.rows.now a.cols.now a.values.now) p.3 a.k p.1)
+    rw (held (elem_z a.table.values.now a.k) c.entry_share-arg-1.given) (value_small (table_of a.table.count a.table.rows.now a.table.cols.now a.table.values.now) p.2 a.k p.0)
