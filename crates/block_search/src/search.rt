@@ -95,14 +95,15 @@ fn search_reduced(
         &mut sign_values,
     );
     let m = f + 1;
+    let sign_table = Entries {
+        count: entries,
+        rows: &sign_rows[..entries],
+        cols: &sign_cols[..entries],
+        values: &sign_values[..entries],
+    };
     search_from(
         f,
-        Entries {
-            count: entries,
-            rows: &sign_rows[..entries],
-            cols: &sign_cols[..entries],
-            values: &sign_values[..entries],
-        },
+        sign_table,
         width,
         free,
         b,
@@ -152,14 +153,15 @@ pub fn search_held(
     );
     let wagons = shrunk.free;
     let entries = shrunk.count;
+    let sign_table = Entries {
+        count: entries,
+        rows: &to_rows[..entries],
+        cols: &to_cols[..entries],
+        values: &to_values[..entries],
+    };
     let fall = search_reduced(
         wagons,
-        Entries {
-            count: entries,
-            rows: &to_rows[..entries],
-            cols: &to_cols[..entries],
-            values: &to_values[..entries],
-        },
+        sign_table,
         &to_c[..wagons],
         width,
         &free[..wagons],

@@ -102,20 +102,13 @@ pub fn compute_rounded_sol(
         out.len(),
     )?;
     let meant = rank_meant(m, rank);
-    let objective = round(
-        m,
-        Entries {
-            count,
-            rows,
-            cols,
-            values,
-        },
-        meant,
-        factor,
-        draw_count,
-        draws,
-        out,
-    );
+    let table = Entries {
+        count,
+        rows,
+        cols,
+        values,
+    };
+    let objective = round(m, table, meant, factor, draw_count, draws, out);
     Ok(objective)
 }
 
@@ -156,19 +149,13 @@ pub fn dual_variables(
 {
     dual_number(m, count, rows, cols, values, rank, factor.len(), out.len())?;
     let meant = rank_meant(m, rank);
-    multiply(
-        false,
-        m,
-        Entries {
-            count,
-            rows,
-            cols,
-            values,
-        },
-        meant,
-        factor,
-        out,
-    );
+    let table = Entries {
+        count,
+        rows,
+        cols,
+        values,
+    };
+    multiply(false, m, table, meant, factor, out);
     Ok(())
 }
 
@@ -190,18 +177,12 @@ pub fn dual_variables_divided(
         out.old (numbered result) out.new }
 {
     divided_number(m, count, rows, cols, values, rank, factor.len(), out.len())?;
-    multiply(
-        true,
-        m,
-        Entries {
-            count,
-            rows,
-            cols,
-            values,
-        },
-        rank,
-        factor,
-        out,
-    );
+    let table = Entries {
+        count,
+        rows,
+        cols,
+        values,
+    };
+    multiply(true, m, table, rank, factor, out);
     Ok(())
 }

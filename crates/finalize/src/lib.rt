@@ -54,23 +54,9 @@ fn finalize_signs(
 {
     let floor = floor_eighths(table);
     let float_bound = entrywise_lower_bound(table);
-    let diagonal_sum = multipliers(
-        n + 1,
-        table,
-        rank,
-        factor,
-        dual_variables,
-    );
+    let diagonal_sum = multipliers(n + 1, table, rank, factor, dual_variables);
     let chosen = choose(
-        n,
-        table,
-        rank,
-        width,
-        draw_count,
-        draws,
-        factor,
-        b,
-        workspace,
+        n, table, rank, width, draw_count, draws, factor, b, workspace,
     );
     Figures {
         diagonal_sum,
@@ -116,14 +102,15 @@ pub fn finalize(
         &mut sign_values,
     );
     let size = (n + 1) * rank;
+    let sign_table = Entries {
+        count: entries,
+        rows: &sign_rows[..entries],
+        cols: &sign_cols[..entries],
+        values: &sign_values[..entries],
+    };
     finalize_signs(
         n,
-        Entries {
-            count: entries,
-            rows: &sign_rows[..entries],
-            cols: &sign_cols[..entries],
-            values: &sign_values[..entries],
-        },
+        sign_table,
         rank,
         width,
         draw_count,

@@ -92,12 +92,13 @@ fn entries_number(
     if whole < count {
         return Err(Refusal::Frame);
     }
-    if unmirrored(Entries {
+    let table = Entries {
         count,
         rows,
         cols,
         values,
-    }) {
+    };
+    if unmirrored(table) {
         return Err(Refusal::Mirror);
     }
     Ok(())

@@ -44,14 +44,15 @@ pub fn limited_search(
         choice.len(),
         workspace.len(),
     )?;
+    let table = Entries {
+        count,
+        rows,
+        cols,
+        values,
+    };
     let found = search_limited(
         n,
-        Entries {
-            count,
-            rows,
-            cols,
-            values,
-        },
+        table,
         c,
         present,
         k,

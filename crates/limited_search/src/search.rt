@@ -75,14 +75,15 @@ pub fn search_limited(
         &mut sign_values,
     );
     let m = n + 1;
+    let sign_table = Entries {
+        count: entries,
+        rows: &sign_rows[..entries],
+        cols: &sign_cols[..entries],
+        values: &sign_values[..entries],
+    };
     search_from(
         n,
-        Entries {
-            count: entries,
-            rows: &sign_rows[..entries],
-            cols: &sign_cols[..entries],
-            values: &sign_values[..entries],
-        },
+        sign_table,
         present,
         k,
         width,

@@ -177,30 +177,23 @@ fn reduce_to(
 {
     let held = held_choice(n, states);
     // H is its own mirror image. Read by columns, the entries of a row all ask for the store of one wagon, so that the branch is easily guessed.
-    let sums = beside_sums(
-        Entries {
-            count,
-            rows: cols,
-            cols: rows,
-            values,
-        },
-        &held,
-    );
+    let turned = Entries {
+        count,
+        rows: cols,
+        cols: rows,
+        values,
+    };
+    let sums = beside_sums(turned, &held);
     let constant = held_cost(n, c, &sums, &held);
     put_costs(c, &sums, free, to_c);
     let places = free_places(n, states);
-    let entries = free_entries(
-        Entries {
-            count,
-            rows,
-            cols,
-            values,
-        },
-        &places,
-        to_rows,
-        to_cols,
-        to_values,
-    );
+    let table = Entries {
+        count,
+        rows,
+        cols,
+        values,
+    };
+    let entries = free_entries(table, &places, to_rows, to_cols, to_values);
     Costs {
         count: entries,
         constant,

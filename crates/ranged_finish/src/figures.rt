@@ -31,10 +31,11 @@ pub fn floor_of(n: usize, table: Entries, c: &[i64]) -> i64
         &mut sign_cols,
         &mut sign_values,
     );
-    floor_eighths(Entries {
+    let sign_table = Entries {
         count: entries,
         rows: &sign_rows[..entries],
         cols: &sign_cols[..entries],
         values: &sign_values[..entries],
-    })
+    };
+    floor_eighths(sign_table)
 }

@@ -57,38 +57,21 @@ fn finish_ranged_accepted(
         dual_variables,
         workspace,
     );
-    let least = eval_qubo_objective(
-        n,
-        Entries {
-            count,
-            rows,
-            cols,
-            values: low,
-        },
-        low_c,
-        b,
-    );
-    let most = eval_qubo_objective(
-        n,
-        Entries {
-            count,
-            rows,
-            cols,
-            values: high,
-        },
-        high_c,
-        b,
-    );
-    let floor = floor_of(
-        n,
-        Entries {
-            count,
-            rows,
-            cols,
-            values: low,
-        },
-        low_c,
-    );
+    let low_table = Entries {
+        count,
+        rows,
+        cols,
+        values: low,
+    };
+    let least = eval_qubo_objective(n, low_table, low_c, b);
+    let high_table = Entries {
+        count,
+        rows,
+        cols,
+        values: high,
+    };
+    let most = eval_qubo_objective(n, high_table, high_c, b);
+    let floor = floor_of(n, low_table, low_c);
     RangedResult {
         result,
         low: least,

@@ -86,20 +86,22 @@ fn ranges_unmirrored(count: usize, rows: &[u16], cols: &[u16], low: &[i64], high
     requires { Lent count rows.now cols.now low.now × Lent count rows.now cols.now high.now × Placed (elem rows.now) (elem cols.now) count }
     ensures { result ≡ (unmirrored (table_of count rows.now cols.now low.now) || unmirrored (table_of count rows.now cols.now high.now)) }
 {
-    if unmirrored(Entries {
+    let low_table = Entries {
         count,
         rows,
         cols,
         values: low,
-    }) {
+    };
+    if unmirrored(low_table) {
         return true;
     }
-    unmirrored(Entries {
+    let high_table = Entries {
         count,
         rows,
         cols,
         values: high,
-    })
+    };
+    unmirrored(high_table)
 }
 
 // What is refused of a ranged table.

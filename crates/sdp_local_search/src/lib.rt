@@ -43,13 +43,14 @@ pub fn beam_search(
         out.len(),
         workspace.len(),
     )?;
+    let table = Entries {
+        count,
+        rows,
+        cols,
+        values,
+    };
     let found = search_from(
-        Entries {
-            count,
-            rows,
-            cols,
-            values,
-        },
+        table,
         width,
         start,
         &mut out[0..m],

@@ -37,14 +37,15 @@ pub fn finish_accepted(
         (Ok result) b.new dual_variables.new workspace.new }
 {
     let rank = run.rank;
+    let table = Entries {
+        count,
+        rows,
+        cols,
+        values,
+    };
     let figures = finalize(
         n,
-        Entries {
-            count,
-            rows,
-            cols,
-            values,
-        },
+        table,
         c,
         rank,
         width,

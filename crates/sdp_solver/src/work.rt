@@ -47,17 +47,11 @@ pub fn call_work(
         &mut sign_cols,
         &mut sign_values,
     );
-    separate_diagonal(
-        Entries {
-            count: entries,
-            rows: &sign_rows[..entries],
-            cols: &sign_cols[..entries],
-            values: &sign_values[..entries],
-        },
-        n + 1,
-        work_rows,
-        work_cols,
-        work_values,
-        starts,
-    )
+    let sign_table = Entries {
+        count: entries,
+        rows: &sign_rows[..entries],
+        cols: &sign_cols[..entries],
+        values: &sign_values[..entries],
+    };
+    separate_diagonal(sign_table, n + 1, work_rows, work_cols, work_values, starts)
 }

@@ -71,19 +71,14 @@ fn put_row(
     let mut k = start;
     let mut at = len;
     let mut j = next_column(n, count, rows, cols, c, i, 0, start);
+    let table = Entries {
+        count,
+        rows,
+        cols,
+        values,
+    };
     while j < n {
-        let value = here_value(
-            Entries {
-                count,
-                rows,
-                cols,
-                values,
-            },
-            c,
-            i,
-            j,
-            k,
-        );
+        let value = here_value(table, c, i, j, k);
         put(to_rows, to_cols, to_values, at, i, j, value);
         at += 1;
         k = after_here(count, rows, cols, i, j, k);

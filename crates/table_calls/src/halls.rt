@@ -50,17 +50,13 @@ pub fn eval_qubo_objective(
 {
     let short = cost_short(n, count, rows, cols, values, c, b);
     checked_hall(short, n, count, rows, cols, values, c)?;
-    Ok(objective::eval_qubo_objective(
-        n,
-        Entries {
-            count,
-            rows,
-            cols,
-            values,
-        },
-        c,
-        b,
-    ))
+    let table = Entries {
+        count,
+        rows,
+        cols,
+        values,
+    };
+    Ok(objective::eval_qubo_objective(n, table, c, b))
 }
 
 // 31 of the slices for the sign table, by their lengths.

@@ -43,15 +43,13 @@ pub fn obj_rounded(
 {
     let short = objective_short(m, count, rows, cols, values, signs);
     checked_table(short, m, count, rows, cols, values)?;
-    Ok(objective::obj_rounded(
-        Entries {
-            count,
-            rows,
-            cols,
-            values,
-        },
-        signs,
-    ))
+    let table = Entries {
+        count,
+        rows,
+        cols,
+        values,
+    };
+    Ok(objective::obj_rounded(table, signs))
 }
 
 // The floor under every objective, in eighths.
@@ -67,12 +65,13 @@ pub fn floor_eighths(
 {
     let short = short_table(MOST_SIGN_ENTRIES, count, rows, cols, values);
     checked_table(short, m, count, rows, cols, values)?;
-    Ok(objective::floor_eighths(Entries {
+    let table = Entries {
         count,
         rows,
         cols,
         values,
-    }))
+    };
+    Ok(objective::floor_eighths(table))
 }
 
 // The floor in doubles, less a margin.
@@ -88,10 +87,11 @@ pub fn entrywise_lower_bound(
 {
     let short = short_table(MOST_SIGN_ENTRIES, count, rows, cols, values);
     checked_table(short, m, count, rows, cols, values)?;
-    Ok(bound::entrywise_lower_bound(Entries {
+    let table = Entries {
         count,
         rows,
         cols,
         values,
-    }))
+    };
+    Ok(bound::entrywise_lower_bound(table))
 }

@@ -125,12 +125,13 @@ fn placed_number(
     if bad_order(size, count, rows, cols) {
         return Err(Refusal::Entry);
     }
-    if unmirrored(Entries {
+    let table = Entries {
         count,
         rows,
         cols,
         values,
-    }) {
+    };
+    if unmirrored(table) {
         return Err(Refusal::Mirror);
     }
     Ok(())

@@ -15,8 +15,8 @@ returns-in_err-walk_number c = record {
   accepted = λ e. absurd (some_number _ (c.in_err-walk_number.ensures ∙ e));
 }
 
-pub invariant_of-least_of : goal.invariant_of-least_of
-invariant_of-least_of c = record { lent = (walk_accepted c.args.n c.args.count c.args.rows.now c.args.cols.now c.args.values.now c.args.c.now (length c.args.b.now) (sym c.in_ok-walk_number.ensures)).0 }
+pub invariant_of-table : goal.invariant_of-table
+invariant_of-table c = record { lent = (walk_accepted c.args.n c.args.count c.args.rows.now c.args.cols.now c.args.values.now c.args.c.now (length c.args.b.now) (sym c.in_ok-walk_number.ensures)).0 }
 
 pub least_of-found-requires : goal.least_of-found-requires
 least_of-found-requires c = let given = (walk_accepted c.args.n c.args.count c.args.rows.now c.args.cols.now c.args.values.now c.args.c.now (length c.args.b.now) (sym c.in_ok-walk_number.ensures)) in (given.1, given.2, given.3, given.4)

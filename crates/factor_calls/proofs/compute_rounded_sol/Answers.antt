@@ -15,9 +15,9 @@ returns-in_err-rounded_number c = record { answers = ap in_numbers (passed c.fro
 pub rank_meant-meant-requires : goal.rank_meant-meant-requires
 rank_meant-meant-requires c = let a = c.args in let u = rounded_accepted a.m a.count a.rows.now a.cols.now a.values.now a.rank (length a.factor.now) a.draw_count (length a.draws.now) (length a.out.now) (sym c.in_ok-rounded_number.ensures) in (λ e. u.table.signs, u.rank_low)
 
-pub invariant_of-round : goal.invariant_of-round
-invariant_of-round c = let a = c.args in let u = rounded_accepted a.m a.count a.rows.now a.cols.now a.values.now a.rank (length a.factor.now) a.draw_count (length a.draws.now) (length a.out.now) (sym c.in_ok-rounded_number.ensures) in
-      record { lent = u.lent }
+pub invariant_of-table : goal.invariant_of-table
+invariant_of-table c = let a = c.args in let u = rounded_accepted a.m a.count a.rows.now a.cols.now a.values.now a.rank (length a.factor.now) a.draw_count (length a.draws.now) (length a.out.now) (sym c.in_ok-rounded_number.ensures) in
+    record { lent = u.lent }
 
 pub round-objective-requires : goal.round-objective-requires
 round-objective-requires c = let a = c.args in let u = rounded_accepted a.m a.count a.rows.now a.cols.now a.values.now a.rank (length a.factor.now) a.draw_count (length a.draws.now) (length a.out.now) (sym c.in_ok-rounded_number.ensures) in

@@ -14,9 +14,9 @@ returns-in_err-dual_number c = record { answers = ap numbered (passed c.from_res
 pub rank_meant-meant-requires : goal.rank_meant-meant-requires
 rank_meant-meant-requires c = let a = c.args in let u = dual_accepted a.m a.count a.rows.now a.cols.now a.values.now a.rank (length a.factor.now) (length a.out.now) (sym c.in_ok-dual_number.ensures) in (λ e. u.table.signs, u.rank_low)
 
-pub invariant_of-multiply : goal.invariant_of-multiply
-invariant_of-multiply c = let a = c.args in let u = dual_accepted a.m a.count a.rows.now a.cols.now a.values.now a.rank (length a.factor.now) (length a.out.now) (sym c.in_ok-dual_number.ensures) in
-      record { lent = u.lent }
+pub invariant_of-table : goal.invariant_of-table
+invariant_of-table c = let a = c.args in let u = dual_accepted a.m a.count a.rows.now a.cols.now a.values.now a.rank (length a.factor.now) (length a.out.now) (sym c.in_ok-dual_number.ensures) in
+    record { lent = u.lent }
 
 pub multiply-requires : goal.multiply-requires
 multiply-requires c = let a = c.args in let u = dual_accepted a.m a.count a.rows.now a.cols.now a.values.now a.rank (length a.factor.now) (length a.out.now) (sym c.in_ok-dual_number.ensures) in

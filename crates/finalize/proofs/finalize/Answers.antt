@@ -39,8 +39,8 @@ slice_bounds-sign_rows-end c =
     (c.indices-sign_rows.ensures.most_sign_entries_value, c.sign_matrix-entries.auto.to_rows) (c.indices-sign_cols.ensures.most_sign_entries_value, c.sign_matrix-entries.auto.to_cols) (c.eighths-sign_values.ensures.most_sign_entries_value, c.sign_matrix-entries.auto.to_values) in
     (built).rows_fit
 
-pub slice_bounds-finalize_signs-end : goal.slice_bounds-finalize_signs-end
-slice_bounds-finalize_signs-end c =
+pub slice_bounds-sign_table-end : goal.slice_bounds-sign_table-end
+slice_bounds-sign_table-end c =
     let built : let a = c.args in Cut a.n (table_of a.table.count a.table.rows.now a.table.cols.now a.table.values.now) (elem_z a.c.now) c.sign_matrix-entries.result c.sign_matrix-entries.new.to_rows c.sign_matrix-entries.new.to_cols c.sign_matrix-entries.new.to_values =
     let a = c.args in cut a.n (table_of a.table.count a.table.rows.now a.table.cols.now a.table.values.now) (elem_z a.c.now) c.sign_matrix-entries.result c.requires.lent.1 c.sign_matrix-entries.ensures.0 c.sign_matrix-entries.ensures.1
     (c.indices-sign_rows.ensures.most_sign_entries_value, c.sign_matrix-entries.auto.to_rows) (c.indices-sign_cols.ensures.most_sign_entries_value, c.sign_matrix-entries.auto.to_cols) (c.eighths-sign_values.ensures.most_sign_entries_value, c.sign_matrix-entries.auto.to_values) in
@@ -53,8 +53,8 @@ slice_bounds-sign_cols-end c =
     (c.indices-sign_rows.ensures.most_sign_entries_value, c.sign_matrix-entries.auto.to_rows) (c.indices-sign_cols.ensures.most_sign_entries_value, c.sign_matrix-entries.auto.to_cols) (c.eighths-sign_values.ensures.most_sign_entries_value, c.sign_matrix-entries.auto.to_values) in
     (built).cols_fit
 
-pub slice_bounds-finalize_signs-end-2 : goal.slice_bounds-finalize_signs-end-2
-slice_bounds-finalize_signs-end-2 c =
+pub slice_bounds-sign_table-end-2 : goal.slice_bounds-sign_table-end-2
+slice_bounds-sign_table-end-2 c =
     let built : let a = c.args in Cut a.n (table_of a.table.count a.table.rows.now a.table.cols.now a.table.values.now) (elem_z a.c.now) c.sign_matrix-entries.result c.sign_matrix-entries.new.to_rows c.sign_matrix-entries.new.to_cols c.sign_matrix-entries.new.to_values =
     let a = c.args in cut a.n (table_of a.table.count a.table.rows.now a.table.cols.now a.table.values.now) (elem_z a.c.now) c.sign_matrix-entries.result c.requires.lent.1 c.sign_matrix-entries.ensures.0 c.sign_matrix-entries.ensures.1
     (c.indices-sign_rows.ensures.most_sign_entries_value, c.sign_matrix-entries.auto.to_rows) (c.indices-sign_cols.ensures.most_sign_entries_value, c.sign_matrix-entries.auto.to_cols) (c.eighths-sign_values.ensures.most_sign_entries_value, c.sign_matrix-entries.auto.to_values) in
@@ -67,32 +67,32 @@ slice_bounds-sign_values-end c =
     (c.indices-sign_rows.ensures.most_sign_entries_value, c.sign_matrix-entries.auto.to_rows) (c.indices-sign_cols.ensures.most_sign_entries_value, c.sign_matrix-entries.auto.to_cols) (c.eighths-sign_values.ensures.most_sign_entries_value, c.sign_matrix-entries.auto.to_values) in
     (built).values_fit
 
-pub slice_bounds-finalize_signs-end-3 : goal.slice_bounds-finalize_signs-end-3
-slice_bounds-finalize_signs-end-3 c =
+pub slice_bounds-sign_table-end-3 : goal.slice_bounds-sign_table-end-3
+slice_bounds-sign_table-end-3 c =
     let built : let a = c.args in Cut a.n (table_of a.table.count a.table.rows.now a.table.cols.now a.table.values.now) (elem_z a.c.now) c.sign_matrix-entries.result c.sign_matrix-entries.new.to_rows c.sign_matrix-entries.new.to_cols c.sign_matrix-entries.new.to_values =
     let a = c.args in cut a.n (table_of a.table.count a.table.rows.now a.table.cols.now a.table.values.now) (elem_z a.c.now) c.sign_matrix-entries.result c.requires.lent.1 c.sign_matrix-entries.ensures.0 c.sign_matrix-entries.ensures.1
     (c.indices-sign_rows.ensures.most_sign_entries_value, c.sign_matrix-entries.auto.to_rows) (c.indices-sign_cols.ensures.most_sign_entries_value, c.sign_matrix-entries.auto.to_cols) (c.eighths-sign_values.ensures.most_sign_entries_value, c.sign_matrix-entries.auto.to_values) in
     sym (length-take-le _ _ (built).values_fit)
 
-pub slice_bounds-finalize_signs-end-4 : goal.slice_bounds-finalize_signs-end-4
-slice_bounds-finalize_signs-end-4 c =
+pub slice_bounds-finalize_signs-end : goal.slice_bounds-finalize_signs-end
+slice_bounds-finalize_signs-end c =
     let rows_long : let a = c.args in length (take ((a.n + 1) * a.rank) a.factor.now) ≡ suc a.n * a.rank =
     let a = c.args in
     let e : (a.n + 1) * a.rank ≡ suc a.n * a.rank = ap (λ k. k * a.rank) (add-one a.n) in
     length-take-le _ _ (omega (arith, e, c.requires.fits.factor_room)) ∙ e in
     sym (rows_long ∙ sym (ap (λ k. k * c.args.rank) (add-one c.args.n)))
 
-pub invariant_of-finalize_signs : goal.invariant_of-finalize_signs
-invariant_of-finalize_signs c = let built : let a = c.args in Cut a.n (table_of a.table.count a.table.rows.now a.table.cols.now a.table.values.now) (elem_z a.c.now) c.sign_matrix-entries.result c.sign_matrix-entries.new.to_rows c.sign_matrix-entries.new.to_cols c.sign_matrix-entries.new.to_values =
-      let a = c.args in cut a.n (table_of a.table.count a.table.rows.now a.table.cols.now a.table.values.now) (elem_z a.c.now) c.sign_matrix-entries.result c.requires.lent.1 c.sign_matrix-entries.ensures.0 c.sign_matrix-entries.ensures.1
-      (c.indices-sign_rows.ensures.most_sign_entries_value, c.sign_matrix-entries.auto.to_rows) (c.indices-sign_cols.ensures.most_sign_entries_value, c.sign_matrix-entries.auto.to_cols) (c.eighths-sign_values.ensures.most_sign_entries_value, c.sign_matrix-entries.auto.to_values) in
-      let rows_long : let a = c.args in length (take ((a.n + 1) * a.rank) a.factor.now) ≡ suc a.n * a.rank =
-      let a = c.args in
-      let e : (a.n + 1) * a.rank ≡ suc a.n * a.rank = ap (λ k. k * a.rank) (add-one a.n) in
-      length-take-le _ _ (omega (arith, e, c.requires.fits.factor_room)) ∙ e in
-      let k = built in
-      let long = rows_long in
-      record { lent = cut_lent k }
+pub invariant_of-sign_table : goal.invariant_of-sign_table
+invariant_of-sign_table c = let built : let a = c.args in Cut a.n (table_of a.table.count a.table.rows.now a.table.cols.now a.table.values.now) (elem_z a.c.now) c.sign_matrix-entries.result c.sign_matrix-entries.new.to_rows c.sign_matrix-entries.new.to_cols c.sign_matrix-entries.new.to_values =
+    let a = c.args in cut a.n (table_of a.table.count a.table.rows.now a.table.cols.now a.table.values.now) (elem_z a.c.now) c.sign_matrix-entries.result c.requires.lent.1 c.sign_matrix-entries.ensures.0 c.sign_matrix-entries.ensures.1
+    (c.indices-sign_rows.ensures.most_sign_entries_value, c.sign_matrix-entries.auto.to_rows) (c.indices-sign_cols.ensures.most_sign_entries_value, c.sign_matrix-entries.auto.to_cols) (c.eighths-sign_values.ensures.most_sign_entries_value, c.sign_matrix-entries.auto.to_values) in
+    let rows_long : let a = c.args in length (take ((a.n + 1) * a.rank) a.factor.now) ≡ suc a.n * a.rank =
+    let a = c.args in
+    let e : (a.n + 1) * a.rank ≡ suc a.n * a.rank = ap (λ k. k * a.rank) (add-one a.n) in
+    length-take-le _ _ (omega (arith, e, c.requires.fits.factor_room)) ∙ e in
+    let k = built in
+    let long = rows_long in
+    record { lent = cut_lent k }
 
 pub finalize_signs-requires : goal.finalize_signs-requires
 finalize_signs-requires c = let built : let a = c.args in Cut a.n (table_of a.table.count a.table.rows.now a.table.cols.now a.table.values.now) (elem_z a.c.now) c.sign_matrix-entries.result c.sign_matrix-entries.new.to_rows c.sign_matrix-entries.new.to_cols c.sign_matrix-entries.new.to_values =

@@ -26,8 +26,8 @@ slice_bounds-search_limited-end c = let a = c.args in (ready a.n a.count a.rows.
 pub slice_bounds-search_limited-end-2 : goal.slice_bounds-search_limited-end-2
 slice_bounds-search_limited-end-2 c = let a = c.args in (ready a.n a.count a.rows.now a.cols.now a.values.now a.c.now a.present.now a.k a.width (length a.choice.now) (length a.workspace.now) (sym c.in_ok-limited_number.ensures)).space_there
 
-pub invariant_of-search_limited : goal.invariant_of-search_limited
-invariant_of-search_limited c = let a = c.args in
+pub invariant_of-table : goal.invariant_of-table
+invariant_of-table c = let a = c.args in
     let r = ready a.n a.count a.rows.now a.cols.now a.values.now a.c.now a.present.now a.k a.width (length a.choice.now) (length a.workspace.now) (sym c.in_ok-limited_number.ensures) in
     let n : length (take (a.n - 0) (drop 0 a.choice.now)) ≡ a.n = part_size a.n a.choice.now r.choice_there in
     let s : length (take (search_workspace - 0) (drop 0 a.workspace.now)) ≡ search_workspace = part_size search_workspace a.workspace.now r.space_there in record { lent = r.lent }

@@ -40,8 +40,8 @@ slice_bounds-search_from-end-2 c =
     (sym c.in_ok-search_refusal.ensures) in
     k.workspace_there
 
-pub invariant_of-search_from : goal.invariant_of-search_from
-invariant_of-search_from c = let a = c.args in
+pub invariant_of-table : goal.invariant_of-table
+invariant_of-table c = let a = c.args in
     let k = call_ready a.m a.count a.rows.now a.cols.now a.values.now a.width (length a.start.now) (length a.out.now) (length a.workspace.now)
     (sym c.in_ok-search_refusal.ensures) in
     let m : length (take (a.m - 0) (drop 0 a.out.now)) ≡ a.m = part_size a.m a.out.now k.out_there in

@@ -26,8 +26,8 @@ slice_bounds-to_rows-end c =
     omega (arith, few, c.reduce-shrunk.auto.to_rows) in
     rows_fit
 
-pub slice_bounds-search_reduced-end : goal.slice_bounds-search_reduced-end
-slice_bounds-search_reduced-end c =
+pub slice_bounds-sign_table-end : goal.slice_bounds-sign_table-end
+slice_bounds-sign_table-end c =
     let few : c.reduce-shrunk.result.count ≤ most_entries =
     entries_few c.requires.0 c.reduce-shrunk.ensures.2 in
     let rows_fit : c.reduce-shrunk.result.count ≤ length c.reduce-shrunk.new.to_rows =
@@ -42,8 +42,8 @@ slice_bounds-to_cols-end c =
     omega (arith, few, c.reduce-shrunk.auto.to_cols) in
     cols_fit
 
-pub slice_bounds-search_reduced-end-2 : goal.slice_bounds-search_reduced-end-2
-slice_bounds-search_reduced-end-2 c =
+pub slice_bounds-sign_table-end-2 : goal.slice_bounds-sign_table-end-2
+slice_bounds-sign_table-end-2 c =
     let few : c.reduce-shrunk.result.count ≤ most_entries =
     entries_few c.requires.0 c.reduce-shrunk.ensures.2 in
     let cols_fit : c.reduce-shrunk.result.count ≤ length c.reduce-shrunk.new.to_cols =
@@ -58,8 +58,8 @@ slice_bounds-to_values-end c =
     omega (arith, few, c.reduce-shrunk.auto.to_values) in
     values_fit
 
-pub slice_bounds-search_reduced-end-3 : goal.slice_bounds-search_reduced-end-3
-slice_bounds-search_reduced-end-3 c =
+pub slice_bounds-sign_table-end-3 : goal.slice_bounds-sign_table-end-3
+slice_bounds-sign_table-end-3 c =
     let few : c.reduce-shrunk.result.count ≤ most_entries =
     entries_few c.requires.0 c.reduce-shrunk.ensures.2 in
     let values_fit : c.reduce-shrunk.result.count ≤ length c.reduce-shrunk.new.to_values =
@@ -74,8 +74,8 @@ slice_bounds-to_c-end c =
     omega (arith, fewer, c.reduce-shrunk.auto.to_c) in
     costs_fit
 
-pub slice_bounds-search_reduced-end-4 : goal.slice_bounds-search_reduced-end-4
-slice_bounds-search_reduced-end-4 c =
+pub slice_bounds-search_reduced-end : goal.slice_bounds-search_reduced-end
+slice_bounds-search_reduced-end c =
     let fewer : c.reduce-shrunk.result.free ≤ most_wagons =
     omega (arith, wagons_few c.requires.0 c.reduce-shrunk.ensures.2 c.reduce-shrunk.ensures.1, c.requires.0.hall.wagons) in
     let costs_fit : c.reduce-shrunk.result.free ≤ length c.reduce-shrunk.new.to_c =
@@ -90,38 +90,38 @@ slice_bounds-free-end c =
     omega (arith, fewer, c.reduce-shrunk.auto.free) in
     free_fit
 
-pub slice_bounds-search_reduced-end-5 : goal.slice_bounds-search_reduced-end-5
-slice_bounds-search_reduced-end-5 c =
+pub slice_bounds-search_reduced-end-2 : goal.slice_bounds-search_reduced-end-2
+slice_bounds-search_reduced-end-2 c =
     let fewer : c.reduce-shrunk.result.free ≤ most_wagons =
     omega (arith, wagons_few c.requires.0 c.reduce-shrunk.ensures.2 c.reduce-shrunk.ensures.1, c.requires.0.hall.wagons) in
     let free_fit : c.reduce-shrunk.result.free ≤ length c.reduce-shrunk.new.free =
     omega (arith, fewer, c.reduce-shrunk.auto.free) in
     sym (length-take-le _ _ (free_fit))
 
-pub invariant_of-search_reduced : goal.invariant_of-search_reduced
-invariant_of-search_reduced c = let few : c.reduce-shrunk.result.count ≤ most_entries =
-      entries_few c.requires.0 c.reduce-shrunk.ensures.2 in
-      let fewer : c.reduce-shrunk.result.free ≤ most_wagons =
-      omega (arith, wagons_few c.requires.0 c.reduce-shrunk.ensures.2 c.reduce-shrunk.ensures.1, c.requires.0.hall.wagons) in
-      let rows_fit : c.reduce-shrunk.result.count ≤ length c.reduce-shrunk.new.to_rows =
-      omega (arith, few, c.reduce-shrunk.auto.to_rows) in
-      let cols_fit : c.reduce-shrunk.result.count ≤ length c.reduce-shrunk.new.to_cols =
-      omega (arith, few, c.reduce-shrunk.auto.to_cols) in
-      let values_fit : c.reduce-shrunk.result.count ≤ length c.reduce-shrunk.new.to_values =
-      omega (arith, few, c.reduce-shrunk.auto.to_values) in
-      let costs_fit : c.reduce-shrunk.result.free ≤ length c.reduce-shrunk.new.to_c =
-      omega (arith, fewer, c.reduce-shrunk.auto.to_c) in
-      let free_fit : c.reduce-shrunk.result.free ≤ length c.reduce-shrunk.new.free =
-      omega (arith, fewer, c.reduce-shrunk.auto.free) in
-      let costs_many : length (take c.reduce-shrunk.result.free c.reduce-shrunk.new.to_c) ≡ c.reduce-shrunk.result.free =
-      length-take-le _ _ (costs_fit) in
-      let free_many : length (take c.reduce-shrunk.result.free c.reduce-shrunk.new.free) ≡ c.reduce-shrunk.result.free =
-      length-take-le _ _ (free_fit) in
-      let free_is : take c.reduce-shrunk.result.free c.reduce-shrunk.new.free ≡ free_of c.args.n c.args.states.now =
-      free_cut _ _ _ _ _ c.reduce-shrunk.ensures.0 c.reduce-shrunk.ensures.1 in
-      let hall : Hall most_wagons most_entries most_magnitude c.reduce-shrunk.result.free (table_of c.reduce-shrunk.result.count (take c.reduce-shrunk.result.count c.reduce-shrunk.new.to_rows) (take c.reduce-shrunk.result.count c.reduce-shrunk.new.to_cols) (take c.reduce-shrunk.result.count c.reduce-shrunk.new.to_values)) (elem_z (take c.reduce-shrunk.result.free c.reduce-shrunk.new.to_c)) =
-      front_hall c.requires.0 c.reduce-shrunk.ensures.2 c.reduce-shrunk.ensures.1 (record { rows_room = omega (arith, few); cols_room = omega (arith, few); values_room = omega (arith, few) }) in
-      record { lent = lent_front _ _ _ _ (rows_fit) (cols_fit) (values_fit) }
+pub invariant_of-sign_table : goal.invariant_of-sign_table
+invariant_of-sign_table c = let few : c.reduce-shrunk.result.count ≤ most_entries =
+    entries_few c.requires.0 c.reduce-shrunk.ensures.2 in
+    let fewer : c.reduce-shrunk.result.free ≤ most_wagons =
+    omega (arith, wagons_few c.requires.0 c.reduce-shrunk.ensures.2 c.reduce-shrunk.ensures.1, c.requires.0.hall.wagons) in
+    let rows_fit : c.reduce-shrunk.result.count ≤ length c.reduce-shrunk.new.to_rows =
+    omega (arith, few, c.reduce-shrunk.auto.to_rows) in
+    let cols_fit : c.reduce-shrunk.result.count ≤ length c.reduce-shrunk.new.to_cols =
+    omega (arith, few, c.reduce-shrunk.auto.to_cols) in
+    let values_fit : c.reduce-shrunk.result.count ≤ length c.reduce-shrunk.new.to_values =
+    omega (arith, few, c.reduce-shrunk.auto.to_values) in
+    let costs_fit : c.reduce-shrunk.result.free ≤ length c.reduce-shrunk.new.to_c =
+    omega (arith, fewer, c.reduce-shrunk.auto.to_c) in
+    let free_fit : c.reduce-shrunk.result.free ≤ length c.reduce-shrunk.new.free =
+    omega (arith, fewer, c.reduce-shrunk.auto.free) in
+    let costs_many : length (take c.reduce-shrunk.result.free c.reduce-shrunk.new.to_c) ≡ c.reduce-shrunk.result.free =
+    length-take-le _ _ (costs_fit) in
+    let free_many : length (take c.reduce-shrunk.result.free c.reduce-shrunk.new.free) ≡ c.reduce-shrunk.result.free =
+    length-take-le _ _ (free_fit) in
+    let free_is : take c.reduce-shrunk.result.free c.reduce-shrunk.new.free ≡ free_of c.args.n c.args.states.now =
+    free_cut _ _ _ _ _ c.reduce-shrunk.ensures.0 c.reduce-shrunk.ensures.1 in
+    let hall : Hall most_wagons most_entries most_magnitude c.reduce-shrunk.result.free (table_of c.reduce-shrunk.result.count (take c.reduce-shrunk.result.count c.reduce-shrunk.new.to_rows) (take c.reduce-shrunk.result.count c.reduce-shrunk.new.to_cols) (take c.reduce-shrunk.result.count c.reduce-shrunk.new.to_values)) (elem_z (take c.reduce-shrunk.result.free c.reduce-shrunk.new.to_c)) =
+    front_hall c.requires.0 c.reduce-shrunk.ensures.2 c.reduce-shrunk.ensures.1 (record { rows_room = omega (arith, few); cols_room = omega (arith, few); values_room = omega (arith, few) }) in
+    record { lent = lent_front _ _ _ _ (rows_fit) (cols_fit) (values_fit) }
 
 pub search_reduced-fall-requires : goal.search_reduced-fall-requires
 search_reduced-fall-requires c = let few : c.reduce-shrunk.result.count ≤ most_entries =

@@ -25,8 +25,8 @@ slice_bounds-sign_rows-end c =
     (c.indices-sign_rows.ensures.most_sign_entries_value, c.sign_matrix-entries.auto.to_rows) (c.indices-sign_cols.ensures.most_sign_entries_value, c.sign_matrix-entries.auto.to_cols) (c.eighths-sign_values.ensures.most_sign_entries_value, c.sign_matrix-entries.auto.to_values) in
     (built).rows_fit
 
-pub slice_bounds-search_from-end : goal.slice_bounds-search_from-end
-slice_bounds-search_from-end c =
+pub slice_bounds-sign_table-end : goal.slice_bounds-sign_table-end
+slice_bounds-sign_table-end c =
     let built : let a = c.args in Cut a.f (table_of a.table.count a.table.rows.now a.table.cols.now a.table.values.now) (elem_z a.c.now) c.sign_matrix-entries.result c.sign_matrix-entries.new.to_rows c.sign_matrix-entries.new.to_cols c.sign_matrix-entries.new.to_values =
     let a = c.args in cut a.f (table_of a.table.count a.table.rows.now a.table.cols.now a.table.values.now) (elem_z a.c.now) c.sign_matrix-entries.result c.requires.lent.1 c.sign_matrix-entries.ensures.0 c.sign_matrix-entries.ensures.1
     (c.indices-sign_rows.ensures.most_sign_entries_value, c.sign_matrix-entries.auto.to_rows) (c.indices-sign_cols.ensures.most_sign_entries_value, c.sign_matrix-entries.auto.to_cols) (c.eighths-sign_values.ensures.most_sign_entries_value, c.sign_matrix-entries.auto.to_values) in
@@ -39,8 +39,8 @@ slice_bounds-sign_cols-end c =
     (c.indices-sign_rows.ensures.most_sign_entries_value, c.sign_matrix-entries.auto.to_rows) (c.indices-sign_cols.ensures.most_sign_entries_value, c.sign_matrix-entries.auto.to_cols) (c.eighths-sign_values.ensures.most_sign_entries_value, c.sign_matrix-entries.auto.to_values) in
     (built).cols_fit
 
-pub slice_bounds-search_from-end-2 : goal.slice_bounds-search_from-end-2
-slice_bounds-search_from-end-2 c =
+pub slice_bounds-sign_table-end-2 : goal.slice_bounds-sign_table-end-2
+slice_bounds-sign_table-end-2 c =
     let built : let a = c.args in Cut a.f (table_of a.table.count a.table.rows.now a.table.cols.now a.table.values.now) (elem_z a.c.now) c.sign_matrix-entries.result c.sign_matrix-entries.new.to_rows c.sign_matrix-entries.new.to_cols c.sign_matrix-entries.new.to_values =
     let a = c.args in cut a.f (table_of a.table.count a.table.rows.now a.table.cols.now a.table.values.now) (elem_z a.c.now) c.sign_matrix-entries.result c.requires.lent.1 c.sign_matrix-entries.ensures.0 c.sign_matrix-entries.ensures.1
     (c.indices-sign_rows.ensures.most_sign_entries_value, c.sign_matrix-entries.auto.to_rows) (c.indices-sign_cols.ensures.most_sign_entries_value, c.sign_matrix-entries.auto.to_cols) (c.eighths-sign_values.ensures.most_sign_entries_value, c.sign_matrix-entries.auto.to_values) in
@@ -53,8 +53,8 @@ slice_bounds-sign_values-end c =
     (c.indices-sign_rows.ensures.most_sign_entries_value, c.sign_matrix-entries.auto.to_rows) (c.indices-sign_cols.ensures.most_sign_entries_value, c.sign_matrix-entries.auto.to_cols) (c.eighths-sign_values.ensures.most_sign_entries_value, c.sign_matrix-entries.auto.to_values) in
     (built).values_fit
 
-pub slice_bounds-search_from-end-3 : goal.slice_bounds-search_from-end-3
-slice_bounds-search_from-end-3 c =
+pub slice_bounds-sign_table-end-3 : goal.slice_bounds-sign_table-end-3
+slice_bounds-sign_table-end-3 c =
     let built : let a = c.args in Cut a.f (table_of a.table.count a.table.rows.now a.table.cols.now a.table.values.now) (elem_z a.c.now) c.sign_matrix-entries.result c.sign_matrix-entries.new.to_rows c.sign_matrix-entries.new.to_cols c.sign_matrix-entries.new.to_values =
     let a = c.args in cut a.f (table_of a.table.count a.table.rows.now a.table.cols.now a.table.values.now) (elem_z a.c.now) c.sign_matrix-entries.result c.requires.lent.1 c.sign_matrix-entries.ensures.0 c.sign_matrix-entries.ensures.1
     (c.indices-sign_rows.ensures.most_sign_entries_value, c.sign_matrix-entries.auto.to_rows) (c.indices-sign_cols.ensures.most_sign_entries_value, c.sign_matrix-entries.auto.to_cols) (c.eighths-sign_values.ensures.most_sign_entries_value, c.sign_matrix-entries.auto.to_values) in
@@ -63,14 +63,14 @@ slice_bounds-search_from-end-3 c =
 pub slice_bounds-signs-end : goal.slice_bounds-signs-end
 slice_bounds-signs-end c = omega (arith, c.signs-signs.ensures.most_signs_value, c.requires.lent.1.wagons)
 
-pub slice_bounds-search_from-end-4 : goal.slice_bounds-search_from-end-4
-slice_bounds-search_from-end-4 c = sym (length-take-le _ _ (omega (arith, c.signs-signs.ensures.most_signs_value, c.requires.lent.1.wagons)))
+pub slice_bounds-search_from-end : goal.slice_bounds-search_from-end
+slice_bounds-search_from-end c = sym (length-take-le _ _ (omega (arith, c.signs-signs.ensures.most_signs_value, c.requires.lent.1.wagons)))
 
-pub invariant_of-search_from : goal.invariant_of-search_from
-invariant_of-search_from c = let built : let a = c.args in Cut a.f (table_of a.table.count a.table.rows.now a.table.cols.now a.table.values.now) (elem_z a.c.now) c.sign_matrix-entries.result c.sign_matrix-entries.new.to_rows c.sign_matrix-entries.new.to_cols c.sign_matrix-entries.new.to_values =
-      let a = c.args in cut a.f (table_of a.table.count a.table.rows.now a.table.cols.now a.table.values.now) (elem_z a.c.now) c.sign_matrix-entries.result c.requires.lent.1 c.sign_matrix-entries.ensures.0 c.sign_matrix-entries.ensures.1
-      (c.indices-sign_rows.ensures.most_sign_entries_value, c.sign_matrix-entries.auto.to_rows) (c.indices-sign_cols.ensures.most_sign_entries_value, c.sign_matrix-entries.auto.to_cols) (c.eighths-sign_values.ensures.most_sign_entries_value, c.sign_matrix-entries.auto.to_values) in
-      let k = built in record { lent = cut_lent k }
+pub invariant_of-sign_table : goal.invariant_of-sign_table
+invariant_of-sign_table c = let built : let a = c.args in Cut a.f (table_of a.table.count a.table.rows.now a.table.cols.now a.table.values.now) (elem_z a.c.now) c.sign_matrix-entries.result c.sign_matrix-entries.new.to_rows c.sign_matrix-entries.new.to_cols c.sign_matrix-entries.new.to_values =
+    let a = c.args in cut a.f (table_of a.table.count a.table.rows.now a.table.cols.now a.table.values.now) (elem_z a.c.now) c.sign_matrix-entries.result c.requires.lent.1 c.sign_matrix-entries.ensures.0 c.sign_matrix-entries.ensures.1
+    (c.indices-sign_rows.ensures.most_sign_entries_value, c.sign_matrix-entries.auto.to_rows) (c.indices-sign_cols.ensures.most_sign_entries_value, c.sign_matrix-entries.auto.to_cols) (c.eighths-sign_values.ensures.most_sign_entries_value, c.sign_matrix-entries.auto.to_values) in
+    let k = built in record { lent = cut_lent k }
 
 pub search_from-requires : goal.search_from-requires
 search_from-requires c = let built : let a = c.args in Cut a.f (table_of a.table.count a.table.rows.now a.table.cols.now a.table.values.now) (elem_z a.c.now) c.sign_matrix-entries.result c.sign_matrix-entries.new.to_rows c.sign_matrix-entries.new.to_cols c.sign_matrix-entries.new.to_values =

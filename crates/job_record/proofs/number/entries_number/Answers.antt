@@ -16,8 +16,8 @@ pub returns-then-whole-count : goal.returns-then-whole-count
 returns-then-whole-count c = let a = c.args in let w = c.whole_entries-whole in
     refused_11 a.job.now a.n a.count w.result w.ensures.0 w.ensures.1 w.ensures.2 a.rows.now a.cols.now a.values.now c.read_entries.ensures.rows_after c.read_entries.ensures.cols_after c.read_entries.ensures.values_after (omega (arith, w.ensures.0, c.requires)) (omega (arith, w.ensures.0, c.requires)) (omega (arith, w.ensures.0, c.requires)) c.bad_order.ensures c.if-bad_order.false c.if-whole-count.true
 
-pub invariant_of-unmirrored : goal.invariant_of-unmirrored
-invariant_of-unmirrored c = let a = c.args in let w = c.whole_entries-whole in record { lent = record { rows_there = omega (arith, c.requires); cols_there = omega (arith, c.requires); values_there = omega (arith, c.requires) } }
+pub invariant_of-table : goal.invariant_of-table
+invariant_of-table c = let a = c.args in let w = c.whole_entries-whole in record { lent = record { rows_there = omega (arith, c.requires); cols_there = omega (arith, c.requires); values_there = omega (arith, c.requires) } }
 
 pub unmirrored-requires : goal.unmirrored-requires
 unmirrored-requires c = let a = c.args in let w = c.whole_entries-whole in placed a.job.now a.n a.count w.result w.ensures.0 w.ensures.1 w.ensures.2 a.rows.now a.cols.now a.values.now c.read_entries.ensures.rows_after c.read_entries.ensures.cols_after c.read_entries.ensures.values_after (omega (arith, w.ensures.0, c.requires)) (omega (arith, w.ensures.0, c.requires)) (omega (arith, w.ensures.0, c.requires)) c.bad_order.ensures c.if-bad_order.false c.if-whole-count.false (omega (arith, c.requires))

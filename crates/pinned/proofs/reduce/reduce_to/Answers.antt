@@ -9,8 +9,8 @@ use Rattle.pinned.proofs.reduce.reduce_to.Goals as goal
 pub held_choice-held-requires : goal.held_choice-held-requires
 held_choice-held-requires c = (c.requires.0.hall.wagons, c.requires.0.states_there)
 
-pub invariant_of-beside_sums : goal.invariant_of-beside_sums
-invariant_of-beside_sums c = record { lent = record { rows_there = c.requires.0.lent.cols_there; cols_there = c.requires.0.lent.rows_there; values_there = c.requires.0.lent.values_there } }
+pub invariant_of-turned : goal.invariant_of-turned
+invariant_of-turned c = record { lent = record { rows_there = c.requires.0.lent.cols_there; cols_there = c.requires.0.lent.rows_there; values_there = c.requires.0.lent.values_there } }
 
 pub beside_sums-sums-requires : goal.beside_sums-sums-requires
 beside_sums-sums-requires c = (wider most_wagons (turned_range c.requires.0.hall.in_range) c.requires.0.hall.wagons, omega (arith, c.requires.0.hall.magnitude))
@@ -25,8 +25,8 @@ put_costs-requires c = let a = c.args in (
   omega (arith, free_short a.n a.states.now c.requires.1, c.requires.3),
 )
 
-pub invariant_of-free_entries : goal.invariant_of-free_entries
-invariant_of-free_entries c = record { lent = c.requires.0.lent }
+pub invariant_of-table : goal.invariant_of-table
+invariant_of-table c = record { lent = c.requires.0.lent }
 
 pub free_entries-entries-requires : goal.free_entries-entries-requires
 free_entries-entries-requires c = (wider most_wagons c.requires.0.hall.in_range c.requires.0.hall.wagons, omega (arith, c.requires.0.hall.entries), c.requires.2)

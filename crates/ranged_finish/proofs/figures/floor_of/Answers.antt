@@ -30,8 +30,8 @@ slice_bounds-sign_rows-end c =
     (c.indices-sign_rows.ensures.most_sign_entries_value, c.sign_matrix-entries.auto.to_rows) (c.indices-sign_cols.ensures.most_sign_entries_value, c.sign_matrix-entries.auto.to_cols) (c.eighths-sign_values.ensures.most_sign_entries_value, c.sign_matrix-entries.auto.to_values) in
     (built).rows_fit
 
-pub slice_bounds-floor_eighths-end : goal.slice_bounds-floor_eighths-end
-slice_bounds-floor_eighths-end c =
+pub slice_bounds-sign_table-end : goal.slice_bounds-sign_table-end
+slice_bounds-sign_table-end c =
     let built : let a = c.args in Cut a.n (table_of a.table.count a.table.rows.now a.table.cols.now a.table.values.now) (elem_z a.c.now) c.sign_matrix-entries.result c.sign_matrix-entries.new.to_rows c.sign_matrix-entries.new.to_cols c.sign_matrix-entries.new.to_values =
     let a = c.args in cut a.n (table_of a.table.count a.table.rows.now a.table.cols.now a.table.values.now) (elem_z a.c.now) c.sign_matrix-entries.result c.requires.1 c.sign_matrix-entries.ensures.0 c.sign_matrix-entries.ensures.1
     (c.indices-sign_rows.ensures.most_sign_entries_value, c.sign_matrix-entries.auto.to_rows) (c.indices-sign_cols.ensures.most_sign_entries_value, c.sign_matrix-entries.auto.to_cols) (c.eighths-sign_values.ensures.most_sign_entries_value, c.sign_matrix-entries.auto.to_values) in
@@ -44,8 +44,8 @@ slice_bounds-sign_cols-end c =
     (c.indices-sign_rows.ensures.most_sign_entries_value, c.sign_matrix-entries.auto.to_rows) (c.indices-sign_cols.ensures.most_sign_entries_value, c.sign_matrix-entries.auto.to_cols) (c.eighths-sign_values.ensures.most_sign_entries_value, c.sign_matrix-entries.auto.to_values) in
     (built).cols_fit
 
-pub slice_bounds-floor_eighths-end-2 : goal.slice_bounds-floor_eighths-end-2
-slice_bounds-floor_eighths-end-2 c =
+pub slice_bounds-sign_table-end-2 : goal.slice_bounds-sign_table-end-2
+slice_bounds-sign_table-end-2 c =
     let built : let a = c.args in Cut a.n (table_of a.table.count a.table.rows.now a.table.cols.now a.table.values.now) (elem_z a.c.now) c.sign_matrix-entries.result c.sign_matrix-entries.new.to_rows c.sign_matrix-entries.new.to_cols c.sign_matrix-entries.new.to_values =
     let a = c.args in cut a.n (table_of a.table.count a.table.rows.now a.table.cols.now a.table.values.now) (elem_z a.c.now) c.sign_matrix-entries.result c.requires.1 c.sign_matrix-entries.ensures.0 c.sign_matrix-entries.ensures.1
     (c.indices-sign_rows.ensures.most_sign_entries_value, c.sign_matrix-entries.auto.to_rows) (c.indices-sign_cols.ensures.most_sign_entries_value, c.sign_matrix-entries.auto.to_cols) (c.eighths-sign_values.ensures.most_sign_entries_value, c.sign_matrix-entries.auto.to_values) in
@@ -58,15 +58,15 @@ slice_bounds-sign_values-end c =
     (c.indices-sign_rows.ensures.most_sign_entries_value, c.sign_matrix-entries.auto.to_rows) (c.indices-sign_cols.ensures.most_sign_entries_value, c.sign_matrix-entries.auto.to_cols) (c.eighths-sign_values.ensures.most_sign_entries_value, c.sign_matrix-entries.auto.to_values) in
     (built).values_fit
 
-pub slice_bounds-floor_eighths-end-3 : goal.slice_bounds-floor_eighths-end-3
-slice_bounds-floor_eighths-end-3 c =
+pub slice_bounds-sign_table-end-3 : goal.slice_bounds-sign_table-end-3
+slice_bounds-sign_table-end-3 c =
     let built : let a = c.args in Cut a.n (table_of a.table.count a.table.rows.now a.table.cols.now a.table.values.now) (elem_z a.c.now) c.sign_matrix-entries.result c.sign_matrix-entries.new.to_rows c.sign_matrix-entries.new.to_cols c.sign_matrix-entries.new.to_values =
     let a = c.args in cut a.n (table_of a.table.count a.table.rows.now a.table.cols.now a.table.values.now) (elem_z a.c.now) c.sign_matrix-entries.result c.requires.1 c.sign_matrix-entries.ensures.0 c.sign_matrix-entries.ensures.1
     (c.indices-sign_rows.ensures.most_sign_entries_value, c.sign_matrix-entries.auto.to_rows) (c.indices-sign_cols.ensures.most_sign_entries_value, c.sign_matrix-entries.auto.to_cols) (c.eighths-sign_values.ensures.most_sign_entries_value, c.sign_matrix-entries.auto.to_values) in
     sym (length-take-le _ _ (built).values_fit)
 
-pub invariant_of-floor_eighths : goal.invariant_of-floor_eighths
-invariant_of-floor_eighths c = let built : let a = c.args in Cut a.n (table_of a.table.count a.table.rows.now a.table.cols.now a.table.values.now) (elem_z a.c.now) c.sign_matrix-entries.result c.sign_matrix-entries.new.to_rows c.sign_matrix-entries.new.to_cols c.sign_matrix-entries.new.to_values =
+pub invariant_of-sign_table : goal.invariant_of-sign_table
+invariant_of-sign_table c = let built : let a = c.args in Cut a.n (table_of a.table.count a.table.rows.now a.table.cols.now a.table.values.now) (elem_z a.c.now) c.sign_matrix-entries.result c.sign_matrix-entries.new.to_rows c.sign_matrix-entries.new.to_cols c.sign_matrix-entries.new.to_values =
     let a = c.args in cut a.n (table_of a.table.count a.table.rows.now a.table.cols.now a.table.values.now) (elem_z a.c.now) c.sign_matrix-entries.result c.requires.1 c.sign_matrix-entries.ensures.0 c.sign_matrix-entries.ensures.1
     (c.indices-sign_rows.ensures.most_sign_entries_value, c.sign_matrix-entries.auto.to_rows) (c.indices-sign_cols.ensures.most_sign_entries_value, c.sign_matrix-entries.auto.to_cols) (c.eighths-sign_values.ensures.most_sign_entries_value, c.sign_matrix-entries.auto.to_values) in
     let k = built in record { lent = cut_lent k }

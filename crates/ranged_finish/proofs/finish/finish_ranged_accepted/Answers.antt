@@ -19,8 +19,8 @@ finish_accepted-result-requires c =
     finish_lengths c.args.draws.now c.args.factor.now c.args.b.now c.args.dual_variables.now c.args.workspace.now in
     finish_ok c.args.run (table) c.args.width c.args.draw_count (lent) c.requires
 
-pub invariant_of-eval_qubo_objective : goal.invariant_of-eval_qubo_objective
-invariant_of-eval_qubo_objective c = let table : RangedTable =
+pub invariant_of-low_table : goal.invariant_of-low_table
+invariant_of-low_table c = let table : RangedTable =
     ranged_table c.args.n c.args.count c.args.rows.now c.args.cols.now c.args.low.now c.args.high.now c.args.low_c.now c.args.high_c.now in
     let lent : FinishLengths =
     finish_lengths c.args.draws.now c.args.factor.now c.args.b.now c.args.dual_variables.now c.args.workspace.now in
@@ -43,8 +43,8 @@ eval_qubo_objective-least-requires c =
     (ranged_ok c.args.run (table) c.args.width c.args.draw_count (lent) c.requires) in
     ((low).costs, omega (arith, (high).fits.b_room, c.finish_accepted-result.auto.b), (low).hall.in_range, omega (arith, (low).hall.magnitude))
 
-pub invariant_of-eval_qubo_objective : goal.invariant_of-eval_qubo_objective
-invariant_of-eval_qubo_objective c = let table : RangedTable =
+pub invariant_of-high_table : goal.invariant_of-high_table
+invariant_of-high_table c = let table : RangedTable =
     ranged_table c.args.n c.args.count c.args.rows.now c.args.cols.now c.args.low.now c.args.high.now c.args.low_c.now c.args.high_c.now in
     let lent : FinishLengths =
     finish_lengths c.args.draws.now c.args.factor.now c.args.b.now c.args.dual_variables.now c.args.workspace.now in
@@ -60,15 +60,6 @@ eval_qubo_objective-most-requires c =
     let high : Finishable c.args.run (high_of (table)) c.args.width c.args.draw_count (lent) =
     finish_accepted _ _ _ _ _ (finish_ok c.args.run (table) c.args.width c.args.draw_count (lent) c.requires) in
     ((high).costs, omega (arith, (high).fits.b_room, c.finish_accepted-result.auto.b), (high).hall.in_range, omega (arith, (high).hall.magnitude))
-
-pub invariant_of-floor_of : goal.invariant_of-floor_of
-invariant_of-floor_of c = let table : RangedTable =
-    ranged_table c.args.n c.args.count c.args.rows.now c.args.cols.now c.args.low.now c.args.high.now c.args.low_c.now c.args.high_c.now in
-    let lent : FinishLengths =
-    finish_lengths c.args.draws.now c.args.factor.now c.args.b.now c.args.dual_variables.now c.args.workspace.now in
-    let low : Usable (low_of (table)) =
-    low_usable (table) (ranged_lent c.args.run (table) c.args.width c.args.draw_count (lent) c.requires)
-    (ranged_ok c.args.run (table) c.args.width c.args.draw_count (lent) c.requires) in record { lent = (low).slices }
 
 pub floor_of-floor-requires : goal.floor_of-floor-requires
 floor_of-floor-requires c =

@@ -18,14 +18,14 @@ slice_bounds-finalize-end c =
     finish_accepted _ _ _ _ _ c.requires in
     (good).fits.space_room
 
-pub invariant_of-finalize : goal.invariant_of-finalize
-invariant_of-finalize c = let table : CostTable =
-      cost_table c.args.n c.args.count c.args.rows.now c.args.cols.now c.args.values.now c.args.c.now in
-      let good : Finishable c.args.run (table) c.args.width c.args.draw_count (finish_lengths c.args.draws.now c.args.factor.now c.args.b.now c.args.dual_variables.now c.args.workspace.now) =
-      finish_accepted _ _ _ _ _ c.requires in
-      let u = good in
-      let long = length-take-le search_workspace c.args.workspace.now u.fits.space_room in
-      record { lent = u.slices }
+pub invariant_of-table : goal.invariant_of-table
+invariant_of-table c = let table : CostTable =
+    cost_table c.args.n c.args.count c.args.rows.now c.args.cols.now c.args.values.now c.args.c.now in
+    let good : Finishable c.args.run (table) c.args.width c.args.draw_count (finish_lengths c.args.draws.now c.args.factor.now c.args.b.now c.args.dual_variables.now c.args.workspace.now) =
+    finish_accepted _ _ _ _ _ c.requires in
+    let u = good in
+    let long = length-take-le search_workspace c.args.workspace.now u.fits.space_room in
+    record { lent = u.slices }
 
 pub finalize-figures-requires : goal.finalize-figures-requires
 finalize-figures-requires c = let table : CostTable =

@@ -31,8 +31,8 @@ slice_bounds-sign_rows-end c =
     (c.indices-sign_rows.ensures.most_sign_entries_value, c.sign_matrix-entries.auto.to_rows) (c.indices-sign_cols.ensures.most_sign_entries_value, c.sign_matrix-entries.auto.to_cols) (c.eighths-sign_values.ensures.most_sign_entries_value, c.sign_matrix-entries.auto.to_values) in
     (built).rows_fit
 
-pub slice_bounds-separate_diagonal-end : goal.slice_bounds-separate_diagonal-end
-slice_bounds-separate_diagonal-end c =
+pub slice_bounds-sign_table-end : goal.slice_bounds-sign_table-end
+slice_bounds-sign_table-end c =
     let built : let a = c.args in Cut a.n (table_of a.count a.rows.now a.cols.now a.values.now) (elem_z a.c.now) c.sign_matrix-entries.result c.sign_matrix-entries.new.to_rows c.sign_matrix-entries.new.to_cols c.sign_matrix-entries.new.to_values =
     let a = c.args in cut a.n (table_of a.count a.rows.now a.cols.now a.values.now) (elem_z a.c.now) c.sign_matrix-entries.result c.requires.usable.hall c.sign_matrix-entries.ensures.0 c.sign_matrix-entries.ensures.1
     (c.indices-sign_rows.ensures.most_sign_entries_value, c.sign_matrix-entries.auto.to_rows) (c.indices-sign_cols.ensures.most_sign_entries_value, c.sign_matrix-entries.auto.to_cols) (c.eighths-sign_values.ensures.most_sign_entries_value, c.sign_matrix-entries.auto.to_values) in
@@ -45,8 +45,8 @@ slice_bounds-sign_cols-end c =
     (c.indices-sign_rows.ensures.most_sign_entries_value, c.sign_matrix-entries.auto.to_rows) (c.indices-sign_cols.ensures.most_sign_entries_value, c.sign_matrix-entries.auto.to_cols) (c.eighths-sign_values.ensures.most_sign_entries_value, c.sign_matrix-entries.auto.to_values) in
     (built).cols_fit
 
-pub slice_bounds-separate_diagonal-end-2 : goal.slice_bounds-separate_diagonal-end-2
-slice_bounds-separate_diagonal-end-2 c =
+pub slice_bounds-sign_table-end-2 : goal.slice_bounds-sign_table-end-2
+slice_bounds-sign_table-end-2 c =
     let built : let a = c.args in Cut a.n (table_of a.count a.rows.now a.cols.now a.values.now) (elem_z a.c.now) c.sign_matrix-entries.result c.sign_matrix-entries.new.to_rows c.sign_matrix-entries.new.to_cols c.sign_matrix-entries.new.to_values =
     let a = c.args in cut a.n (table_of a.count a.rows.now a.cols.now a.values.now) (elem_z a.c.now) c.sign_matrix-entries.result c.requires.usable.hall c.sign_matrix-entries.ensures.0 c.sign_matrix-entries.ensures.1
     (c.indices-sign_rows.ensures.most_sign_entries_value, c.sign_matrix-entries.auto.to_rows) (c.indices-sign_cols.ensures.most_sign_entries_value, c.sign_matrix-entries.auto.to_cols) (c.eighths-sign_values.ensures.most_sign_entries_value, c.sign_matrix-entries.auto.to_values) in
@@ -59,8 +59,8 @@ slice_bounds-sign_values-end c =
     (c.indices-sign_rows.ensures.most_sign_entries_value, c.sign_matrix-entries.auto.to_rows) (c.indices-sign_cols.ensures.most_sign_entries_value, c.sign_matrix-entries.auto.to_cols) (c.eighths-sign_values.ensures.most_sign_entries_value, c.sign_matrix-entries.auto.to_values) in
     (built).values_fit
 
-pub slice_bounds-separate_diagonal-end-3 : goal.slice_bounds-separate_diagonal-end-3
-slice_bounds-separate_diagonal-end-3 c =
+pub slice_bounds-sign_table-end-3 : goal.slice_bounds-sign_table-end-3
+slice_bounds-sign_table-end-3 c =
     let built : let a = c.args in Cut a.n (table_of a.count a.rows.now a.cols.now a.values.now) (elem_z a.c.now) c.sign_matrix-entries.result c.sign_matrix-entries.new.to_rows c.sign_matrix-entries.new.to_cols c.sign_matrix-entries.new.to_values =
     let a = c.args in cut a.n (table_of a.count a.rows.now a.cols.now a.values.now) (elem_z a.c.now) c.sign_matrix-entries.result c.requires.usable.hall c.sign_matrix-entries.ensures.0 c.sign_matrix-entries.ensures.1
     (c.indices-sign_rows.ensures.most_sign_entries_value, c.sign_matrix-entries.auto.to_rows) (c.indices-sign_cols.ensures.most_sign_entries_value, c.sign_matrix-entries.auto.to_cols) (c.eighths-sign_values.ensures.most_sign_entries_value, c.sign_matrix-entries.auto.to_values) in
@@ -69,8 +69,8 @@ slice_bounds-separate_diagonal-end-3 c =
 pub overflow_add-n : goal.overflow_add-n
 overflow_add-n c = omega (arith, c.requires.usable.hall.wagons)
 
-pub invariant_of-separate_diagonal : goal.invariant_of-separate_diagonal
-invariant_of-separate_diagonal c = record {
+pub invariant_of-sign_table : goal.invariant_of-sign_table
+invariant_of-sign_table c = record {
   lent = let built : let a = c.args in Cut a.n (table_of a.count a.rows.now a.cols.now a.values.now) (elem_z a.c.now) c.sign_matrix-entries.result c.sign_matrix-entries.new.to_rows c.sign_matrix-entries.new.to_cols c.sign_matrix-entries.new.to_values =
       let a = c.args in cut a.n (table_of a.count a.rows.now a.cols.now a.values.now) (elem_z a.c.now) c.sign_matrix-entries.result c.requires.usable.hall c.sign_matrix-entries.ensures.0 c.sign_matrix-entries.ensures.1
       (c.indices-sign_rows.ensures.most_sign_entries_value, c.sign_matrix-entries.auto.to_rows) (c.indices-sign_cols.ensures.most_sign_entries_value, c.sign_matrix-entries.auto.to_cols) (c.eighths-sign_values.ensures.most_sign_entries_value, c.sign_matrix-entries.auto.to_values) in

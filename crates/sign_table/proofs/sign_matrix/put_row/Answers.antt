@@ -10,8 +10,8 @@ pub loop-j-init : goal.loop-j-init
 loop-j-init c = let p = c.requires in
     (row_begin p.2 p.3 p.4 c.next_column-j.ensures, refl, refl, refl)
 
-pub invariant_of-here_value : goal.invariant_of-here_value
-invariant_of-here_value c = let p = c.requires in record { lent = p.0 }
+pub invariant_of-table : goal.invariant_of-table
+invariant_of-table c = let p = c.requires in record { lent = p.0 }
 
 pub here_value-value-requires : goal.here_value-value-requires
 here_value-value-requires c = let p = c.requires in

@@ -15,8 +15,8 @@ pub returns-in_err-checked_hall : goal.returns-in_err-checked_hall
 returns-in_err-checked_hall c = let a = c.args in
     ap in_numbers (passed c.from_residual.ensures.1) ∙ refused_is _ _ _ (cost_numbered a.n a.count a.rows.now a.cols.now a.values.now a.c.now a.b.now c.cost_short-short.ensures c.in_err-checked_hall.ensures) (some_number _)
 
-pub invariant_of-eval_qubo_objective : goal.invariant_of-eval_qubo_objective
-invariant_of-eval_qubo_objective c = let a = c.args in
+pub invariant_of-table : goal.invariant_of-table
+invariant_of-table c = let a = c.args in
     let (lent, linear, choice, ok) = cost_accepted a.n a.count a.rows.now a.cols.now a.values.now a.c.now a.b.now (sym (cost_numbered a.n a.count a.rows.now a.cols.now a.values.now a.c.now a.b.now c.cost_short-short.ensures c.in_ok-checked_hall.ensures)) in record { lent = lent }
 
 pub eval_qubo_objective-requires : goal.eval_qubo_objective-requires

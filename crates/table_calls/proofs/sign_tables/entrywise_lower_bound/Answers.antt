@@ -15,8 +15,8 @@ pub returns-in_err-checked_table : goal.returns-in_err-checked_table
 returns-in_err-checked_table c = let a = c.args in
     ap in_numbers (passed c.from_residual.ensures.1) ∙ refused_is _ _ _ (floor_numbered a.m a.count a.rows.now a.cols.now a.values.now c.short_table-short.ensures c.in_err-checked_table.ensures) (some_number _)
 
-pub invariant_of-entrywise_lower_bound : goal.invariant_of-entrywise_lower_bound
-invariant_of-entrywise_lower_bound c = let a = c.args in
+pub invariant_of-table : goal.invariant_of-table
+invariant_of-table c = let a = c.args in
     let (lent, ok) = floor_accepted a.m a.count a.rows.now a.cols.now a.values.now (sym (floor_numbered a.m a.count a.rows.now a.cols.now a.values.now c.short_table-short.ensures c.in_ok-checked_table.ensures)) in record { lent = lent }
 
 pub entrywise_lower_bound-requires : goal.entrywise_lower_bound-requires

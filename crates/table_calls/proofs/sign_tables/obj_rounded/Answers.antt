@@ -14,8 +14,8 @@ pub returns-in_err-checked_table : goal.returns-in_err-checked_table
 returns-in_err-checked_table c = let a = c.args in
     ap in_numbers (passed c.from_residual.ensures.1) ∙ refused_is _ _ _ (objective_numbered a.m a.count a.rows.now a.cols.now a.values.now a.signs.now c.objective_short-short.ensures c.in_err-checked_table.ensures) (some_number _)
 
-pub invariant_of-obj_rounded : goal.invariant_of-obj_rounded
-invariant_of-obj_rounded c = record { lent = (let a = c.args in objective_accepted a.m a.count a.rows.now a.cols.now a.values.now a.signs.now (sym (objective_numbered a.m a.count a.rows.now a.cols.now a.values.now a.signs.now c.objective_short-short.ensures c.in_ok-checked_table.ensures))).0 }
+pub invariant_of-table : goal.invariant_of-table
+invariant_of-table c = record { lent = (let a = c.args in objective_accepted a.m a.count a.rows.now a.cols.now a.values.now a.signs.now (sym (objective_numbered a.m a.count a.rows.now a.cols.now a.values.now a.signs.now c.objective_short-short.ensures c.in_ok-checked_table.ensures))).0 }
 
 pub obj_rounded-requires : goal.obj_rounded-requires
 obj_rounded-requires c = let given = (let a = c.args in objective_accepted a.m a.count a.rows.now a.cols.now a.values.now a.signs.now (sym (objective_numbered a.m a.count a.rows.now a.cols.now a.values.now a.signs.now c.objective_short-short.ensures c.in_ok-checked_table.ensures))) in (given.1, given.2)

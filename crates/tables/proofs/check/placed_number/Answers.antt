@@ -8,8 +8,8 @@ use Rattle.tables.proofs.check.placed_number.Goals as goal
 pub bad_order-requires : goal.bad_order-requires
 bad_order-requires c = let l = c.requires.0 (size_parts _ _ _ _ _ (sym c.bad_size.ensures ∙ c.if-bad_size.false)).2 in (l.rows_there, l.cols_there)
 
-pub invariant_of-unmirrored : goal.invariant_of-unmirrored
-invariant_of-unmirrored c = let p = c.requires in
+pub invariant_of-table : goal.invariant_of-table
+invariant_of-table c = let p = c.requires in
     let s = size_parts _ _ _ _ _ (sym c.bad_size.ensures ∙ c.if-bad_size.false) in
     let a = c.args in record { lent = p.0 s.2 }
 
