@@ -8,7 +8,7 @@ use crate::words::{
     RESULT_WORDS, RUN_WORDS, SETTING_WORDS, byte_in, count_in, put_result, put_run, run_in,
 };
 use ieee::bits::double_of;
-use run_record::OpenSettings;
+use run_record::{LentTable, OpenSettings};
 use sdp_solver::finish::finish;
 use sdp_solver::open::open;
 use sdp_solver::sweep::sweep_run;
@@ -45,7 +45,19 @@ pub extern "C" fn wagonplan_raw_open(
         stationarity_tolerance: double_of(settings[6]),
         start: byte_in(settings[7]),
     };
-    let opened = open(n, count, rows, cols, values, c, asked, numbers, factor);
+    let opened = open(
+        LentTable {
+            n,
+            count,
+            rows,
+            cols,
+            values,
+            c,
+        },
+        asked,
+        numbers,
+        factor,
+    );
     match opened {
         Ok(run) => {
             put_run(run, words);
@@ -74,7 +86,19 @@ pub extern "C" fn wagonplan_raw_sweep(
         return 31;
     }
     let run = run_in(words);
-    match sweep_run(run, n, count, rows, cols, values, c, k, factor) {
+    match sweep_run(
+        run,
+        LentTable {
+            n,
+            count,
+            rows,
+            cols,
+            values,
+            c,
+        },
+        k,
+        factor,
+    ) {
         Ok(after) => {
             put_run(after, words);
             0
@@ -114,12 +138,14 @@ pub extern "C" fn wagonplan_raw_finish(
     let run = run_in(words);
     let finished = finish(
         run,
-        n,
-        count,
-        rows,
-        cols,
-        values,
-        c,
+        LentTable {
+            n,
+            count,
+            rows,
+            cols,
+            values,
+            c,
+        },
         width,
         draw_count,
         draws,

@@ -10,8 +10,8 @@ use crate::RangedResult;
 use crate::figures::floor_of;
 use crate::number::ranged_finish_number;
 use refusal::Refusal;
-use run_record::Run;
 use run_record::lengths::FinishSlices;
+use run_record::{LentTable, Run};
 use sdp_solver::finish::finish_accepted;
 use tables::entries::Entries;
 use tables::objective::eval_qubo_objective;
@@ -43,12 +43,14 @@ fn finish_ranged_accepted(
 {
     let result = finish_accepted(
         run,
-        n,
-        count,
-        rows,
-        cols,
-        high,
-        high_c,
+        LentTable {
+            n,
+            count,
+            rows,
+            cols,
+            values: high,
+            c: high_c,
+        },
         width,
         draw_count,
         draws,

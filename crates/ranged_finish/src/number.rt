@@ -9,9 +9,9 @@ ghost use Rattle.ranged_finish.specs.Numbers.{ranged_short, ranged_finish_number
 use crate::ranges::ranged_number;
 use limits::{MOST_ENTRIES, MOST_WAGONS};
 use refusal::{Refusal, number_in};
-use run_record::Run;
 use run_record::lengths::FinishSlices;
 use run_record::numbers::finish_number;
+use run_record::{LentTable, Run};
 use tables::check::{short_table, too_short};
 
 // 31 of the slices of a ranged table.
@@ -61,7 +61,18 @@ pub fn ranged_finish_number(
         return Err(Refusal::Slice);
     }
     let finish = finish_number(
-        run, n, count, rows, cols, high, high_c, width, draw_count, lent,
+        run,
+        LentTable {
+            n,
+            count,
+            rows,
+            cols,
+            values: high,
+            c: high_c,
+        },
+        width,
+        draw_count,
+        lent,
     );
     if 30 < number_in(finish) {
         return finish;

@@ -20,7 +20,7 @@ use limits::{MOST_DRAWN, MOST_ENTRIES, MOST_FACTOR, MOST_SIGNS, MOST_START, MOST
 use pinned::lift::lift_choice;
 use pinned::reduce::reduce;
 use run_contract::FinishResult;
-use run_record::{OpenSettings, Run};
+use run_record::{LentTable, OpenSettings, Run};
 use sdp_solver::finish::finish_accepted;
 use sdp_solver::open::open_accepted;
 use sdp_solver::sweep::sweep_accepted;
@@ -45,12 +45,14 @@ fn run_job(
     ensures { (result ≡ record_of (stopped (run_costs job.now) job.now)) × (factor.new ≡ (stopped (run_costs job.now) job.now).factor) }
 {
     let run = open_accepted(
-        j.free,
-        count,
-        rows,
-        cols,
-        values,
-        c,
+        LentTable {
+            n: j.free,
+            count,
+            rows,
+            cols,
+            values,
+            c,
+        },
         OpenSettings {
             rank: j.rank,
             rule: j.rule,
@@ -67,7 +69,19 @@ fn run_job(
     if j.most == 0 {
         return run;
     }
-    sweep_accepted(run, j.free, count, rows, cols, values, c, j.most, factor)
+    sweep_accepted(
+        run,
+        LentTable {
+            n: j.free,
+            count,
+            rows,
+            cols,
+            values,
+            c,
+        },
+        j.most,
+        factor,
+    )
 }
 
 // The run, and its finish; the factor is of the run's size.
@@ -93,12 +107,14 @@ fn finish_run(
     let run = run_job(job, j, count, rows, cols, values, c, start, factor);
     finish_accepted(
         run,
-        j.free,
-        count,
-        rows,
-        cols,
-        values,
-        c,
+        LentTable {
+            n: j.free,
+            count,
+            rows,
+            cols,
+            values,
+            c,
+        },
         j.width,
         j.draw_count,
         draws,

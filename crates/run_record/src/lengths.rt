@@ -3,28 +3,29 @@ ghost use Rattle.std.specs.Prelude.{◌≡◌};
 ghost use Rattle.run_record.specs.CostTable.{cost_table};
 ghost use Rattle.run_record.specs.Lengths.{lengths_of};
 ghost use Rattle.run_record.specs.Numbers.{table_short, factor_short, sweep_short, draws_short, choice_short, finish_short, open_rank_refused, start_short, open_factor_short, open_short};
+ghost use Rattle.run_record.specs.Lent.{costs_of};
 
 use super::Run;
+use crate::LentTable;
 use limits::{MOST_DRAWS, MOST_RANK, SEARCH_WORKSPACE};
 use run_limits::{rank_meant, start_length};
 use tables::check::{short_table, too_short};
 
 // 31 of the slices of (H, c).
 #[tactic(auto, unfolding(crate::specs::Numbers::table_short, laws::specs::Refusal::any_of, laws::specs::Refusal::short))]
-fn table_short(
-    n: usize,
-    count: usize,
-    rows: &[u16],
-    cols: &[u16],
-    values: &[i64],
-    c: &[i64],
-) -> bool
-    ensures { result ≡ table_short (cost_table n count rows.now cols.now values.now c.now) }
+fn table_short(table: LentTable) -> bool
+    ensures { result ≡ table_short (costs_of table.entry) }
 {
-    if short_table(limits::MOST_ENTRIES, count, rows, cols, values) {
+    if short_table(
+        limits::MOST_ENTRIES,
+        table.count,
+        table.rows,
+        table.cols,
+        table.values,
+    ) {
         return true;
     }
-    too_short(limits::MOST_WAGONS < n, n, c.len())
+    too_short(limits::MOST_WAGONS < table.n, table.n, table.c.len())
 }
 
 // 31 of the factor.
@@ -49,22 +50,13 @@ fn factor_short(n: usize, size: usize, rank: usize, lent: usize) -> bool
 
 // 31 of a sweep's slices.
 #[tactic(auto, unfolding(crate::specs::Numbers::sweep_short, laws::specs::Refusal::any_of))]
-pub fn sweep_short(
-    run: Run,
-    n: usize,
-    count: usize,
-    rows: &[u16],
-    cols: &[u16],
-    values: &[i64],
-    c: &[i64],
-    factor: usize,
-) -> bool
-    ensures { result ≡ sweep_short run (cost_table n count rows.now cols.now values.now c.now) factor }
+pub fn sweep_short(run: Run, table: LentTable, factor: usize) -> bool
+    ensures { result ≡ sweep_short run (costs_of table.entry) factor }
 {
-    if table_short(n, count, rows, cols, values, c) {
+    if table_short(table) {
         return true;
     }
-    factor_short(n, run.size, run.rank, factor)
+    factor_short(table.n, run.size, run.rank, factor)
 }
 
 // The lengths of the slices that a finish is lent.
@@ -113,29 +105,19 @@ fn choice_short(n: usize, b: usize, dual: usize) -> bool
 
 // 31 of a finish's slices.
 #[tactic(auto, unfolding(crate::specs::Numbers::finish_short, laws::specs::Refusal::any_of))]
-pub fn finish_short(
-    run: Run,
-    n: usize,
-    count: usize,
-    rows: &[u16],
-    cols: &[u16],
-    values: &[i64],
-    c: &[i64],
-    draw_count: usize,
-    lent: FinishSlices,
-) -> bool
-    ensures { result ≡ finish_short run (cost_table n count rows.now cols.now values.now c.now) draw_count (lengths_of lent) }
+pub fn finish_short(run: Run, table: LentTable, draw_count: usize, lent: FinishSlices) -> bool
+    ensures { result ≡ finish_short run (costs_of table.entry) draw_count (lengths_of lent) }
 {
-    if table_short(n, count, rows, cols, values, c) {
+    if table_short(table) {
         return true;
     }
     if draws_short(run.rank, draw_count, lent.draws) {
         return true;
     }
-    if factor_short(n, run.size, run.rank, lent.factor) {
+    if factor_short(table.n, run.size, run.rank, lent.factor) {
         return true;
     }
-    if choice_short(n, lent.b, lent.dual) {
+    if choice_short(table.n, lent.b, lent.dual) {
         return true;
     }
     lent.workspace < SEARCH_WORKSPACE
@@ -185,25 +167,20 @@ fn open_factor_short(n: usize, rank: usize, start: u8, factor: usize) -> bool
 // 31 of an open's slices.
 #[tactic(auto, unfolding(crate::specs::Numbers::open_short, laws::specs::Refusal::any_of))]
 pub fn open_short(
-    n: usize,
-    count: usize,
-    rows: &[u16],
-    cols: &[u16],
-    values: &[i64],
-    c: &[i64],
+    table: LentTable,
     rank: usize,
     most: u32,
     start: u8,
     numbers: usize,
     factor: usize,
 ) -> bool
-    ensures { result ≡ open_short (cost_table n count rows.now cols.now values.now c.now) rank most start numbers factor }
+    ensures { result ≡ open_short (costs_of table.entry) rank most start numbers factor }
 {
-    if table_short(n, count, rows, cols, values, c) {
+    if table_short(table) {
         return true;
     }
-    if start_short(n, rank, most, start, numbers) {
+    if start_short(table.n, rank, most, start, numbers) {
         return true;
     }
-    open_factor_short(n, rank, start, factor)
+    open_factor_short(table.n, rank, start, factor)
 }

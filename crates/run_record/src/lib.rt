@@ -35,6 +35,17 @@ pub struct Run {
     pub standing: u64,
 }
 
+// (H, c) as a call is lent it: numbers, and slices whose lengths may be any.
+#[derive(Clone, Copy)]
+pub struct LentTable<'a> {
+    pub n: usize,
+    pub count: usize,
+    pub rows: &'a [u16],
+    pub cols: &'a [u16],
+    pub values: &'a [i64],
+    pub c: &'a [i64],
+}
+
 // What an open is asked for: rank 0 is the default rank, `number` is the rule's. Rule and start are 01's numbers, since a caller may hand in any:
 // one that is none of them is refused by 18 and 19.
 #[derive(Clone, Copy)]

@@ -5,9 +5,11 @@ ghost use Rattle.refusal.specs.Number.{numbered};
 ghost use Rattle.run_record.specs.CostTable.{cost_table};
 ghost use Rattle.run_record.specs.Lengths.{lengths_of};
 ghost use Rattle.run_record.specs.Numbers.{table_short, own_refused, record_refused, cost_table_number, bad_momentum, sweep_number, member_number, draws_refused, width_refused, finish_number, rule_refused, open_number, exchange_number};
+ghost use Rattle.run_record.specs.Lent.{costs_of};
 
 use super::lengths::{FinishSlices, finish_short, open_rank_refused, open_short, sweep_short};
 use super::{OpenSettings, Run, is_stopped, open_and};
+use crate::LentTable;
 use limits::{MOST_DRAWS, MOST_RANK, MOST_WIDTH};
 use refusal::Refusal;
 use run_limits::is_momentum;
@@ -68,27 +70,20 @@ fn record_refused(run: Run, n: usize) -> bool
 }
 
 // 13 to 16, of a table whose slices are long enough.
-fn table_number(
-    n: usize,
-    count: usize,
-    rows: &[u16],
-    cols: &[u16],
-    values: &[i64],
-    c: &[i64],
-) -> Result<(), Refusal>
-    requires { table_short (cost_table n count rows.now cols.now values.now c.now) ≡ false }
-    ensures { numbered result ≡ cost_table_number (cost_table n count rows.now cols.now values.now c.now) }
+fn table_number(table: LentTable) -> Result<(), Refusal>
+    requires { table_short (costs_of table) ≡ false }
+    ensures { numbered result ≡ cost_table_number (costs_of table.entry) }
 {
     tables::check::hall_number(
         limits::MOST_WAGONS,
         limits::MOST_ENTRIES,
         limits::MOST_MAGNITUDE,
-        n,
-        count,
-        rows,
-        cols,
-        values,
-        c,
+        table.n,
+        table.count,
+        table.rows,
+        table.cols,
+        table.values,
+        table.c,
     )
 }
 
@@ -107,25 +102,17 @@ fn bad_momentum(rule: StepRule) -> bool
 
 // 33, 13 to 16 and 18: what sweep, turn and finish judge alike of a run and its table.
 #[tactic(auto, unfolding(laws::specs::Refusal::first, laws::specs::Refusal::or_else))]
-fn record_number(
-    run: Run,
-    n: usize,
-    count: usize,
-    rows: &[u16],
-    cols: &[u16],
-    values: &[i64],
-    c: &[i64],
-) -> Result<(), Refusal>
-    requires { table_short (cost_table n count rows.now cols.now values.now c.now) ≡ false }
-    ensures { numbered result ≡ first (33 if record_refused run n
-        ∷ cost_table_number (cost_table n count rows.now cols.now values.now c.now)
+fn record_number(run: Run, table: LentTable) -> Result<(), Refusal>
+    requires { table_short (costs_of table) ≡ false }
+    ensures { numbered result ≡ first (33 if record_refused run table.entry.n
+        ∷ cost_table_number (costs_of table.entry)
         ∷ 18 if bad_momentum run.rule
         ∷ []) }
 {
-    if record_refused(run, n) {
+    if record_refused(run, table.n) {
         return Err(Refusal::Record);
     }
-    table_number(n, count, rows, cols, values, c)?;
+    table_number(table)?;
     if bad_momentum(run.rule) {
         return Err(Refusal::Rule);
     }
@@ -134,45 +121,27 @@ fn record_number(
 
 // What a sweep refuses.
 #[tactic(auto, unfolding(crate::specs::Numbers::sweep_number, crate::specs::Numbers::sweep_short, laws::specs::Refusal::first, laws::specs::Refusal::or_else))]
-pub fn sweep_number(
-    run: Run,
-    n: usize,
-    count: usize,
-    rows: &[u16],
-    cols: &[u16],
-    values: &[i64],
-    c: &[i64],
-    factor: usize,
-) -> Result<(), Refusal>
-    ensures { numbered result ≡ sweep_number run (cost_table n count rows.now cols.now values.now c.now) factor }
+pub fn sweep_number(run: Run, table: LentTable, factor: usize) -> Result<(), Refusal>
+    ensures { numbered result ≡ sweep_number run (costs_of table.entry) factor }
 {
-    if sweep_short(run, n, count, rows, cols, values, c, factor) {
+    if sweep_short(run, table, factor) {
         return Err(Refusal::Slice);
     }
     if is_stopped(run.stage) {
         return Err(Refusal::Stage);
     }
-    record_number(run, n, count, rows, cols, values, c)
+    record_number(run, table)
 }
 
 // What a turn refuses of a run among several, stopped or not.
 #[tactic(auto, unfolding(crate::specs::Numbers::member_number, crate::specs::Numbers::sweep_short, laws::specs::Refusal::first, laws::specs::Refusal::or_else))]
-pub fn member_number(
-    run: Run,
-    n: usize,
-    count: usize,
-    rows: &[u16],
-    cols: &[u16],
-    values: &[i64],
-    c: &[i64],
-    factor: usize,
-) -> Result<(), Refusal>
-    ensures { numbered result ≡ member_number run (cost_table n count rows.now cols.now values.now c.now) factor }
+pub fn member_number(run: Run, table: LentTable, factor: usize) -> Result<(), Refusal>
+    ensures { numbered result ≡ member_number run (costs_of table.entry) factor }
 {
-    if sweep_short(run, n, count, rows, cols, values, c, factor) {
+    if sweep_short(run, table, factor) {
         return Err(Refusal::Slice);
     }
-    record_number(run, n, count, rows, cols, values, c)
+    record_number(run, table)
 }
 
 // Whether 19 refuses the count of draws.
@@ -195,25 +164,20 @@ fn width_refused(width: usize, draw_count: usize) -> bool
 #[tactic(auto, unfolding(crate::specs::Numbers::finish_number, laws::specs::Refusal::first, laws::specs::Refusal::or_else))]
 pub fn finish_number(
     run: Run,
-    n: usize,
-    count: usize,
-    rows: &[u16],
-    cols: &[u16],
-    values: &[i64],
-    c: &[i64],
+    table: LentTable,
     width: usize,
     draw_count: usize,
     lent: FinishSlices,
 ) -> Result<(), Refusal>
-    ensures { numbered result ≡ finish_number run (cost_table n count rows.now cols.now values.now c.now) width draw_count (lengths_of lent) }
+    ensures { numbered result ≡ finish_number run (costs_of table.entry) width draw_count (lengths_of lent) }
 {
-    if finish_short(run, n, count, rows, cols, values, c, draw_count, lent) {
+    if finish_short(run, table, draw_count, lent) {
         return Err(Refusal::Slice);
     }
     if !is_stopped(run.stage) {
         return Err(Refusal::Stage);
     }
-    record_number(run, n, count, rows, cols, values, c)?;
+    record_number(run, table)?;
     if width_refused(width, draw_count) {
         return Err(Refusal::Search);
     }
@@ -231,35 +195,18 @@ fn rule_refused(rule: u8, number: f64) -> bool
 // What an open refuses.
 #[tactic(auto, unfolding(crate::specs::Numbers::open_number, laws::specs::Refusal::first, laws::specs::Refusal::or_else))]
 pub fn open_number(
-    n: usize,
-    count: usize,
-    rows: &[u16],
-    cols: &[u16],
-    values: &[i64],
-    c: &[i64],
+    table: LentTable,
     asked: OpenSettings,
     numbers: usize,
     factor: usize,
 ) -> Result<(), Refusal>
-    ensures { numbered result ≡ open_number (cost_table n count rows.now cols.now values.now c.now) asked.rank asked.rule
+    ensures { numbered result ≡ open_number (costs_of table.entry) asked.rank asked.rule
         asked.number asked.most asked.start numbers factor }
 {
-    if open_short(
-        n,
-        count,
-        rows,
-        cols,
-        values,
-        c,
-        asked.rank,
-        asked.most,
-        asked.start,
-        numbers,
-        factor,
-    ) {
+    if open_short(table, asked.rank, asked.most, asked.start, numbers, factor) {
         return Err(Refusal::Slice);
     }
-    table_number(n, count, rows, cols, values, c)?;
+    table_number(table)?;
     if open_rank_refused(asked.rank, asked.start) {
         return Err(Refusal::Rank);
     }

@@ -4,25 +4,21 @@ ghost use Rattle.std.specs.Prelude.{◌≡◌, Ok};
 ghost use Rattle.refusal.specs.Number.{in_numbers};
 ghost use Rattle.run_record.specs.Numbers.{finish_number};
 ghost use Rattle.run_contract.specs.Calls.{finish_lengths, Finishes};
+ghost use Rattle.run_record.specs.Lent.{costs_of};
 
 use finalize::finalize;
 use limits::SEARCH_WORKSPACE;
 use refusal::Refusal;
 use run_contract::FinishResult;
-use run_record::Run;
 use run_record::lengths::FinishSlices;
 use run_record::numbers::finish_number;
+use run_record::{LentTable, Run};
 use tables::entries::Entries;
 
 // Finishes a stopped run that nothing refuses.
 pub fn finish_accepted(
     run: Run,
-    n: usize,
-    count: usize,
-    rows: &[u16],
-    cols: &[u16],
-    values: &[i64],
-    c: &[i64],
+    table: LentTable,
     width: usize,
     draw_count: usize,
     draws: &[f64],
@@ -31,22 +27,22 @@ pub fn finish_accepted(
     dual_variables: &mut [f64],
     workspace: &mut [u64],
 ) -> FinishResult
-    requires { finish_number run (cost_table n count rows.now cols.now values.now c.now) width draw_count
+    requires { finish_number run (costs_of table) width draw_count
         (finish_lengths draws.now factor.now b.old dual_variables.old workspace.old) ≡ 0 }
-    ensures { Finishes run (cost_table n count rows.now cols.now values.now c.now) width draw_count draws.now factor.now b.old dual_variables.old workspace.old
+    ensures { Finishes run (costs_of table.entry) width draw_count draws.now factor.now b.old dual_variables.old workspace.old
         (Ok result) b.new dual_variables.new workspace.new }
 {
     let rank = run.rank;
-    let table = Entries {
-        count,
-        rows,
-        cols,
-        values,
+    let entries = Entries {
+        count: table.count,
+        rows: table.rows,
+        cols: table.cols,
+        values: table.values,
     };
     let figures = finalize(
-        n,
-        table,
-        c,
+        table.n,
+        entries,
+        table.c,
         rank,
         width,
         draw_count,
@@ -59,7 +55,7 @@ pub fn finish_accepted(
     FinishResult {
         status: run.status,
         rank,
-        n,
+        n: table.n,
         sweeps: run.sweeps,
         relaxed_objective: run.last_objective + figures.diagonal_sum,
         float_bound: figures.float_bound,
@@ -74,12 +70,7 @@ pub fn finish_accepted(
 // Finishes a stopped run over the table given; it changes no run record and no factor, and may be repeated.
 pub fn finish(
     run: Run,
-    n: usize,
-    count: usize,
-    rows: &[u16],
-    cols: &[u16],
-    values: &[i64],
-    c: &[i64],
+    table: LentTable,
     width: usize,
     draw_count: usize,
     draws: &[f64],
@@ -88,7 +79,7 @@ pub fn finish(
     dual_variables: &mut [f64],
     workspace: &mut [u64],
 ) -> Result<FinishResult, Refusal>
-    ensures { Finishes run (cost_table n count rows.now cols.now values.now c.now) width draw_count draws.now factor.now b.old dual_variables.old workspace.old
+    ensures { Finishes run (costs_of table.entry) width draw_count draws.now factor.now b.old dual_variables.old workspace.old
         (in_numbers result) b.new dual_variables.new workspace.new }
 {
     let lent = FinishSlices {
@@ -98,17 +89,10 @@ pub fn finish(
         dual: dual_variables.len(),
         workspace: workspace.len(),
     };
-    finish_number(
-        run, n, count, rows, cols, values, c, width, draw_count, lent,
-    )?;
+    finish_number(run, table, width, draw_count, lent)?;
     Ok(finish_accepted(
         run,
-        n,
-        count,
-        rows,
-        cols,
-        values,
-        c,
+        table,
         width,
         draw_count,
         draws,

@@ -6,6 +6,7 @@ ghost use Rattle.run_record.specs.CostTable.{cost_table};
 ghost use Rattle.run_sweep.specs.Work.{sign_table_of};
 ghost use Rattle.run_contract.specs.Calls.{first_stage, asked_of, open_number_of, Opens};
 ghost use Rattle.sdp_solver.specs.Usable.{Usable};
+ghost use Rattle.run_record.specs.Lent.{costs_of};
 
 use super::work::call_work;
 use finalize::room;
@@ -14,7 +15,7 @@ use maxcut_oracle::objective::obj;
 use refusal::Refusal;
 use run_limits::{draws_follow, rank_meant};
 use run_record::numbers::open_number;
-use run_record::{OpenSettings, Run, Stage};
+use run_record::{LentTable, OpenSettings, Run, Stage};
 use step_rules::rule_of;
 
 // The stage of a new run: stopped where no sweep is allowed.
@@ -30,30 +31,16 @@ fn first_stage(most: u32) -> Stage
 }
 
 // The objective of the start, its diagonal left out.
-fn first_objective(
-    n: usize,
-    count: usize,
-    rows: &[u16],
-    cols: &[u16],
-    values: &[i64],
-    c: &[i64],
-    rank: usize,
-    factor: &[f64],
-) -> f64
-    requires { Usable (cost_table n count rows.now cols.now values.now c.now) × (length factor.now ≡ (n + 1) * rank) }
-    ensures { result ≡ work_objective (sign_table_of (cost_table n count rows.now cols.now values.now c.now)) rank factor.now }
+fn first_objective(table: LentTable, rank: usize, factor: &[f64]) -> f64
+    requires { Usable (costs_of table) × (length factor.now ≡ (table.n + 1) * rank) }
+    ensures { result ≡ work_objective (sign_table_of (costs_of table.entry)) rank factor.now }
 {
     let mut work_rows = room::indices();
     let mut work_cols = room::indices();
     let mut work_values = room::units();
     let mut starts = room::row_starts();
     let stay = call_work(
-        n,
-        count,
-        rows,
-        cols,
-        values,
-        c,
+        table,
         &mut work_rows,
         &mut work_cols,
         &mut work_values,
@@ -70,21 +57,16 @@ fn first_objective(
 
 // Opens a run that nothing refuses; the factor takes m rows of the rank that is meant.
 pub fn open_accepted(
-    n: usize,
-    count: usize,
-    rows: &[u16],
-    cols: &[u16],
-    values: &[i64],
-    c: &[i64],
+    table: LentTable,
     asked: OpenSettings,
     numbers: &[f64],
     factor: &mut [f64],
 ) -> Run
-    requires { open_number_of (asked_of (cost_table n count rows.now cols.now values.now c.now) asked numbers.now) (length factor.old) ≡ 0 }
-    ensures { Opens (asked_of (cost_table n count rows.now cols.now values.now c.now) asked numbers.now)
+    requires { open_number_of (asked_of (costs_of table) asked numbers.now) (length factor.old) ≡ 0 }
+    ensures { Opens (asked_of (costs_of table.entry) asked numbers.now)
         factor.old (Ok result) factor.new }
 {
-    let size = n + 1;
+    let size = table.n + 1;
     let meant = rank_meant(size, asked.rank);
     let used = size * meant;
     prepare_initial_factor(
@@ -95,7 +77,7 @@ pub fn open_accepted(
         size,
         factor,
     );
-    let last_objective = first_objective(n, count, rows, cols, values, c, meant, &factor[..used]);
+    let last_objective = first_objective(table, meant, &factor[..used]);
     let step = rule_of(asked.rule, asked.number);
     let stage = first_stage(asked.most);
     Run {
@@ -116,29 +98,14 @@ pub fn open_accepted(
 
 // Opens a run; `numbers` are the start's.
 pub fn open(
-    n: usize,
-    count: usize,
-    rows: &[u16],
-    cols: &[u16],
-    values: &[i64],
-    c: &[i64],
+    table: LentTable,
     asked: OpenSettings,
     numbers: &[f64],
     factor: &mut [f64],
 ) -> Result<Run, Refusal>
-    ensures { Opens (asked_of (cost_table n count rows.now cols.now values.now c.now) asked numbers.now)
+    ensures { Opens (asked_of (costs_of table.entry) asked numbers.now)
         factor.old (in_numbers result) factor.new }
 {
-    open_number(
-        n,
-        count,
-        rows,
-        cols,
-        values,
-        c,
-        asked,
-        numbers.len(),
-        factor.len(),
-    )?;
-    Ok(open_accepted(n, count, rows, cols, values, c, asked, numbers, factor))
+    open_number(table, asked, numbers.len(), factor.len())?;
+    Ok(open_accepted(table, asked, numbers, factor))
 }

@@ -10,12 +10,13 @@ ghost use Rattle.run_sweep.specs.Running.{Running};
 ghost use Rattle.run_sweep.specs.Sweep.{sweeps_up_to};
 ghost use Rattle.run_contract.specs.Calls.{Sweeps};
 ghost use Rattle.sdp_solver.specs.Usable.{Usable};
+ghost use Rattle.run_record.specs.Lent.{costs_of};
 
 use super::work::call_work;
 use finalize::room;
 use refusal::Refusal;
-use run_record::Run;
 use run_record::numbers::sweep_number;
+use run_record::{LentTable, Run};
 use run_sweep::sweeps_up_to;
 
 // Up to k sweeps over a prepared table, with room for what a sweep and its check work on.
@@ -53,38 +54,23 @@ fn sweep_work(
 }
 
 // Up to k sweeps over (H, c) of a factor of m rows, where nothing refuses them.
-pub fn sweep_accepted(
-    run: Run,
-    n: usize,
-    count: usize,
-    rows: &[u16],
-    cols: &[u16],
-    values: &[i64],
-    c: &[i64],
-    k: u32,
-    factor: &mut [f64],
-) -> Run
-    requires { Usable (cost_table n count rows.now cols.now values.now c.now) × Running run × (run.size ≡ n + 1) × (run.rank ≤ most_rank) × (length factor.old ≡ run.size * run.rank) }
-    ensures { (result ≡ (sweeps_up_to k (call_work (cost_table n count rows.now cols.now values.now c.now)) run factor.old).run)
-        × (factor.new ≡ (sweeps_up_to k (call_work (cost_table n count rows.now cols.now values.now c.now)) run factor.old).factor) }
+pub fn sweep_accepted(run: Run, table: LentTable, k: u32, factor: &mut [f64]) -> Run
+    requires { Usable (costs_of table) × Running run × (run.size ≡ table.n + 1) × (run.rank ≤ most_rank) × (length factor.old ≡ run.size * run.rank) }
+    ensures { (result ≡ (sweeps_up_to k (call_work (costs_of table.entry)) run factor.old).run)
+        × (factor.new ≡ (sweeps_up_to k (call_work (costs_of table.entry)) run factor.old).factor) }
 {
     let mut work_rows = room::indices();
     let mut work_cols = room::indices();
     let mut work_values = room::units();
     let mut starts = room::row_starts();
     let stay = call_work(
-        n,
-        count,
-        rows,
-        cols,
-        values,
-        c,
+        table,
         &mut work_rows,
         &mut work_cols,
         &mut work_values,
         &mut starts,
     );
-    let end = n + 2;
+    let end = table.n + 2;
     sweep_work(
         run,
         &work_rows[..stay],
@@ -97,39 +83,19 @@ pub fn sweep_accepted(
 }
 
 // The sweep call by value: the record after it.
-pub fn sweep_run(
-    run: Run,
-    n: usize,
-    count: usize,
-    rows: &[u16],
-    cols: &[u16],
-    values: &[i64],
-    c: &[i64],
-    k: u32,
-    factor: &mut [f64],
-) -> Result<Run, Refusal>
-    ensures { Sweeps run (cost_table n count rows.now cols.now values.now c.now) k factor.old (numbered result) (result_unwrap_or result run) factor.new }
+pub fn sweep_run(run: Run, table: LentTable, k: u32, factor: &mut [f64]) -> Result<Run, Refusal>
+    ensures { Sweeps run (costs_of table.entry) k factor.old (numbered result) (result_unwrap_or result run) factor.new }
 {
-    sweep_number(run, n, count, rows, cols, values, c, factor.len())?;
+    sweep_number(run, table, factor.len())?;
     let used = run.size * run.rank;
-    Ok(sweep_accepted(run, n, count, rows, cols, values, c, k, &mut factor[..used]))
+    Ok(sweep_accepted(run, table, k, &mut factor[..used]))
 }
 
 // The sweep call on the caller's own record.
-pub fn sweep(
-    run: &mut Run,
-    n: usize,
-    count: usize,
-    rows: &[u16],
-    cols: &[u16],
-    values: &[i64],
-    c: &[i64],
-    k: u32,
-    factor: &mut [f64],
-) -> Result<(), Refusal>
-    ensures { Sweeps run.old (cost_table n count rows.now cols.now values.now c.now) k factor.old
+pub fn sweep(run: &mut Run, table: LentTable, k: u32, factor: &mut [f64]) -> Result<(), Refusal>
+    ensures { Sweeps run.old (costs_of table.entry) k factor.old
         (numbered result) run.new factor.new }
 {
-    *run = sweep_run(*run, n, count, rows, cols, values, c, k, &mut *factor)?;
+    *run = sweep_run(*run, table, k, &mut *factor)?;
     Ok(())
 }

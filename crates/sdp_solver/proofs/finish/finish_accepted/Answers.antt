@@ -13,14 +13,14 @@ use Rattle.sdp_solver.proofs.finish.finish_accepted.Goals as goal
 pub slice_bounds-finalize-end : goal.slice_bounds-finalize-end
 slice_bounds-finalize-end c =
     let table : CostTable =
-    cost_table c.args.n c.args.count c.args.rows.now c.args.cols.now c.args.values.now c.args.c.now in
+    cost_table c.args.table.n c.args.table.count c.args.table.rows.now c.args.table.cols.now c.args.table.values.now c.args.table.c.now in
     let good : Finishable c.args.run (table) c.args.width c.args.draw_count (finish_lengths c.args.draws.now c.args.factor.now c.args.b.now c.args.dual_variables.now c.args.workspace.now) =
     finish_accepted _ _ _ _ _ c.requires in
     (good).fits.space_room
 
-pub invariant_of-table : goal.invariant_of-table
-invariant_of-table c = let table : CostTable =
-    cost_table c.args.n c.args.count c.args.rows.now c.args.cols.now c.args.values.now c.args.c.now in
+pub invariant_of-entries : goal.invariant_of-entries
+invariant_of-entries c = let table : CostTable =
+    cost_table c.args.table.n c.args.table.count c.args.table.rows.now c.args.table.cols.now c.args.table.values.now c.args.table.c.now in
     let good : Finishable c.args.run (table) c.args.width c.args.draw_count (finish_lengths c.args.draws.now c.args.factor.now c.args.b.now c.args.dual_variables.now c.args.workspace.now) =
     finish_accepted _ _ _ _ _ c.requires in
     let u = good in
@@ -29,7 +29,7 @@ invariant_of-table c = let table : CostTable =
 
 pub finalize-figures-requires : goal.finalize-figures-requires
 finalize-figures-requires c = let table : CostTable =
-    cost_table c.args.n c.args.count c.args.rows.now c.args.cols.now c.args.values.now c.args.c.now in
+    cost_table c.args.table.n c.args.table.count c.args.table.rows.now c.args.table.cols.now c.args.table.values.now c.args.table.c.now in
     let good : Finishable c.args.run (table) c.args.width c.args.draw_count (finish_lengths c.args.draws.now c.args.factor.now c.args.b.now c.args.dual_variables.now c.args.workspace.now) =
     finish_accepted _ _ _ _ _ c.requires in
     let u = good in
@@ -39,7 +39,7 @@ finalize-figures-requires c = let table : CostTable =
 pub returns : goal.returns
 returns c =
     let table : CostTable =
-    cost_table c.args.n c.args.count c.args.rows.now c.args.cols.now c.args.values.now c.args.c.now in
+    cost_table c.args.table.n c.args.table.count c.args.table.rows.now c.args.table.cols.now c.args.table.values.now c.args.table.c.now in
     let a = c.args in
     rw (held c.finalize-figures.result.floor c.struct_told-1.given.1.1.0.1, held c.finalize-figures.result.rounded_cost c.struct_told-1.given.1.1.1.0.1, held c.finalize-figures.result.cost c.struct_told-1.given.1.1.1.1.0.1)
     (finishes a.run (table) a.width a.draw_count a.draws.now a.factor.now a.b.now a.dual_variables.now a.workspace.now c.requires c.finalize-figures.ensures

@@ -12,7 +12,7 @@ call_work-stay-requires c = record { usable = c.requires.0; most_sign_entries_in
 pub slice_bounds-work_rows-end : goal.slice_bounds-work_rows-end
 slice_bounds-work_rows-end c =
     let table : CostTable =
-    cost_table c.args.n c.args.count c.args.rows.now c.args.cols.now c.args.values.now c.args.c.now in
+    cost_table c.args.table.n c.args.table.count c.args.table.rows.now c.args.table.cols.now c.args.table.values.now c.args.table.c.now in
     let written : Cut (table) c.call_work-stay.result c.call_work-stay.new.work_rows c.call_work-stay.new.work_cols c.call_work-stay.new.work_values c.call_work-stay.new.starts =
     cut c.requires.0 _ _ _ _ (c.call_work-stay.ensures.value, c.call_work-stay.ensures.work_rows_after, c.call_work-stay.ensures.work_cols_after, c.call_work-stay.ensures.work_values_after, c.call_work-stay.ensures.starts_after)
     (c.indices-work_rows.ensures.most_sign_entries_value, c.call_work-stay.auto.work_rows) (c.indices-work_cols.ensures.most_sign_entries_value, c.call_work-stay.auto.work_cols)
@@ -22,7 +22,7 @@ slice_bounds-work_rows-end c =
 pub slice_bounds-obj-end : goal.slice_bounds-obj-end
 slice_bounds-obj-end c =
     let table : CostTable =
-    cost_table c.args.n c.args.count c.args.rows.now c.args.cols.now c.args.values.now c.args.c.now in
+    cost_table c.args.table.n c.args.table.count c.args.table.rows.now c.args.table.cols.now c.args.table.values.now c.args.table.c.now in
     let written : Cut (table) c.call_work-stay.result c.call_work-stay.new.work_rows c.call_work-stay.new.work_cols c.call_work-stay.new.work_values c.call_work-stay.new.starts =
     cut c.requires.0 _ _ _ _ (c.call_work-stay.ensures.value, c.call_work-stay.ensures.work_rows_after, c.call_work-stay.ensures.work_cols_after, c.call_work-stay.ensures.work_values_after, c.call_work-stay.ensures.starts_after)
     (c.indices-work_rows.ensures.most_sign_entries_value, c.call_work-stay.auto.work_rows) (c.indices-work_cols.ensures.most_sign_entries_value, c.call_work-stay.auto.work_cols)
@@ -32,7 +32,7 @@ slice_bounds-obj-end c =
 pub slice_bounds-work_cols-end : goal.slice_bounds-work_cols-end
 slice_bounds-work_cols-end c =
     let table : CostTable =
-    cost_table c.args.n c.args.count c.args.rows.now c.args.cols.now c.args.values.now c.args.c.now in
+    cost_table c.args.table.n c.args.table.count c.args.table.rows.now c.args.table.cols.now c.args.table.values.now c.args.table.c.now in
     let written : Cut (table) c.call_work-stay.result c.call_work-stay.new.work_rows c.call_work-stay.new.work_cols c.call_work-stay.new.work_values c.call_work-stay.new.starts =
     cut c.requires.0 _ _ _ _ (c.call_work-stay.ensures.value, c.call_work-stay.ensures.work_rows_after, c.call_work-stay.ensures.work_cols_after, c.call_work-stay.ensures.work_values_after, c.call_work-stay.ensures.starts_after)
     (c.indices-work_rows.ensures.most_sign_entries_value, c.call_work-stay.auto.work_rows) (c.indices-work_cols.ensures.most_sign_entries_value, c.call_work-stay.auto.work_cols)
@@ -42,7 +42,7 @@ slice_bounds-work_cols-end c =
 pub slice_bounds-obj-end-2 : goal.slice_bounds-obj-end-2
 slice_bounds-obj-end-2 c =
     let table : CostTable =
-    cost_table c.args.n c.args.count c.args.rows.now c.args.cols.now c.args.values.now c.args.c.now in
+    cost_table c.args.table.n c.args.table.count c.args.table.rows.now c.args.table.cols.now c.args.table.values.now c.args.table.c.now in
     let written : Cut (table) c.call_work-stay.result c.call_work-stay.new.work_rows c.call_work-stay.new.work_cols c.call_work-stay.new.work_values c.call_work-stay.new.starts =
     cut c.requires.0 _ _ _ _ (c.call_work-stay.ensures.value, c.call_work-stay.ensures.work_rows_after, c.call_work-stay.ensures.work_cols_after, c.call_work-stay.ensures.work_values_after, c.call_work-stay.ensures.starts_after)
     (c.indices-work_rows.ensures.most_sign_entries_value, c.call_work-stay.auto.work_rows) (c.indices-work_cols.ensures.most_sign_entries_value, c.call_work-stay.auto.work_cols)
@@ -52,7 +52,7 @@ slice_bounds-obj-end-2 c =
 pub slice_bounds-work_values-end : goal.slice_bounds-work_values-end
 slice_bounds-work_values-end c =
     let table : CostTable =
-    cost_table c.args.n c.args.count c.args.rows.now c.args.cols.now c.args.values.now c.args.c.now in
+    cost_table c.args.table.n c.args.table.count c.args.table.rows.now c.args.table.cols.now c.args.table.values.now c.args.table.c.now in
     let written : Cut (table) c.call_work-stay.result c.call_work-stay.new.work_rows c.call_work-stay.new.work_cols c.call_work-stay.new.work_values c.call_work-stay.new.starts =
     cut c.requires.0 _ _ _ _ (c.call_work-stay.ensures.value, c.call_work-stay.ensures.work_rows_after, c.call_work-stay.ensures.work_cols_after, c.call_work-stay.ensures.work_values_after, c.call_work-stay.ensures.starts_after)
     (c.indices-work_rows.ensures.most_sign_entries_value, c.call_work-stay.auto.work_rows) (c.indices-work_cols.ensures.most_sign_entries_value, c.call_work-stay.auto.work_cols)
@@ -62,7 +62,7 @@ slice_bounds-work_values-end c =
 pub slice_bounds-obj-end-3 : goal.slice_bounds-obj-end-3
 slice_bounds-obj-end-3 c =
     let table : CostTable =
-    cost_table c.args.n c.args.count c.args.rows.now c.args.cols.now c.args.values.now c.args.c.now in
+    cost_table c.args.table.n c.args.table.count c.args.table.rows.now c.args.table.cols.now c.args.table.values.now c.args.table.c.now in
     let written : Cut (table) c.call_work-stay.result c.call_work-stay.new.work_rows c.call_work-stay.new.work_cols c.call_work-stay.new.work_values c.call_work-stay.new.starts =
     cut c.requires.0 _ _ _ _ (c.call_work-stay.ensures.value, c.call_work-stay.ensures.work_rows_after, c.call_work-stay.ensures.work_cols_after, c.call_work-stay.ensures.work_values_after, c.call_work-stay.ensures.starts_after)
     (c.indices-work_rows.ensures.most_sign_entries_value, c.call_work-stay.auto.work_rows) (c.indices-work_cols.ensures.most_sign_entries_value, c.call_work-stay.auto.work_cols)
@@ -72,7 +72,7 @@ slice_bounds-obj-end-3 c =
 pub obj-requires : goal.obj-requires
 obj-requires c =
     let table : CostTable =
-    cost_table c.args.n c.args.count c.args.rows.now c.args.cols.now c.args.values.now c.args.c.now in
+    cost_table c.args.table.n c.args.table.count c.args.table.rows.now c.args.table.cols.now c.args.table.values.now c.args.table.c.now in
     let written : Cut (table) c.call_work-stay.result c.call_work-stay.new.work_rows c.call_work-stay.new.work_cols c.call_work-stay.new.work_values c.call_work-stay.new.starts =
     cut c.requires.0 _ _ _ _ (c.call_work-stay.ensures.value, c.call_work-stay.ensures.work_rows_after, c.call_work-stay.ensures.work_cols_after, c.call_work-stay.ensures.work_values_after, c.call_work-stay.ensures.starts_after)
     (c.indices-work_rows.ensures.most_sign_entries_value, c.call_work-stay.auto.work_rows) (c.indices-work_cols.ensures.most_sign_entries_value, c.call_work-stay.auto.work_cols)
@@ -83,7 +83,7 @@ obj-requires c =
 pub returns : goal.returns
 returns c =
     let table : CostTable =
-    cost_table c.args.n c.args.count c.args.rows.now c.args.cols.now c.args.values.now c.args.c.now in
+    cost_table c.args.table.n c.args.table.count c.args.table.rows.now c.args.table.cols.now c.args.table.values.now c.args.table.c.now in
     let written : Cut (table) c.call_work-stay.result c.call_work-stay.new.work_rows c.call_work-stay.new.work_cols c.call_work-stay.new.work_values c.call_work-stay.new.starts =
     cut c.requires.0 _ _ _ _ (c.call_work-stay.ensures.value, c.call_work-stay.ensures.work_rows_after, c.call_work-stay.ensures.work_cols_after, c.call_work-stay.ensures.work_values_after, c.call_work-stay.ensures.starts_after)
     (c.indices-work_rows.ensures.most_sign_entries_value, c.call_work-stay.auto.work_rows) (c.indices-work_cols.ensures.most_sign_entries_value, c.call_work-stay.auto.work_cols)

@@ -16,7 +16,7 @@ use Rattle.sdp_solver.proofs.open.open_accepted.Goals as goal
 pub overflow_add-size : goal.overflow_add-size
 overflow_add-size c =
     let settings : Settings =
-    asked_of (cost_table c.args.n c.args.count c.args.rows.now c.args.cols.now c.args.values.now c.args.c.now)
+    asked_of (cost_table c.args.table.n c.args.table.count c.args.table.rows.now c.args.table.cols.now c.args.table.values.now c.args.table.c.now)
     c.args.asked c.args.numbers.now in
     let openable : Openable (settings) (length c.args.factor.now) =
     open_accepted (settings) (length c.args.factor.now) c.requires in
@@ -25,32 +25,32 @@ overflow_add-size c =
 pub rank_meant-meant-requires : goal.rank_meant-meant-requires
 rank_meant-meant-requires c =
     let settings : Settings =
-    asked_of (cost_table c.args.n c.args.count c.args.rows.now c.args.cols.now c.args.values.now c.args.c.now)
+    asked_of (cost_table c.args.table.n c.args.table.count c.args.table.rows.now c.args.table.cols.now c.args.table.values.now c.args.table.c.now)
     c.args.asked c.args.numbers.now in
     let openable : Openable (settings) (length c.args.factor.now) =
     open_accepted (settings) (length c.args.factor.now) c.requires in
     let u = openable in
-    (λ _. omega (arith, u.hall.wagons), le_trans (given_under (c.args.n + 1) c.args.asked.rank) u.rank_few)
+    (λ _. omega (arith, u.hall.wagons), le_trans (given_under (c.args.table.n + 1) c.args.asked.rank) u.rank_few)
 
 pub overflow_mul-used : goal.overflow_mul-used
 overflow_mul-used c =
     let settings : Settings =
-    asked_of (cost_table c.args.n c.args.count c.args.rows.now c.args.cols.now c.args.values.now c.args.c.now)
+    asked_of (cost_table c.args.table.n c.args.table.count c.args.table.rows.now c.args.table.cols.now c.args.table.values.now c.args.table.c.now)
     c.args.asked c.args.numbers.now in
     let openable : Openable (settings) (length c.args.factor.now) =
     open_accepted (settings) (length c.args.factor.now) c.requires in
-    let long : (c.args.n + 1) * c.rank_meant-meant.result ≤ length c.args.factor.now =
+    let long : (c.args.table.n + 1) * c.rank_meant-meant.result ≤ length c.args.factor.now =
     rw c.rank_meant-meant.ensures.0 (openable).factor_room in
     omega (arith, long)
 
 pub prepare_initial_factor-requires : goal.prepare_initial_factor-requires
 prepare_initial_factor-requires c =
     let settings : Settings =
-    asked_of (cost_table c.args.n c.args.count c.args.rows.now c.args.cols.now c.args.values.now c.args.c.now)
+    asked_of (cost_table c.args.table.n c.args.table.count c.args.table.rows.now c.args.table.cols.now c.args.table.values.now c.args.table.c.now)
     c.args.asked c.args.numbers.now in
     let openable : Openable (settings) (length c.args.factor.now) =
     open_accepted (settings) (length c.args.factor.now) c.requires in
-    let long : (c.args.n + 1) * c.rank_meant-meant.result ≤ length c.args.factor.now =
+    let long : (c.args.table.n + 1) * c.rank_meant-meant.result ≤ length c.args.factor.now =
     rw c.rank_meant-meant.ensures.0 (openable).factor_room in
     let u = openable in
     (rw (c.draws_follow.ensures, c.rank_meant-meant.ensures.0) u.numbers_room, long, rw c.rank_meant-meant.ensures.0 u.rank_some)
@@ -58,39 +58,39 @@ prepare_initial_factor-requires c =
 pub slice_bounds-first_objective-end : goal.slice_bounds-first_objective-end
 slice_bounds-first_objective-end c =
     let settings : Settings =
-    asked_of (cost_table c.args.n c.args.count c.args.rows.now c.args.cols.now c.args.values.now c.args.c.now)
+    asked_of (cost_table c.args.table.n c.args.table.count c.args.table.rows.now c.args.table.cols.now c.args.table.values.now c.args.table.c.now)
     c.args.asked c.args.numbers.now in
     let openable : Openable (settings) (length c.args.factor.now) =
     open_accepted (settings) (length c.args.factor.now) c.requires in
-    let long : (c.args.n + 1) * c.rank_meant-meant.result ≤ length c.args.factor.now =
+    let long : (c.args.table.n + 1) * c.rank_meant-meant.result ≤ length c.args.factor.now =
     rw c.rank_meant-meant.ensures.0 (openable).factor_room in
-    let still-long : (c.args.n + 1) * c.rank_meant-meant.result ≤ length c.prepare_initial_factor.new.factor =
+    let still-long : (c.args.table.n + 1) * c.rank_meant-meant.result ≤ length c.prepare_initial_factor.new.factor =
     rw c.prepare_initial_factor.auto.factor (long) in
     still-long
 
 pub slice_bounds-first_objective-end-2 : goal.slice_bounds-first_objective-end-2
 slice_bounds-first_objective-end-2 c =
     let settings : Settings =
-    asked_of (cost_table c.args.n c.args.count c.args.rows.now c.args.cols.now c.args.values.now c.args.c.now)
+    asked_of (cost_table c.args.table.n c.args.table.count c.args.table.rows.now c.args.table.cols.now c.args.table.values.now c.args.table.c.now)
     c.args.asked c.args.numbers.now in
     let openable : Openable (settings) (length c.args.factor.now) =
     open_accepted (settings) (length c.args.factor.now) c.requires in
-    let long : (c.args.n + 1) * c.rank_meant-meant.result ≤ length c.args.factor.now =
+    let long : (c.args.table.n + 1) * c.rank_meant-meant.result ≤ length c.args.factor.now =
     rw c.rank_meant-meant.ensures.0 (openable).factor_room in
-    let still-long : (c.args.n + 1) * c.rank_meant-meant.result ≤ length c.prepare_initial_factor.new.factor =
+    let still-long : (c.args.table.n + 1) * c.rank_meant-meant.result ≤ length c.prepare_initial_factor.new.factor =
     rw c.prepare_initial_factor.auto.factor (long) in
     sym (length-take-le _ _ (still-long))
 
 pub first_objective-last_objective-requires : goal.first_objective-last_objective-requires
 first_objective-last_objective-requires c =
     let settings : Settings =
-    asked_of (cost_table c.args.n c.args.count c.args.rows.now c.args.cols.now c.args.values.now c.args.c.now)
+    asked_of (cost_table c.args.table.n c.args.table.count c.args.table.rows.now c.args.table.cols.now c.args.table.values.now c.args.table.c.now)
     c.args.asked c.args.numbers.now in
     let openable : Openable (settings) (length c.args.factor.now) =
     open_accepted (settings) (length c.args.factor.now) c.requires in
-    let long : (c.args.n + 1) * c.rank_meant-meant.result ≤ length c.args.factor.now =
+    let long : (c.args.table.n + 1) * c.rank_meant-meant.result ≤ length c.args.factor.now =
     rw c.rank_meant-meant.ensures.0 (openable).factor_room in
-    let still-long : (c.args.n + 1) * c.rank_meant-meant.result ≤ length c.prepare_initial_factor.new.factor =
+    let still-long : (c.args.table.n + 1) * c.rank_meant-meant.result ≤ length c.prepare_initial_factor.new.factor =
     rw c.prepare_initial_factor.auto.factor (long) in
     let u = openable in
     (record { slices = u.slices; costs = u.costs; hall = u.hall }, length-take-le _ _ (still-long))
@@ -98,7 +98,7 @@ first_objective-last_objective-requires c =
 pub rule_of-step-requires : goal.rule_of-step-requires
 rule_of-step-requires c =
     let settings : Settings =
-    asked_of (cost_table c.args.n c.args.count c.args.rows.now c.args.cols.now c.args.values.now c.args.c.now)
+    asked_of (cost_table c.args.table.n c.args.table.count c.args.table.rows.now c.args.table.cols.now c.args.table.values.now c.args.table.c.now)
     c.args.asked c.args.numbers.now in
     let openable : Openable (settings) (length c.args.factor.now) =
     open_accepted (settings) (length c.args.factor.now) c.requires in
@@ -107,7 +107,7 @@ rule_of-step-requires c =
 pub returns : goal.returns
 returns c =
     let settings : Settings =
-    asked_of (cost_table c.args.n c.args.count c.args.rows.now c.args.cols.now c.args.values.now c.args.c.now)
+    asked_of (cost_table c.args.table.n c.args.table.count c.args.table.rows.now c.args.table.cols.now c.args.table.values.now c.args.table.c.now)
     c.args.asked c.args.numbers.now in
     let o = settings in
     let new = started o c.args.factor.now c.requires c.rank_meant-meant.ensures.0 c.draws_follow.ensures c.prepare_initial_factor.ensures in

@@ -18,7 +18,7 @@ overflow_add-end c = omega (arith, c.requires.0.hall.wagons)
 pub slice_bounds-work_rows-end : goal.slice_bounds-work_rows-end
 slice_bounds-work_rows-end c =
     let table : CostTable =
-    cost_table c.args.n c.args.count c.args.rows.now c.args.cols.now c.args.values.now c.args.c.now in
+    cost_table c.args.table.n c.args.table.count c.args.table.rows.now c.args.table.cols.now c.args.table.values.now c.args.table.c.now in
     let written : Cut (table) c.call_work-stay.result c.call_work-stay.new.work_rows c.call_work-stay.new.work_cols c.call_work-stay.new.work_values c.call_work-stay.new.starts =
     cut c.requires.0 _ _ _ _ (c.call_work-stay.ensures.value, c.call_work-stay.ensures.work_rows_after, c.call_work-stay.ensures.work_cols_after, c.call_work-stay.ensures.work_values_after, c.call_work-stay.ensures.starts_after)
     (c.indices-work_rows.ensures.most_sign_entries_value, c.call_work-stay.auto.work_rows) (c.indices-work_cols.ensures.most_sign_entries_value, c.call_work-stay.auto.work_cols)
@@ -28,7 +28,7 @@ slice_bounds-work_rows-end c =
 pub slice_bounds-sweep_work-end : goal.slice_bounds-sweep_work-end
 slice_bounds-sweep_work-end c =
     let table : CostTable =
-    cost_table c.args.n c.args.count c.args.rows.now c.args.cols.now c.args.values.now c.args.c.now in
+    cost_table c.args.table.n c.args.table.count c.args.table.rows.now c.args.table.cols.now c.args.table.values.now c.args.table.c.now in
     let written : Cut (table) c.call_work-stay.result c.call_work-stay.new.work_rows c.call_work-stay.new.work_cols c.call_work-stay.new.work_values c.call_work-stay.new.starts =
     cut c.requires.0 _ _ _ _ (c.call_work-stay.ensures.value, c.call_work-stay.ensures.work_rows_after, c.call_work-stay.ensures.work_cols_after, c.call_work-stay.ensures.work_values_after, c.call_work-stay.ensures.starts_after)
     (c.indices-work_rows.ensures.most_sign_entries_value, c.call_work-stay.auto.work_rows) (c.indices-work_cols.ensures.most_sign_entries_value, c.call_work-stay.auto.work_cols)
@@ -38,7 +38,7 @@ slice_bounds-sweep_work-end c =
 pub slice_bounds-work_cols-end : goal.slice_bounds-work_cols-end
 slice_bounds-work_cols-end c =
     let table : CostTable =
-    cost_table c.args.n c.args.count c.args.rows.now c.args.cols.now c.args.values.now c.args.c.now in
+    cost_table c.args.table.n c.args.table.count c.args.table.rows.now c.args.table.cols.now c.args.table.values.now c.args.table.c.now in
     let written : Cut (table) c.call_work-stay.result c.call_work-stay.new.work_rows c.call_work-stay.new.work_cols c.call_work-stay.new.work_values c.call_work-stay.new.starts =
     cut c.requires.0 _ _ _ _ (c.call_work-stay.ensures.value, c.call_work-stay.ensures.work_rows_after, c.call_work-stay.ensures.work_cols_after, c.call_work-stay.ensures.work_values_after, c.call_work-stay.ensures.starts_after)
     (c.indices-work_rows.ensures.most_sign_entries_value, c.call_work-stay.auto.work_rows) (c.indices-work_cols.ensures.most_sign_entries_value, c.call_work-stay.auto.work_cols)
@@ -48,7 +48,7 @@ slice_bounds-work_cols-end c =
 pub slice_bounds-sweep_work-end-2 : goal.slice_bounds-sweep_work-end-2
 slice_bounds-sweep_work-end-2 c =
     let table : CostTable =
-    cost_table c.args.n c.args.count c.args.rows.now c.args.cols.now c.args.values.now c.args.c.now in
+    cost_table c.args.table.n c.args.table.count c.args.table.rows.now c.args.table.cols.now c.args.table.values.now c.args.table.c.now in
     let written : Cut (table) c.call_work-stay.result c.call_work-stay.new.work_rows c.call_work-stay.new.work_cols c.call_work-stay.new.work_values c.call_work-stay.new.starts =
     cut c.requires.0 _ _ _ _ (c.call_work-stay.ensures.value, c.call_work-stay.ensures.work_rows_after, c.call_work-stay.ensures.work_cols_after, c.call_work-stay.ensures.work_values_after, c.call_work-stay.ensures.starts_after)
     (c.indices-work_rows.ensures.most_sign_entries_value, c.call_work-stay.auto.work_rows) (c.indices-work_cols.ensures.most_sign_entries_value, c.call_work-stay.auto.work_cols)
@@ -58,7 +58,7 @@ slice_bounds-sweep_work-end-2 c =
 pub slice_bounds-work_values-end : goal.slice_bounds-work_values-end
 slice_bounds-work_values-end c =
     let table : CostTable =
-    cost_table c.args.n c.args.count c.args.rows.now c.args.cols.now c.args.values.now c.args.c.now in
+    cost_table c.args.table.n c.args.table.count c.args.table.rows.now c.args.table.cols.now c.args.table.values.now c.args.table.c.now in
     let written : Cut (table) c.call_work-stay.result c.call_work-stay.new.work_rows c.call_work-stay.new.work_cols c.call_work-stay.new.work_values c.call_work-stay.new.starts =
     cut c.requires.0 _ _ _ _ (c.call_work-stay.ensures.value, c.call_work-stay.ensures.work_rows_after, c.call_work-stay.ensures.work_cols_after, c.call_work-stay.ensures.work_values_after, c.call_work-stay.ensures.starts_after)
     (c.indices-work_rows.ensures.most_sign_entries_value, c.call_work-stay.auto.work_rows) (c.indices-work_cols.ensures.most_sign_entries_value, c.call_work-stay.auto.work_cols)
@@ -68,7 +68,7 @@ slice_bounds-work_values-end c =
 pub slice_bounds-sweep_work-end-3 : goal.slice_bounds-sweep_work-end-3
 slice_bounds-sweep_work-end-3 c =
     let table : CostTable =
-    cost_table c.args.n c.args.count c.args.rows.now c.args.cols.now c.args.values.now c.args.c.now in
+    cost_table c.args.table.n c.args.table.count c.args.table.rows.now c.args.table.cols.now c.args.table.values.now c.args.table.c.now in
     let written : Cut (table) c.call_work-stay.result c.call_work-stay.new.work_rows c.call_work-stay.new.work_cols c.call_work-stay.new.work_values c.call_work-stay.new.starts =
     cut c.requires.0 _ _ _ _ (c.call_work-stay.ensures.value, c.call_work-stay.ensures.work_rows_after, c.call_work-stay.ensures.work_cols_after, c.call_work-stay.ensures.work_values_after, c.call_work-stay.ensures.starts_after)
     (c.indices-work_rows.ensures.most_sign_entries_value, c.call_work-stay.auto.work_rows) (c.indices-work_cols.ensures.most_sign_entries_value, c.call_work-stay.auto.work_cols)
@@ -78,7 +78,7 @@ slice_bounds-sweep_work-end-3 c =
 pub slice_bounds-starts-end : goal.slice_bounds-starts-end
 slice_bounds-starts-end c =
     let table : CostTable =
-    cost_table c.args.n c.args.count c.args.rows.now c.args.cols.now c.args.values.now c.args.c.now in
+    cost_table c.args.table.n c.args.table.count c.args.table.rows.now c.args.table.cols.now c.args.table.values.now c.args.table.c.now in
     let written : Cut (table) c.call_work-stay.result c.call_work-stay.new.work_rows c.call_work-stay.new.work_cols c.call_work-stay.new.work_values c.call_work-stay.new.starts =
     cut c.requires.0 _ _ _ _ (c.call_work-stay.ensures.value, c.call_work-stay.ensures.work_rows_after, c.call_work-stay.ensures.work_cols_after, c.call_work-stay.ensures.work_values_after, c.call_work-stay.ensures.starts_after)
     (c.indices-work_rows.ensures.most_sign_entries_value, c.call_work-stay.auto.work_rows) (c.indices-work_cols.ensures.most_sign_entries_value, c.call_work-stay.auto.work_cols)
@@ -88,7 +88,7 @@ slice_bounds-starts-end c =
 pub slice_bounds-sweep_work-end-4 : goal.slice_bounds-sweep_work-end-4
 slice_bounds-sweep_work-end-4 c =
     let table : CostTable =
-    cost_table c.args.n c.args.count c.args.rows.now c.args.cols.now c.args.values.now c.args.c.now in
+    cost_table c.args.table.n c.args.table.count c.args.table.rows.now c.args.table.cols.now c.args.table.values.now c.args.table.c.now in
     let written : Cut (table) c.call_work-stay.result c.call_work-stay.new.work_rows c.call_work-stay.new.work_cols c.call_work-stay.new.work_values c.call_work-stay.new.starts =
     cut c.requires.0 _ _ _ _ (c.call_work-stay.ensures.value, c.call_work-stay.ensures.work_rows_after, c.call_work-stay.ensures.work_cols_after, c.call_work-stay.ensures.work_values_after, c.call_work-stay.ensures.starts_after)
     (c.indices-work_rows.ensures.most_sign_entries_value, c.call_work-stay.auto.work_rows) (c.indices-work_cols.ensures.most_sign_entries_value, c.call_work-stay.auto.work_cols)
@@ -98,7 +98,7 @@ slice_bounds-sweep_work-end-4 c =
 pub sweep_work-requires : goal.sweep_work-requires
 sweep_work-requires c =
     let table : CostTable =
-    cost_table c.args.n c.args.count c.args.rows.now c.args.cols.now c.args.values.now c.args.c.now in
+    cost_table c.args.table.n c.args.table.count c.args.table.rows.now c.args.table.cols.now c.args.table.values.now c.args.table.c.now in
     let written : Cut (table) c.call_work-stay.result c.call_work-stay.new.work_rows c.call_work-stay.new.work_cols c.call_work-stay.new.work_values c.call_work-stay.new.starts =
     cut c.requires.0 _ _ _ _ (c.call_work-stay.ensures.value, c.call_work-stay.ensures.work_rows_after, c.call_work-stay.ensures.work_cols_after, c.call_work-stay.ensures.work_values_after, c.call_work-stay.ensures.starts_after)
     (c.indices-work_rows.ensures.most_sign_entries_value, c.call_work-stay.auto.work_rows) (c.indices-work_cols.ensures.most_sign_entries_value, c.call_work-stay.auto.work_cols)
@@ -109,7 +109,7 @@ sweep_work-requires c =
 pub returns : goal.returns
 returns c =
     let table : CostTable =
-    cost_table c.args.n c.args.count c.args.rows.now c.args.cols.now c.args.values.now c.args.c.now in
+    cost_table c.args.table.n c.args.table.count c.args.table.rows.now c.args.table.cols.now c.args.table.values.now c.args.table.c.now in
     let written : Cut (table) c.call_work-stay.result c.call_work-stay.new.work_rows c.call_work-stay.new.work_cols c.call_work-stay.new.work_values c.call_work-stay.new.starts =
     cut c.requires.0 _ _ _ _ (c.call_work-stay.ensures.value, c.call_work-stay.ensures.work_rows_after, c.call_work-stay.ensures.work_cols_after, c.call_work-stay.ensures.work_values_after, c.call_work-stay.ensures.starts_after)
     (c.indices-work_rows.ensures.most_sign_entries_value, c.call_work-stay.auto.work_rows) (c.indices-work_cols.ensures.most_sign_entries_value, c.call_work-stay.auto.work_cols)
