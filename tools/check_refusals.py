@@ -7,7 +7,7 @@ The logic knows one NaN, so no contract can say that a NaN's bits stay; the text
 has no `requires`, and answers something else than a double. Its length aside, a call either hands such a slice on whole, once, to a call that is held to
 the same, or:
 
-- it doesn't use it up to the last `return`, so that a refusal that is returned there finds it as it was;
+- it doesn't use it up to the last `return` or `?`, so that a refusal that is returned there finds it as it was;
 - behind that there is no branch and the answer is an accepted one, so that no other refusal is given;
 - there it is written through parts `&mut slice[..end]` or `&mut slice[start..end]`, by the call or by the function that it hands the whole slice on to.
 
@@ -84,14 +84,19 @@ def paths_of(line):
     return [before + part for part in inside.rpartition("}")[0].split(",") if part] if brace else [before]
 
 
+def parameter_of(text):
+    name, colon, kind = re.sub(r"^mut ", "", text).partition(": ")
+    return (name, kind) if colon else ("self", name)
+
+
 def functions_of(file, text):
     """Comments and ghost imports are passed over."""
     text = re.sub(r"//[^\n]*|^ghost use [^;]*;", blank, text, flags=re.M)
     uses = {path.split("::")[-1]: path for line in re.findall(r"(?m)^(?:pub )?use ([^;]+);", text) for path in paths_of(line)}
     crate, module = re.search(r"crates/(\w+)/src/(\w+)\.rt$", file).groups()
-    for head in re.finditer(r"(?m)^[ \t]*(?:pub )?(?:extern \"C\" )?fn (\w+)\s*(?=\()", text):
+    for head in re.finditer(r"(?m)^[ \t]*(?:pub )?(?:extern \"C\" )?fn (\w+)(?:<[^(]*>)?\s*(?=\()", text):
         end = closing(text, head.end())
-        parameters = [tuple(re.sub(r"^mut ", "", p).split(": ", 1)) for p in split_list(text[head.end() + 1 : end - 1])]
+        parameters = [parameter_of(p) for p in split_list(text[head.end() + 1 : end - 1])]
         clauses, start = [], text.index("{", end)
         result = re.match(rf"\s*(?:-> *)?([^{{]*?)\s*(?:{CLAUSE})?\s*$", text[end:start])[1]
         while clause := re.search(rf"{CLAUSE}\s*$", text[end:start]):
@@ -159,8 +164,8 @@ def resolve(functions, f, path):
 
 
 def behind_refusals(f):
-    """The place behind the statement of the last `return`; 0 where there is none."""
-    returns = [m.start() for m in re.finditer(r"\breturn\b", f.body)]
+    """The place behind the statement of the last `return` or `?`; 0 where there is none."""
+    returns = [m.start() for m in re.finditer(r"\breturn\b|(?<=\))\?", f.body)]
     depth = 0
     for k, c in enumerate(f.body):
         depth += (c in "([{") - (c in ")]}")
@@ -191,7 +196,7 @@ def slice_faults(functions, f, name):
 
 
 def answer_faults(f):
-    """What lets a call refuse behind its last `return`."""
+    """What lets a call refuse behind its last `return` or `?`."""
     end = behind_refusals(f)
     if end == 0:
         return [f.fault(0, "has no refusal of its own and does more with a slice than hand it on to one call")]
@@ -200,7 +205,7 @@ def answer_faults(f):
     if branch:
         found.append(f.fault(end + branch.start(), "branches behind its last refusal"))
     answer = f.body[end:-1].split(";")[-1].strip()
-    if not re.match(r"0$|\w+::(?!Refused\b)\w+\(|\w+ \{.*\bnumber: 0\b", answer, flags=re.S):
+    if not re.match(r"0$|Ok\(", answer, flags=re.S):
         found.append(f.fault(end, "answers what need not be accepted behind its last refusal"))
     return found
 
