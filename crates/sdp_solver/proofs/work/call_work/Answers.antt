@@ -71,21 +71,21 @@ overflow_add-table c = omega (arith, c.requires.usable.hall.wagons)
 
 pub invariant_of-sign_table : goal.invariant_of-sign_table
 invariant_of-sign_table c = let built : let a = c.args in Cut a.table.n (table_of a.table.count a.table.rows.now a.table.cols.now a.table.values.now) (elem_z a.table.c.now) c.sign_matrix-entries.result c.sign_matrix-entries.new.to_rows c.sign_matrix-entries.new.to_cols c.sign_matrix-entries.new.to_values =
-      let a = c.args in cut a.table.n (table_of a.table.count a.table.rows.now a.table.cols.now a.table.values.now) (elem_z a.table.c.now) c.sign_matrix-entries.result c.requires.usable.hall c.sign_matrix-entries.ensures.0 c.sign_matrix-entries.ensures.1
-      (c.indices-sign_rows.ensures.most_sign_entries_value, c.sign_matrix-entries.auto.to_rows) (c.indices-sign_cols.ensures.most_sign_entries_value, c.sign_matrix-entries.auto.to_cols) (c.eighths-sign_values.ensures.most_sign_entries_value, c.sign_matrix-entries.auto.to_values) in
-      let entries-few : c.sign_matrix-entries.result ≤ most_sign_entries =
-      omega (arith, c.sign_matrix-entries.ensures.1, (hall_sign_table c.requires.usable.hall).entries) in
-      let few = entries-few in
-      record { lent = cut_lent built }
+    let a = c.args in cut a.table.n (table_of a.table.count a.table.rows.now a.table.cols.now a.table.values.now) (elem_z a.table.c.now) c.sign_matrix-entries.result c.requires.usable.hall c.sign_matrix-entries.ensures.0 c.sign_matrix-entries.ensures.1
+    (c.indices-sign_rows.ensures.most_sign_entries_value, c.sign_matrix-entries.auto.to_rows) (c.indices-sign_cols.ensures.most_sign_entries_value, c.sign_matrix-entries.auto.to_cols) (c.eighths-sign_values.ensures.most_sign_entries_value, c.sign_matrix-entries.auto.to_values) in
+    let entries-few : c.sign_matrix-entries.result ≤ most_sign_entries =
+    omega (arith, c.sign_matrix-entries.ensures.1, (hall_sign_table c.requires.usable.hall).entries) in
+    let few = entries-few in
+    record { lent = cut_lent built }
 
 pub separate_diagonal-requires : goal.separate_diagonal-requires
 separate_diagonal-requires c = let built : let a = c.args in Cut a.table.n (table_of a.table.count a.table.rows.now a.table.cols.now a.table.values.now) (elem_z a.table.c.now) c.sign_matrix-entries.result c.sign_matrix-entries.new.to_rows c.sign_matrix-entries.new.to_cols c.sign_matrix-entries.new.to_values =
-      let a = c.args in cut a.table.n (table_of a.table.count a.table.rows.now a.table.cols.now a.table.values.now) (elem_z a.table.c.now) c.sign_matrix-entries.result c.requires.usable.hall c.sign_matrix-entries.ensures.0 c.sign_matrix-entries.ensures.1
-      (c.indices-sign_rows.ensures.most_sign_entries_value, c.sign_matrix-entries.auto.to_rows) (c.indices-sign_cols.ensures.most_sign_entries_value, c.sign_matrix-entries.auto.to_cols) (c.eighths-sign_values.ensures.most_sign_entries_value, c.sign_matrix-entries.auto.to_values) in
-      let entries-few : c.sign_matrix-entries.result ≤ most_sign_entries =
-      omega (arith, c.sign_matrix-entries.ensures.1, (hall_sign_table c.requires.usable.hall).entries) in
-      let few = entries-few in
-      record { count_in_bounds = (omega (arith, few, c.requires.most_sign_entries_in_bounds.0), omega (arith, few, c.requires.most_sign_entries_in_bounds.1), omega (arith, few, c.requires.most_sign_entries_in_bounds.2), omega (arith, c.requires.most_sign_entries_in_bounds.3, c.requires.usable.hall.wagons)) }
+    let a = c.args in cut a.table.n (table_of a.table.count a.table.rows.now a.table.cols.now a.table.values.now) (elem_z a.table.c.now) c.sign_matrix-entries.result c.requires.usable.hall c.sign_matrix-entries.ensures.0 c.sign_matrix-entries.ensures.1
+    (c.indices-sign_rows.ensures.most_sign_entries_value, c.sign_matrix-entries.auto.to_rows) (c.indices-sign_cols.ensures.most_sign_entries_value, c.sign_matrix-entries.auto.to_cols) (c.eighths-sign_values.ensures.most_sign_entries_value, c.sign_matrix-entries.auto.to_values) in
+    let entries-few : c.sign_matrix-entries.result ≤ most_sign_entries =
+    omega (arith, c.sign_matrix-entries.ensures.1, (hall_sign_table c.requires.usable.hall).entries) in
+    let few = entries-few in
+    record { count_in_bounds = (omega (arith, few, c.requires.most_sign_entries_in_bounds.0), omega (arith, few, c.requires.most_sign_entries_in_bounds.1), omega (arith, few, c.requires.most_sign_entries_in_bounds.2), omega (arith, c.requires.most_sign_entries_in_bounds.3, c.requires.usable.hall.wagons)) }
 
 pub returns : goal.returns
 unfolding call_work work_of
