@@ -33,7 +33,8 @@ pub fn expand_row(
     most: usize,
 ) -> usize
     requires { RowExpands (listed table) (length parent.now) (parent_of objective (unpacked (length current.old) parent.now))
-        count width (length changes.old) (length objectives.old) (length signs.old) × (length current_row.old ≡ length parent.now) × AtHand (listed table) current.old current_row.old changes.old × Ascending (take count objectives.old) × BoundsFit flips origin.now (length parent.now) (length current.old) × Tidy (length current.old) parent.now }
+        count width (length changes.old) (length objectives.old) (length signs.old) × (length current_row.old ≡ length parent.now) × AtHand (listed table) current.old current_row.old changes.old × Ascending (take count objectives.old)
+        × BoundsFit flips origin.now (length parent.now) (length current.old) × Tidy (length current.old) parent.now }
     ensures kept { Kept width (sign_level (length parent.now) (length current.old) count objectives.old signs.old)
         (table_children (listed table.entry) (bounds flips most (unpacked (length current.old) origin.now)) (length current.old)
         (parent_of objective (unpacked (length current.old) parent.now)))
@@ -94,7 +95,8 @@ pub fn expand_level(
     most: usize,
 ) -> usize
     requires { LevelExpands (listed table) words (length current.old) from_count width from_objectives.now
-        from_signs.now (length changes.old) (length objectives.old) (length signs.old) × (length current_row.old ≡ words) × AtHand (listed table) current.old current_row.old changes.old × BoundsFit flips origin.now words (length current.old) × TidyLevel words (length current.old) from_count from_objectives.now from_signs.now }
+        from_signs.now (length changes.old) (length objectives.old) (length signs.old) × (length current_row.old ≡ words) × AtHand (listed table) current.old current_row.old changes.old
+        × BoundsFit flips origin.now words (length current.old) × TidyLevel words (length current.old) from_count from_objectives.now from_signs.now }
     ensures next_level { NextLevel (listed table.entry) (bounds flips most (unpacked (length current.old) origin.now)) (length current.old) width
         (sign_level words (length current.old) from_count from_objectives.now from_signs.now)
         (sign_level words (length current.old) result objectives.new signs.new) result }
@@ -144,7 +146,8 @@ pub fn advance(
     most: usize,
 ) -> usize
     requires { AdvanceFits (listed table) words (length current.old) count width objectives.old signs.old
-        (length changes.old) (length next_objectives.old) (length next_signs.old) × (length current_row.old ≡ words) × AtHand (listed table) current.old current_row.old changes.old × BoundsFit flips origin.now words (length current.old) × TidyLevel words (length current.old) count objectives.old signs.old }
+        (length changes.old) (length next_objectives.old) (length next_signs.old) × (length current_row.old ≡ words) × AtHand (listed table) current.old current_row.old changes.old × BoundsFit flips origin.now words (length current.old)
+        × TidyLevel words (length current.old) count objectives.old signs.old }
     ensures next_level { NextLevel (listed table.entry) (bounds flips most (unpacked (length current.old) origin.now)) (length current.old) width
         (sign_level words (length current.old) count objectives.old signs.old)
         (sign_level words (length current.old) result objectives.new signs.new) result }

@@ -94,7 +94,8 @@ fn search_packed(
     flips: usize,
     most: usize,
 ) -> Searched
-    requires { LevelRoom most_signs most_words (length current.old) width (length level.old) × (1 ≤ width) × (length kept.old ≤ most_words) × (length current.old ≤ 64 * length kept.old) × Sound (length current.old) (listed table) × (objective ≡ objective_in (listed table) current.old) × StartRow current.old kept.old current_row.old × (flips ≤ length current.old) }
+    requires { LevelRoom most_signs most_words (length current.old) width (length level.old) × (1 ≤ width) × (length kept.old ≤ most_words) × (length current.old ≤ 64 * length kept.old) × Sound (length current.old) (listed table)
+        × (objective ≡ objective_in (listed table) current.old) × StartRow current.old kept.old current_row.old × (flips ≤ length current.old) }
     ensures kept_after { (parent_of result.least (unpacked (length current.old) kept.new) ≡ (searched_in
         (listed table.entry) (bounds flips most current.old) width (parent_of objective current.old)).answer)
         × (result.rounds ≡ (searched_in (listed table.entry) (bounds flips most current.old) width (parent_of objective current.old)
@@ -138,7 +139,8 @@ fn search_words(
     flips: usize,
     most: usize,
 ) -> Searched
-    requires { LevelRoom most_signs most_words (length current.old) width (length level.old) × (1 ≤ width) × (length kept.old ≤ most_words) × (length current.old ≤ 64 * length kept.old) × (length current_row.old ≡ length kept.old) × Binary current.old × Sound (length current.old) (listed table) × (objective ≡ objective_in (listed table) current.old) × (flips ≤ length current.old) }
+    requires { LevelRoom most_signs most_words (length current.old) width (length level.old) × (1 ≤ width) × (length kept.old ≤ most_words) × (length current.old ≤ 64 * length kept.old) × (length current_row.old ≡ length kept.old)
+        × Binary current.old × Sound (length current.old) (listed table) × (objective ≡ objective_in (listed table) current.old) × (flips ≤ length current.old) }
     ensures { (parent_of result.least current.new ≡ (searched_in (listed table.entry) (bounds flips most current.old) width
         (parent_of objective current.old)).answer) × (result.rounds ≡ (searched_in (listed table.entry)
         (bounds flips most current.old) width (parent_of objective current.old)).rounds) }
