@@ -16,7 +16,7 @@ use refusal::Refusal;
 use run_limits::{is_momentum, rank_meant, start_length};
 
 // A field: 11 past the end, `refusal` above its limit.
-pub fn limit_number(field: Option<u64>, most: usize, refusal: Refusal) -> Result<(), Refusal>
+pub(crate) fn limit_number(field: Option<u64>, most: usize, refusal: Refusal) -> Result<(), Refusal>
     ensures { numbered result ≡ field_number field (ltb most) (number_of refusal) }
 {
     let value = field.ok_or(Refusal::Frame)?;
