@@ -21,7 +21,7 @@ import tempfile
 
 TOP = os.path.dirname(os.path.dirname(os.path.abspath(__file__)))
 COMPARISONS = ["<", "<=", ">", ">=", "==", "!="]
-TOKEN = re.compile(r"0x[0-9a-fA-F_]+(?:[ui](?:8|16|32|64|size))?|\d[\d_]*e-?\d+|\d[\d_]*\.\d[\d_]*(?:f64)?|\d[\d_]*(?:[ui](?:8|16|32|64|size)|f64)?|\w+|'\w+|<=|>=|==|!=|&&|\|\||\+=|-=|\*=|->|=>|::|\.\.|\S")
+TOKEN = re.compile(r"::<[\w, ]+>|0x[0-9a-fA-F_]+(?:[ui](?:8|16|32|64|size))?|\d[\d_]*e-?\d+|\d[\d_]*\.\d[\d_]*(?:f64)?|\d[\d_]*(?:[ui](?:8|16|32|64|size)|f64)?|\w+|'\w+|<=|>=|==|!=|&&|\|\||\+=|-=|\*=|->|=>|::|\.\.|\S")
 WORD, NUMBER = re.compile(r"[A-Za-z_]\w*$"), re.compile(r"\d")
 KEYWORDS = {"return", "if", "else", "while", "match", "let", "mut", "in", "as"}
 Token = collections.namedtuple("Token", "text start end")

@@ -19,7 +19,7 @@ ORDER = [
     ("Run", "maxcut_oracle run_record run_sweep run_contract sdp_solver factor_calls"),
     ("Job and answer records", "job_reader job_record answer_record job_encoding record_call wagonplan exports"),
     ("Reduced", "reduced"),
-    ("Numbers from the input and from the state", "tables/Check run_record/Numbers run_record/Lengths run_record/Conditions job_record/Number job_record/Versions"),
+    ("Numbers from the input and from the state", "refusal tables/Check run_record/Numbers run_record/Lengths run_record/Conditions job_record/Number job_record/Versions"),
     ("Further change requests (02)", "pinned pinned_demand block_search ranged_finish exhaustive several_runs"),
 ]
 PLACES = {place: k for k, (_, places) in enumerate(ORDER) for place in places.split()}
