@@ -15,7 +15,7 @@ words=()
 for word; do
     if [[ \$word == *.bc ]]; then
         "$kit/$bin/clang" -O0 -Xclang -disable-llvm-passes -S -emit-llvm -x ir "\$word" -o "\$word.ll"
-        "$PWD/tools/checked_module.py" "$PWD"/crates/*/out/rlib/*.rlib/toolchain/mir.json "$kit/rlibs/core.rlib/toolchain/mir.json" <"\$word.ll" >"\$word.checked.ll" 2>"$PWD/target/log/checked-module.txt" ||
+        "$PWD/tools/checked_module.py" "$PWD"/crates/*/out/rlib/*.rlib/toolchain/mir.json "$kit"/rlibs/{core,std,std_alloc}.rlib/toolchain/mir.json <"\$word.ll" >"\$word.checked.ll" 2>"$PWD/target/log/checked-module.txt" ||
             { cat "$PWD/target/log/checked-module.txt" >&2; exit 1; }
         word=\$word.checked.ll
     fi

@@ -16,7 +16,7 @@ import json
 import re
 import sys
 
-STARTS = re.compile(r'define [^@]*@"?([\w:.<>#+ \',&\[\]]+?)"?\(')
+STARTS = re.compile(r'define [^@]*@(?:"([^"]+)"|([\w.]+))\(')
 BLOCK = re.compile(r'"?([\w.]+)"?:')
 OPERATION = re.compile(r"  (%\S+) = (add|sub|mul) (i\d+) (\S+), (\S+)$")
 NARROWED = re.compile(r"  (%\S+) = trunc (i\d+) (\S+) to (i\d+)$")
@@ -55,15 +55,22 @@ def operations(node, sums, narrow):
             operations(value, sums, narrow)
 
 
+# What the back end computes before a function's MIR: where two places lie apart it copies by memmove, and the distance that tells this may wrap.
+BEFORE = {"core::ptr::copy_drop::copy_bits": [("mul", None), ("sub", None)]}
+
+
 class Function:
-    """Of the function that is read: what its MIR computes, and how far that has been seen."""
+    """Of the function that is read: what its MIR computes, and how far that has been seen. A generic function has one MIR for all its instances, whose names
+    end with what they are made at."""
 
     def __init__(self, name, mir):
+        of = name if name in mir else re.sub(r"::<.*$", "", name)
         self.name, self.sums, self.signed, self.at, self.fills = name, [], set(), 0, False
         self.is_ours = name.startswith("exports::")
-        self.is_known = name in mir or self.is_ours or name.startswith("wagonplan_raw_")
-        self.has_mir = name in mir
-        operations(mir.get(name), self.sums, self.signed)
+        self.is_known = of in mir or self.is_ours or name.startswith("wagonplan_raw_")
+        self.has_mir = of in mir
+        self.sums += BEFORE.get(of, [])
+        operations(mir.get(of), self.sums, self.signed)
 
     def sign(self, operator, line):
         """u, s, or nothing where it may wrap."""
@@ -99,7 +106,7 @@ def main():
 
     for line in text.split("\n"):
         if line.startswith("define"):
-            function = Function(STARTS.match(line)[1], mir)
+            function = Function(next(filter(None, STARTS.match(line).groups())), mir)
         elif line == "}" and function:
             function.end()
             function = None
