@@ -128,7 +128,7 @@ def kind_of(body, at, name):
     before, after = body[:at], body[at + len(name) :]
     if after.startswith(".len()"):
         return "length"
-    if re.search(r"&mut $", before) and re.match(r"\[\w*\.\.\w+\]", after):
+    if re.search(r"&mut $", before) and re.match(r"\[(?:\w+(?:\.\w+)*)?\.\.\w+(?:\.\w+)*\]", after):
         return "part"
     if re.search(r"(?<!&)& *$", before) and after.startswith("["):
         return "read"

@@ -10,7 +10,8 @@ is marked for the address checks. Nothing else changes.
 Sums, differences and products are no other in the module whether they are signed or not, or may wrap: that is in the proved module (MIR) of the libraries, in the
 same order in each function. Where the two differ, this ends with status 1. The functions of `exports`, a static library, have no such file: they compute with
 places and lengths alone, which are not signed. What stands before each of them for C (`wagonplan_raw_..`, the slice of a pointer and a length) computes an
-address that may be null, and assumes nothing.
+address that may be null, and assumes nothing. The library's copy of a slice first compares where the two places lie, before its MIR: that distance may wrap, and
+nothing is concluded from it but which end to copy from (`BEFORE`).
 """
 import json
 import re

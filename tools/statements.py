@@ -12,7 +12,7 @@ TOP = os.path.join(os.path.dirname(os.path.dirname(os.path.abspath(__file__))), 
 # 01's sections, in its order, and what of the crates says each: a crate, or a file of it. What is named nowhere here belongs to 02.
 ORDER = [
     ("Numbers, lists, limits", "limits laws ieee float_error"),
-    ("Sign table", "tables sign_table run_record/CostTable"),
+    ("Sign table", "tables sign_table"),
     ("Objective, floor, decoding", "tables/Cost tables/Bound float_bound table_calls"),
     ("Rounding and search", "rounding sign_words sign_calls local_search sign_search sdp_local_search finalize"),
     ("Roots, rows, rules", "ieee/lib ieee/Sqrt ieee/Nearest ieee/Unique ieee/Special ieee/Scale tables/Rank run_limits factor prepared_table row_gradient coordinate_sweep step_rules initialize"),

@@ -2,6 +2,7 @@
 --     put_next      one part right after another
 --     put_front     what is written from the start on is written over the front
 --     put_written   a number written byte by byte, the last first
+--     fields_next   numbers one behind the other, with one more
 -- Assumes nothing.
 use Prim.Native.Nat.{ℕ, zero, suc, ◌+◌, ◌-◌, ◌/◌, ◌%◌, ◌<◌, ◌≤◌}
 use mathlib.Core.Path.{◌≡◌, sym, ap, ◌∙◌}
@@ -10,11 +11,13 @@ use native.Mathlib.Omega.{arith}
 use native.Mathlib.Nat.{not-suc-le-zero, zero-add}
 use native.Mathlib.Numerals.{add-one}
 use lib.ListN.{length, get_or, set, take, drop, length-set, length-append, length-take, length-drop}
-use lib.Seq.{length-take-le, take-set-le, drop-set-lt, drop-cons, get_or-set_same, append_snoc, take_at, drop_at, drop-drop, paste, paste-zero, paste-suc}
+use lib.Seq.{length-take-le, take-set-le, drop-set-lt, drop-cons, get_or-set_same, append_snoc, take_at, drop_at, drop-drop, paste-zero, take-suc}
+use Rattle.std.proofs.lemmas.List.{flat_map_more}
+use Rattle.std.proofs.lemmas.List.Folds.{length-flat_map-take}
 use Rattle.laws.specs.Lists.{over}
 use Rattle.job_reader.specs.Encode.{bytes_of}
 use Rattle.job_reader.proofs.Encode.{length_bytes_of}
-use Rattle.answer_record.specs.Put.{put}
+use Rattle.answer_record.specs.Put.{put, bytes_in}
 
 pub length_put : (l : List ℕ) (at : ℕ) (xs : List ℕ) → at + length xs ≤ length l → length (put l at xs) ≡ length l
 unfolding put
@@ -70,14 +73,10 @@ put_written (suc n) s at v h =
     ∙ rw (size, take-set-le at s (at + n) low (omega arith), tail, more, ← append_assoc (take at s) bytes (low ∷ []))
     (sym (append_snoc (take at s ++ bytes) low (drop (suc (at + n)) s)))
 
--- the first bytes of another slice, one after the other
-pub put_none : (d : List ℕ) (at : ℕ) (s : List ℕ) → d ≡ paste d at s 0
-put_none d at s = paste-zero d at s
+-- numbers one behind the other: with one more, and that it ends within them all
+module _ (fields : List (ℕ × ℕ)) (i : ℕ) (here : i < length fields) where
+  pub fields_next : bytes_in (take (i + 1) fields) ≡ bytes_in (take i fields) ++ bytes_of (get_or fields i (0, 0)).0 (get_or fields i (0, 0)).1
+  fields_next = rw (add-one, take-suc fields i (0, 0) here) (sym (flat_map_more (λ f. bytes_of f.0 f.1) [] (take i fields) _))
 
-pub put_more : (d : List ℕ) (at : ℕ) (s : List ℕ) (j : ℕ) {m : List ℕ} → m ≡ paste d at s j → at + j < length d → j < length s
-    → set m (at + j) (get_or s j 0) ≡ paste d at s (j + 1)
-put_more d at s j e h k = rw (e, add-one) (paste-suc d at s j 0 h k)
-
-pub put_all : (d : List ℕ) (at : ℕ) (s : List ℕ) (n j : ℕ) {m : List ℕ} → m ≡ paste d at s j → j ≤ n → n ≤ j → n ≤ length s → m ≡ put d at (take n s)
-unfolding put
-put_all d at s n j e up down h = let same : j ≡ n = omega arith in e ∙ rw (same, length-take-le n s h)
+  pub fields_within : length (bytes_in (take i fields)) + (get_or fields i (0, 0)).0 ≤ length (bytes_in fields)
+  fields_within = rw length_bytes_of at (length-flat_map-take (λ f. bytes_of f.0 f.1) fields i (0, 0) here)

@@ -23,20 +23,21 @@ use Rattle.laws.specs.Lists.{elem}
 use Rattle.laws.proofs.Any.{never}
 use Rattle.laws.proofs.Made.{length_tabulate, get_d_tabulate, below_or_not}
 use Rattle.laws.proofs.Integer.{integers, add_parts, neg-⁺, neg-⁻}
-use Rattle.tables.specs.Table.{Table, Symmetric, value_at, same_sign}
+use Rattle.tables.specs.Table.{Table, value_at, same_sign}
 use Rattle.tables.specs.Cost.{bit, choice_at, cost_eighths, decoded_byte, decoded}
 use Rattle.tables.specs.Check.{Hall}
 use Rattle.tables.proofs.Choices.{cost_ext}
-use Rattle.tables.proofs.Mirrors.{mirrored_symmetric}
+use Rattle.tables.proofs.Mirrors.{hall_symmetric}
 use Rattle.sign_search.specs.Search.{objective_in}
 use Rattle.sign_search.specs.Choices.{one_moved, all_moved}
 use Rattle.sign_search.proofs.Theorems.{answer_le}
 use Rattle.sign_search.proofs.HallTheorems.{hall_mirrors, signs_cost, one_wagon, all_wagons}
 use Rattle.finalize.specs.Finalize.{choice_of, cost_of}
 use Rattle.finalize.specs.Demand3.{DifferInOne}
+use Rattle.finalize.proofs.Demand3.{decoded_byte_lem, other}
 use Rattle.pinned.specs.Pinned.{is_free, free_of, free_table, free_cost, held_cost, free_part, Keeps}
 use Rattle.pinned.proofs.Free.{free_map, free_once}
-use Rattle.pinned.proofs.Lifting.{length_lifted, lifted_free, lifted_held, part_at, keeping_cost}
+use Rattle.pinned.proofs.Lifting.{length_lifted, lifted_free, lifted_held, part_choice, keeping_cost}
 use Rattle.pinned.proofs.Costs.{reduce_cost}
 use Rattle.pinned.proofs.Halls.{reduce_hall}
 use Rattle.pinned_demand.specs.PinnedDemand3.{DifferInFree}
@@ -53,20 +54,6 @@ low_beyond xs n e h = record { low = λ i. go i (below_or_not i n) }
     go : (i : ℕ) → (i < n) ⊎ (n ≤ i) → elem xs i ≤ 1
     go i (inl l) = h i l
     go i (inr l) = rw (get_or-eq_default xs 0 {n = i} (omega (arith, e, l))) (omega arith)
-
-other : (x y : ℕ) → (bit x ≡ bit y → ⊥) → bit y ≡ pos 1 -ℤ bit x
-other zero zero d = absurd (d refl)
-other zero (suc y) d = refl
-other (suc x) zero d = refl
-other (suc x) (suc y) d = absurd (d refl)
-
-decoded_byte_lem : (n : ℕ) (signs : List ℕ) (i : ℕ) → (decoded_byte n signs i ≤ 1) × (bit (decoded_byte n signs i) ≡ decoded n signs i)
-unfolding decoded_byte
-decoded_byte_lem n signs i = go (same_sign (elem signs i) (elem signs n))
-  where
-    go : (t : Bool) → (cond t 0 1 ≤ 1) × (bit (cond t 0 1) ≡ pos (cond t 0 1))
-    go true = (omega arith, refl)
-    go false = (omega arith, refl)
 
 -- beside an anchor of + a sign decodes to its byte
 plus_anchor : (x : ℕ) → pos (cond (same_sign x 0) 0 1) ≡ bit x
@@ -122,9 +109,6 @@ module _ {most capacity limit n : ℕ} {h : Table} {c : ℕ → ℤ} (hall : Hal
   reduced : Hall most capacity limit f H' c'
   reduced = reduce_hall hall states
 
-  symmetric : Symmetric n (value_at h)
-  symmetric = mirrored_symmetric hall.rising hall.mirrored n
-
   answer_at : (k : ℕ) → k < f → choice_at (choice_of f answer) k ≡ decoded f answer k
   unfolding choice_of
   answer_at k l = ap bit (get_d_tabulate (decoded_byte f answer) f k 0 l) ∙ (decoded_byte_lem f answer k).1
@@ -138,13 +122,13 @@ module _ {most capacity limit n : ℕ} {h : Table} {c : ℕ → ℤ} (hall : Hal
   unfolding held_table
   start_costs keeps =
       ap (λ z. z +ℤ K) (signs_cost reduced (held_signs n states b) ∙ cost_ext f (value_at H') c' (start_decodes n states b))
-      ∙ reduce_cost n h c states (free_part n states b) long symmetric ∙ sym (keeping_cost n h c states b long keeps)
+      ∙ reduce_cost n h c states (free_part n states b) long (hall_symmetric hall) ∙ sym (keeping_cost n h c states b long keeps)
 
   answer_costs : objective_in (held_table n h c states) answer +ℤ K ≡ cost_of n h c (searched_held n h c W states b)
   unfolding held_table searched_held
   answer_costs =
       ap (λ z. z +ℤ K) (signs_cost reduced answer ∙ cost_ext f (value_at H') c' (λ k l. sym (answer_at k l)))
-      ∙ reduce_cost n h c states (choice_of f answer) long symmetric
+      ∙ reduce_cost n h c states (choice_of f answer) long (hall_symmetric hall)
 
   -- the theorem: the full cost falls by exactly the fall
   pub held_fall : Keeps n states b → cost_of n h c b -ℤ cost_of n h c (searched_held n h c W states b) ≡ fall_held n h c W states b
@@ -183,12 +167,9 @@ module _ {most capacity limit n : ℕ} {h : Table} {c : ℕ → ℤ} (hall : Hal
           omega (arith, answer_low k a)
       go i l false e = omega (arith, held_stays i l e, ltb-false 1 (elem states i) e)
 
-  -- free wagon k of the choice found, and of another
+  -- free wagon k of the choice found
   this : (k : ℕ) → k < f → decoded f answer k ≡ choice_at (searched_held n h c W states b) (elem (free_of n states) k)
   this k l = sym (answer_at k l) ∙ ap bit (sym (free_moves k l))
-
-  that : (b' : List ℕ) (k : ℕ) → k < f → choice_at (free_part n states b') k ≡ choice_at b' (elem (free_of n states) k)
-  that b' k l = ap bit (part_at n states b' k l)
 
   -- what keeps the held wagons and doesn't cost less in its free part doesn't cost less
   beside : (b' : List ℕ) → Keeps n states b' → cost_eighths f (value_at H') c' (decoded f answer) ≤ℤ cost_eighths f (value_at H') c' (choice_at (free_part n states b'))
@@ -196,7 +177,7 @@ module _ {most capacity limit n : ℕ} {h : Table} {c : ℕ → ℤ} (hall : Hal
   unfolding held_table
   beside b' keeps less =
       subst₂ ◌≤ℤ◌ (ap (λ z. z +ℤ K) (sym (signs_cost reduced answer)) ∙ answer_costs)
-      (reduce_cost n h c states (free_part n states b') long symmetric ∙ sym (keeping_cost n h c states b' long keeps))
+      (reduce_cost n h c states (free_part n states b') long (hall_symmetric hall) ∙ sym (keeping_cost n h c states b' long keeps))
       (add_le (cost_eighths f (value_at H') c' (decoded f answer)) (cost_eighths f (value_at H') c' (choice_at (free_part n states b'))) K less)
 
   -- no choice that differs in one free wagon costs less
@@ -207,11 +188,11 @@ module _ {most capacity limit n : ℕ} {h : Table} {c : ℕ → ℤ} (hall : Hal
       where
         go : Dec (k ≡ j) → cond (eqb k j) (pos 1 -ℤ decoded f answer j) (decoded f answer j) ≡ choice_at (free_part n states b') j
         go (yes e) =
-            rw (eq-eqb k j e, this j a, that b' j a)
+            rw (eq-eqb k j e, this j a, part_choice n states b' j a)
             (sym (other (elem (searched_held n h c W states b) (elem (free_of n states) j)) (elem b' (elem (free_of n states) j)) (rw (ap (λ x. elem (free_of n states) x) (sym e) ∙ q) d.differs)))
         go (no ne) =
             rw (ne_eqb k j ne)
-            (this j a ∙ d.others (elem (free_of n states) j) ((free_map n states).below j a) (λ s. ne ((free_once n states).same k j l a (q ∙ sym s))) ∙ sym (that b' j a))
+            (this j a ∙ d.others (elem (free_of n states) j) ((free_map n states).below j a) (λ s. ne ((free_once n states).same k j l a (q ∙ sym s))) ∙ sym (part_choice n states b' j a))
 
     pub held_one : cost_of n h c (searched_held n h c W states b) ≤ℤ cost_of n h c b'
     unfolding answer_held held_table
@@ -225,7 +206,7 @@ module _ {most capacity limit n : ℕ} {h : Table} {c : ℕ → ℤ} (hall : Hal
     all_moved_lem : (j : ℕ) → j < f → all_moved (decoded f answer) j ≡ choice_at (free_part n states b') j
     unfolding all_moved
     all_moved_lem j a =
-        rw (this j a, that b' j a)
+        rw (this j a, part_choice n states b' j a)
         (sym (other (elem (searched_held n h c W states b) (elem (free_of n states) j)) (elem b' (elem (free_of n states) j)) (d.differ (elem (free_of n states) j) ((free_map n states).below j a) ((free_map n states).free j a))))
 
     pub held_all : cost_of n h c (searched_held n h c W states b) ≤ℤ cost_of n h c b'

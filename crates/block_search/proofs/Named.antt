@@ -16,33 +16,15 @@ use Rattle.std.specs.List.{list_any}
 use Rattle.laws.specs.Lists.{elem, any_below}
 use Rattle.laws.proofs.Any.{never, below_at, below_none, below_true}
 use Rattle.tables.specs.Cost.{choice_at}
+use Rattle.tables.proofs.Anys.{any_front, any_ext}
 use Rattle.block_search.specs.Blocks.{BlockCall, named}
 use Rattle.block_search.specs.Call.{DifferInHouse}
-
-any_front : (n : ℕ) (p : ℕ → Bool) → any_below (suc n) p ≡ (p 0 || any_below n (λ k. p (suc k)))
-unfolding any_below
-any_front zero p = last (p 0)
-  where
-    last : (a : Bool) → cond a true false ≡ (a || false)
-    last true = refl
-    last false = refl
-any_front (suc n) p = ap (λ t. cond (p (suc n)) true t) (any_front n p) ∙ swap (p (suc n)) (p 0) (any_below n (λ k. p (suc k)))
-  where
-    swap : (a b t : Bool) → cond a true (b || t) ≡ (b || cond a true t)
-    swap true true t = refl
-    swap true false t = refl
-    swap false b t = refl
 
 -- what the library's `any` finds, by index
 pub any_indexed : (p : ℕ → Bool) (xs : List ℕ) → list_any p xs ≡ any_below (length xs) (λ k. p (elem xs k))
 unfolding any_below
 any_indexed p [] = refl
 any_indexed p (x ∷ xs) = ap (λ t. p x || t) (any_indexed p xs) ∙ sym (any_front (length xs) (λ k. p (elem (x ∷ xs) k)))
-
-any_ext : (n : ℕ) (p q : ℕ → Bool) → ((k : ℕ) → k < n → p k ≡ q k) → any_below n p ≡ any_below n q
-unfolding any_below
-any_ext zero p q e = refl
-any_ext (suc n) p q e = ap₂ (λ a t. cond a true t) (e n (omega arith)) (any_ext n p q (λ k h. e k (omega arith)))
 
 pub any_taken : (p : ℕ → Bool) (n : ℕ) (xs : List ℕ) → n ≤ length xs → list_any p (take n xs) ≡ any_below n (λ k. p (elem xs k))
 any_taken p n xs h =

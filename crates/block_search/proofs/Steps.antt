@@ -11,12 +11,13 @@ use lib.IntN.{ℤ, neg_ℤ, ◌-ℤ◌}
 use lib.ListN.{length, take, set, length-append}
 use lib.Seq.{take_at, length-take-le}
 use Rattle.laws.specs.Lists.{elem, elem_z, over, fill, tabulate}
-use Rattle.laws.proofs.Made.{length_tabulate, over_next, over_all, tabulate_next}
-use Rattle.laws.proofs.MapFirst.{fill_none, fill_more}
+use Rattle.laws.proofs.Made.{length_tabulate, over_next, over_all}
 use Rattle.laws.proofs.Integer.{abs_add, abs_neg, fits_abs}
 use Rattle.limits.specs.Limits.{most_wagons, most_entries, most_magnitude, most_signs, most_sign_entries, most_sign_magnitude}
 use Rattle.tables.specs.Table.{Table, table_of, Lent, InRange, objective_of, sign_at}
 use Rattle.tables.specs.Check.{Hall, Accepted}
+use Rattle.tables.specs.declared.judged.JudgedHall.{JudgedHall}
+use Rattle.tables.proofs.Checks.{hall_accepted}
 use Rattle.tables.specs.Cost.{decoded_byte}
 use Rattle.tables.specs.Stored.{Room}
 use Rattle.sign_table.specs.SignTable.{sign_table}
@@ -27,6 +28,7 @@ use Rattle.sign_search.specs.Clauses.{Found-by}
 use Rattle.sign_search.proofs.Theorems.{accepted_mirrors}
 use Rattle.sign_search.proofs.Lawful.{objective_abs}
 use Rattle.finalize.specs.Finalize.{choice_of}
+use Rattle.finalize.proofs.Assembled.{fill_choice}
 use Rattle.pinned.specs.Pinned.{free_of, free_table, free_costs, free_cost, lifted, free_part, Reducing, Shrinks}
 use Rattle.pinned.proofs.Free.{free_few}
 use Rattle.pinned.proofs.Halls.{reduce_hall}
@@ -64,17 +66,6 @@ start_binary free {b} low =
 
 -- ---- the search on a sign table
 
-fill_tabulate : {A : Type 0} (f : ℕ → A) (l : List A) (n : ℕ) → n ≤ length l → fill f n l ≡ over (tabulate f n) l
-unfolding tabulate
-fill_tabulate f l zero h = sym (fill_none f l)
-fill_tabulate f l (suc n) h =
-    subst (λ (k : ℕ). fill f k l ≡ over (tabulate f k) l) (add-one n)
-    (sym (fill_more f l n refl refl) ∙ tabulate_next f n l (fill f n l) (f n) (omega arith) (fill_tabulate f l n (omega arith)))
-
-pub found_choice : (n : ℕ) (signs b : List ℕ) → n ≤ length b → fill (decoded_byte n signs) n b ≡ over (choice_of n signs) b
-unfolding choice_of
-found_choice n signs b h = fill_tabulate (decoded_byte n signs) b n h
-
 pub differ_fits : {m : ℕ} {t : Table} → Accepted most_signs most_sign_entries most_sign_magnitude m t → (x y : List ℕ) {a b : ℤ} → a ≡ objective_in t x → b ≡ objective_in t y → SFits w64 (a -ℤ b)
 differ_fits {t = t} ok x y p q =
     rw (p, q) (fits_abs (objective_in t x -ℤ objective_in t y)
@@ -94,7 +85,7 @@ pub from_made : {m : ℕ} {t : Table} → Accepted most_signs most_sign_entries 
 from_made {t = t} ok W f start signs answer found found' p q e by d room =
     let is : answer ≡ (beam_search t W start).answer = by.answer_is ∙ ap (λ (x : List ℕ). (beam_search t W x).answer) e in (
       to_z-of_z (differ_fits ok signs answer p q) ∙ ap₂ ◌-ℤ◌ (p ∙ ap (objective_in t) e) (q ∙ ap (objective_in t) is),
-      d ∙ found_choice f answer found room ∙ ap (λ (x : List ℕ). over (choice_of f x) found) is,
+      d ∙ fill_choice f answer found room ∙ ap (λ (x : List ℕ). over (choice_of f x) found) is,
     )
 
 -- and on the sign table of (H, c)
@@ -109,6 +100,10 @@ lent_front rows cols values k r q v =
     record { rows_there = omega (arith, length-take-le k rows r); cols_there = omega (arith, length-take-le k cols q); values_there = omega (arith, length-take-le k values v) }
 
 -- ---- the search on the reduced (H, c)
+
+-- a judged (H, c) may be reduced
+pub reducing : (h : JudgedHall) {states : List ℕ} → h.n ≤ length states → Reducing h.n h.table.count h.table.rows.now h.table.cols.now h.table.values.now h.c.now states
+reducing h there = record { lent = h.table.lent; costs_there = h.costs_there; states_there = there; hall = hall_accepted h.judged }
 
 module _ {n count : ℕ} {rows cols : List ℕ} {values c : List ℤ} {states : List ℕ} (ok : Reducing n count rows cols values c states)
     {rows₀ cols₀ : List ℕ} {values₀ costs₀ : List ℤ} {rows' cols' : List ℕ} {values' costs' : List ℤ} {entries : ℕ} {constant : ℤ}

@@ -6,13 +6,15 @@ use native.Mathlib.Nat.{le_refl}
 use native.Mathlib.Numerals.{add-one}
 use native.Mathlib.Omega.{arith}
 use mathlib.Core.Bool.{Bool, true, false, cond}
-use mathlib.Core.List.{List}
+use mathlib.Core.List.{List, [], ◌∷◌}
 use mathlib.Core.Logic.{◌⊎◌, inl, inr}
 use mathlib.Core.Path.{◌≡◌, refl, sym, ap, subst, ◌∙◌}
 use lib.IntN.{ℤ, pos, neg_ℤ, ◌-ℤ◌}
 use lib.ListN.{length, take, drop}
 use lib.Seq.{length-take-le, get_or-take}
 use lib.Signed.{◌≤ℤ◌}
+use Rattle.std.specs.List.{sum_by}
+use Rattle.std.proofs.lemmas.List.Sums.{sum_by-cons}
 use Rattle.laws.specs.Sum.{total}
 use Rattle.laws.specs.Turns.{up_to}
 use Rattle.laws.specs.Lists.{elem, tabulate, over}
@@ -41,6 +43,17 @@ block_ends f k (suc n) h = go (below_or_not k n) (λ l. block_ends f k n l)
     go : (k < n) ⊎ (n ≤ k) → (k < n → total k f + f k ≤ total n f) → total k f + f k ≤ total n f + f n
     go (inl l) ih = omega (arith, ih l)
     go (inr l) ih = let e : k ≡ n = omega arith in rw e (le_refl _)
+
+total_front : (n : ℕ) (f : ℕ → ℕ) → total (suc n) f ≡ f 0 + total n (λ k. f (suc k))
+unfolding total
+total_front zero f = omega arith
+total_front (suc n) f = omega (arith, total_front n f)
+
+-- all sizes in one sum
+pub sizes_summed : (sizes : List ℕ) → sum_by (λ x. x) sizes ≡ total (length sizes) (elem sizes)
+unfolding total
+sizes_summed [] = refl
+sizes_summed (x ∷ xs) = sum_by-cons (λ y. y) x xs ∙ ap (λ s. x + s) (sizes_summed xs) ∙ sym (total_front (length xs) (elem (x ∷ xs)))
 
 pub total_next : (f : ℕ → ℕ) (k : ℕ) {at end : ℕ} → at ≡ total k f → end ≡ at + f k → end ≡ total (k + 1) f
 unfolding total

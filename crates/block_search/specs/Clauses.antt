@@ -1,11 +1,9 @@
 -- What the functions of a search ask and leave.
-use Rattle.std.specs.Prelude.{ℕ, ◌≤◌, ◌<◌, ◌≡◌, Bool, true, List, [], ◌∷◌, ◌++◌, length, ℤ, Option, Some, None}
+use Rattle.std.specs.Prelude.{ℕ, ◌≤◌, ◌<◌, ◌≡◌, Bool, true, List, [], ◌∷◌, ◌++◌, length, Option, Some, None}
 use Rattle.std.specs.Borrow.{Bor}
 use Rattle.laws.specs.Sum.{total}
-use Rattle.laws.specs.Lists.{elem, elem_z, tabulate}
-use Rattle.limits.specs.Limits.{most_wagons, most_entries, most_magnitude, most_width, most_blocks, search_workspace}
-use Rattle.tables.specs.Table.{table_of, Lent}
-use Rattle.tables.specs.Check.{Hall}
+use Rattle.laws.specs.Lists.{elem, tabulate}
+use Rattle.limits.specs.Limits.{most_width, most_blocks, search_workspace}
 use Rattle.reduced.specs.Indices.{Within}
 use Rattle.block_search.specs.Blocks.{named, free_among}
 
@@ -35,11 +33,8 @@ pub record SearchFits (f width : ℕ) (free b : List ℕ) (found workspace : ℕ
   pub found_room : f ≤ found
   pub space_room : search_workspace ≤ workspace
 
--- what a search of some wagons of (H, c) from b asks
-pub record HouseFits (n count : ℕ) (rows cols : List ℕ) (values c : List ℤ) (width : ℕ) (b : List ℕ) (workspace : ℕ) : Type 0 where
-  pub lent : Lent count rows cols values
-  pub costs_there : n ≤ length c
-  pub hall : Hall most_wagons most_entries most_magnitude n (table_of count rows cols values) (elem_z c)
+-- what a search of some wagons of a judged (H, c) from b asks
+pub record HouseFits (n width : ℕ) (b : List ℕ) (workspace : ℕ) : Type 0 where
   pub width_some : 1 ≤ width
   pub width_few : width ≤ most_width
   pub bytes_many : length b ≡ n
@@ -54,11 +49,8 @@ pub record PinsFit (n : ℕ) (pinned stores present : List ℕ) : Type 0 where
   pub stores_low : (k : ℕ) → k < length pinned → elem stores k ≤ 1
   pub present_low : (i : ℕ) → i < n → elem present i ≤ 1
 
--- what a whole call asks: the choice has n bytes, whatever they are
-pub record ClearFits (n count : ℕ) (rows cols : List ℕ) (values c : List ℤ) (width : ℕ) (pinned stores present sizes wagons choice : List ℕ) (falls workspace : ℕ) : Type 0 where
-  pub lent : Lent count rows cols values
-  pub costs_there : n ≤ length c
-  pub hall : Hall most_wagons most_entries most_magnitude n (table_of count rows cols values) (elem_z c)
+-- what a whole call asks beside a judged (H, c): the choice has n bytes, whatever they are
+pub record ClearFits (n width : ℕ) (pinned stores present sizes wagons choice : List ℕ) (falls workspace : ℕ) : Type 0 where
   pub width_some : 1 ≤ width
   pub width_few : width ≤ most_width
   pub pins : PinsFit n pinned stores present

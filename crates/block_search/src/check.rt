@@ -4,16 +4,18 @@ ghost use Rattle.laws.specs.Sum.{total};
 ghost use Rattle.laws.specs.Lists.{elem};
 ghost use Rattle.refusal.specs.Number.{numbered};
 ghost use Rattle.limits.specs.Limits.{most_wagons, most_blocks};
+ghost use Rattle.tables.specs.Lent.{costs_of};
 ghost use Rattle.block_search.specs.Numbers.{above_one, bad_list, bad_pins, bad_block, bad_blocks, bad_width, list_number, choices_short, blocks_short, lists_short, call_short, block_number};
 
-use limits::{
-    MOST_BLOCKS, MOST_ENTRIES, MOST_MAGNITUDE, MOST_WAGONS, MOST_WIDTH, SEARCH_WORKSPACE,
-};
-use reduced::indices::index_refusal;
+use crate::lent::{Blocks, Pins, Request};
+use limits::{MOST_BLOCKS, MOST_ENTRIES, MOST_WAGONS, MOST_WIDTH, SEARCH_WORKSPACE};
+use reduced::indices::{Indices, index_refusal};
 use refusal::Refusal;
-use tables::check::{hall_number, short_table, too_short, wide};
+use tables::check::{hall_number, short_table, too_short};
+use tables::lent::LentHall;
 
-// Whether one of the first bytes is above 1.
+// Whether one of the first bytes is above 1. `count` stands beside the slice as it does in the definition: cut by the three callers, each would prove
+// besides that the bytes of the front are the slice's.
 pub fn any_above(count: usize, bytes: &[u8]) -> bool
     requires { count ≤ length bytes.now }
     ensures { result ≡ above_one count bytes.now }
@@ -26,41 +28,46 @@ fn bad_list(n: usize, list: &[u16]) -> bool
     requires { n ≤ most_wagons }
     ensures { result ≡ bad_list n list.now }
 {
-    index_refusal(n, list, list).is_err()
+    let indices = Indices {
+        size: n,
+        variable_map: list,
+        fixed_index: list,
+    };
+    index_refusal(indices).is_err()
 }
 
 // 21.
 #[tactic(auto, unfolding(crate::specs::Numbers::bad_pins, laws::specs::Refusal::any_of))]
-fn bad_pins(n: usize, pinned: &[u16], stores: &[u8]) -> bool
-    requires { (n ≤ most_wagons) × (length pinned.now ≤ length stores.now) }
-    ensures { result ≡ bad_pins n pinned.now stores.now }
+fn bad_pins(n: usize, pins: Pins) -> bool
+    requires { (n ≤ most_wagons) × (length pins.wagons.now ≤ length pins.stores.now) }
+    ensures { result ≡ bad_pins n pins.entry.wagons.now pins.entry.stores.now }
 {
-    bad_list(n, pinned) || any_above(pinned.len(), stores)
+    bad_list(n, pins.wagons) || any_above(pins.wagons.len(), pins.stores)
 }
 
 // Whether a block has a wagon out of range or twice.
-fn bad_block(n: usize, sizes: &[u16], wagons: &[u16]) -> bool
-    requires { (n ≤ most_wagons) × (total (length sizes.now) (elem sizes.now) ≤ length wagons.now) }
-    ensures { result ≡ bad_block n sizes.now wagons.now }
+fn bad_block(n: usize, blocks: Blocks) -> bool
+    requires { (n ≤ most_wagons) × (total (length blocks.sizes.now) (elem blocks.sizes.now) ≤ length blocks.wagons.now) }
+    ensures { result ≡ bad_block n blocks.entry.sizes.now blocks.entry.wagons.now }
 {
     let mut at = 0;
-    for k in 0..sizes.len() {
-        let end = at + wide(sizes[k]);
-        if bad_list(n, &wagons[at..end]) {
+    for k in 0..blocks.sizes.len() {
+        let block = blocks.block(k, at);
+        if bad_list(n, block) {
             return true;
         }
-        at = end;
+        at += block.len();
     }
     false
 }
 
 // 22.
 #[tactic(auto, unfolding(crate::specs::Numbers::bad_blocks, laws::specs::Refusal::any_of))]
-fn bad_blocks(n: usize, present: &[u8], sizes: &[u16], wagons: &[u16]) -> bool
-    requires { (n ≤ most_wagons) × (n ≤ length present.now) × (length sizes.now ≤ most_blocks → total (length sizes.now) (elem sizes.now) ≤ length wagons.now) }
-    ensures { result ≡ bad_blocks n present.now sizes.now wagons.now }
+fn bad_blocks(n: usize, present: &[u8], blocks: Blocks) -> bool
+    requires { (n ≤ most_wagons) × (n ≤ length present.now) × (length blocks.sizes.now ≤ most_blocks → total (length blocks.sizes.now) (elem blocks.sizes.now) ≤ length blocks.wagons.now) }
+    ensures { result ≡ bad_blocks n present.now blocks.entry.sizes.now blocks.entry.wagons.now }
 {
-    any_above(n, present) || MOST_BLOCKS < sizes.len() || bad_block(n, sizes, wagons)
+    any_above(n, present) || MOST_BLOCKS < blocks.sizes.len() || bad_block(n, blocks)
 }
 
 // 19.
@@ -73,26 +80,19 @@ pub fn bad_width(width: usize) -> bool
 
 // 21, 22, 19.
 #[tactic(auto, unfolding(crate::specs::Numbers::list_number, laws::specs::Refusal::first, laws::specs::Refusal::or_else))]
-fn list_number(
-    n: usize,
-    pinned: &[u16],
-    stores: &[u8],
-    present: &[u8],
-    sizes: &[u16],
-    wagons: &[u16],
-    width: usize,
-) -> Result<(), Refusal>
-    requires { (n ≤ most_wagons) × (length pinned.now ≤ length stores.now) × (n ≤ length present.now)
-        × (length sizes.now ≤ most_blocks → total (length sizes.now) (elem sizes.now) ≤ length wagons.now) }
-    ensures { numbered result ≡ list_number n pinned.now stores.now present.now sizes.now wagons.now width }
+fn list_number(n: usize, request: Request) -> Result<(), Refusal>
+    requires { let q = request in (n ≤ most_wagons) × (length q.pins.wagons.now ≤ length q.pins.stores.now) × (n ≤ length q.present.now)
+        × (length q.blocks.sizes.now ≤ most_blocks → total (length q.blocks.sizes.now) (elem q.blocks.sizes.now) ≤ length q.blocks.wagons.now) }
+    ensures { let q = request.entry in numbered result ≡ list_number n q.pins.wagons.now q.pins.stores.now q.present.now
+        q.blocks.sizes.now q.blocks.wagons.now q.width }
 {
-    if bad_pins(n, pinned, stores) {
+    if bad_pins(n, request.pins) {
         return Err(Refusal::Pin);
     }
-    if bad_blocks(n, present, sizes, wagons) {
+    if bad_blocks(n, request.present, request.blocks) {
         return Err(Refusal::Block);
     }
-    if bad_width(width) {
+    if bad_width(request.width) {
         return Err(Refusal::Search);
     }
     Ok(())
@@ -112,96 +112,61 @@ fn wagons_named(sizes: &[u16]) -> usize
     requires { length sizes.now ≤ most_blocks }
     ensures { result ≡ total (length sizes.now) (elem sizes.now) }
 {
-    let mut sum = 0;
-    for k in 0..sizes.len() {
-        sum += wide(sizes[k]);
-    }
-    sum
+    sizes.iter().map(|size| usize::from(*size)).sum()
 }
 
 // 31 of the blocks' wagons and of the falls, by their lengths.
 #[tactic(auto, unfolding(crate::specs::Numbers::blocks_short, laws::specs::Refusal::any_of, laws::specs::Refusal::short))]
-fn blocks_short(sizes: &[u16], wagons: usize, falls: usize) -> bool
-    ensures { result ≡ blocks_short sizes.now wagons falls }
+fn blocks_short(blocks: Blocks, falls: usize) -> bool
+    ensures { result ≡ blocks_short blocks.entry.sizes.now (length blocks.entry.wagons.now) falls }
 {
-    if MOST_BLOCKS < sizes.len() {
+    if MOST_BLOCKS < blocks.sizes.len() {
         return false;
     }
-    wagons < wagons_named(sizes) || falls < sizes.len()
+    blocks.wagons.len() < wagons_named(blocks.sizes) || falls < blocks.sizes.len()
 }
 
 // 31 of the lists.
 #[tactic(auto, unfolding(crate::specs::Numbers::lists_short, laws::specs::Refusal::any_of, laws::specs::Refusal::short))]
-fn lists_short(pinned: usize, stores: usize, sizes: &[u16], wagons: usize, falls: usize) -> bool
-    ensures { result ≡ lists_short pinned stores sizes.now wagons falls }
+fn lists_short(pins: Pins, blocks: Blocks, falls: usize) -> bool
+    ensures { result ≡ lists_short (length pins.entry.wagons.now) (length pins.entry.stores.now)
+        blocks.entry.sizes.now (length blocks.entry.wagons.now) falls }
 {
-    stores < pinned || blocks_short(sizes, wagons, falls)
+    pins.stores.len() < pins.wagons.len() || blocks_short(blocks, falls)
 }
 
 // 31.
 #[tactic(auto, unfolding(crate::specs::Numbers::call_short, laws::specs::Refusal::any_of, laws::specs::Refusal::short))]
 fn call_short(
-    n: usize,
-    count: usize,
-    rows: &[u16],
-    cols: &[u16],
-    values: &[i64],
-    c: &[i64],
-    pinned: &[u16],
-    stores: &[u8],
-    present: &[u8],
-    sizes: &[u16],
-    wagons: &[u16],
+    hall: LentHall,
+    request: Request,
     choice: usize,
     falls: usize,
     workspace: usize,
 ) -> bool
-    ensures { result ≡ call_short n count rows.now cols.now values.now c.now pinned.now stores.now
-        present.now sizes.now wagons.now choice falls workspace }
+    ensures { let t = costs_of hall.entry in let q = request.entry in result ≡ call_short t.n t.count t.rows t.cols t.values t.c q.pins.wagons.now
+        q.pins.stores.now q.present.now q.blocks.sizes.now q.blocks.wagons.now choice falls workspace }
 {
-    short_table(MOST_ENTRIES, count, rows, cols, values)
-        || choices_short(n, c.len(), present.len(), choice)
-        || lists_short(pinned.len(), stores.len(), sizes, wagons.len(), falls)
+    short_table(MOST_ENTRIES, hall.table)
+        || choices_short(hall.table.size, hall.c.len(), request.present.len(), choice)
+        || lists_short(request.pins, request.blocks, falls)
         || workspace < SEARCH_WORKSPACE
 }
 
 // The first number that applies; the lengths are those of the slices that the call writes.
 pub fn block_number(
-    n: usize,
-    count: usize,
-    rows: &[u16],
-    cols: &[u16],
-    values: &[i64],
-    c: &[i64],
-    pinned: &[u16],
-    stores: &[u8],
-    present: &[u8],
-    sizes: &[u16],
-    wagons: &[u16],
-    width: usize,
+    hall: LentHall,
+    request: Request,
     choice: usize,
     falls: usize,
     workspace: usize,
 ) -> Result<(), Refusal>
-    ensures { numbered result ≡ block_number n count rows.now cols.now values.now c.now pinned.now stores.now
-        present.now sizes.now wagons.now width choice falls workspace }
+    ensures { let t = costs_of hall.entry in let q = request.entry in numbered result ≡ block_number t.n t.count t.rows t.cols t.values t.c
+        q.pins.wagons.now q.pins.stores.now q.present.now q.blocks.sizes.now q.blocks.wagons.now q.width choice falls workspace }
 {
-    if call_short(
-        n, count, rows, cols, values, c, pinned, stores, present, sizes, wagons, choice, falls,
-        workspace,
-    ) {
+    if call_short(hall, request, choice, falls, workspace) {
         return Err(Refusal::Slice);
     }
-    hall_number(
-        MOST_WAGONS,
-        MOST_ENTRIES,
-        MOST_MAGNITUDE,
-        n,
-        count,
-        rows,
-        cols,
-        values,
-        c,
-    )?;
-    list_number(n, pinned, stores, present, sizes, wagons, width)
+    hall_number(hall)?;
+    list_number(hall.table.size, request)
 }

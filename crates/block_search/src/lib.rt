@@ -3,72 +3,53 @@
 
 mod blocks; // blocks.rt: the first choice, the blocks in turn, the house
 pub mod check; // check.rt: the numbers
+pub mod lent; // lent.rt: pins, present choice and blocks as a call is lent them
 mod search; // search.rt: one search, all other wagons held
 
 ghost use Rattle.refusal.specs.Number.{numbered};
+ghost use Rattle.tables.specs.Lent.{costs_of};
 ghost use Rattle.block_search.specs.Call.{BlockSearches};
 
 use crate::blocks::clear_house;
 use crate::check::block_number;
+use crate::lent::Request;
 use limits::SEARCH_WORKSPACE;
 use refusal::Refusal;
+use tables::entries::Entries;
+use tables::judged::JudgedHall;
+use tables::lent::LentHall;
 
-// Each block of `block_wagons` searched in turn, from the present choice with the pinned wagons set to their stores; then all wagons not pinned. A
+// Each block of the request searched in turn, from its present choice with the pinned wagons set to their stores; then all wagons not pinned. A
 // pinned wagon that a block names is taken out of it before the search.
-// Block k has `block_sizes[k]` wagons, which follow those of the block before it. `choice` takes the last choice, `falls` each block's fall in
-// eighths. The workspace has 1,024 words at least; a longer one keeps its tail.
+// `choice` takes the last choice, `falls` each block's fall in eighths. The workspace has 1,024 words at least; a longer one keeps its tail.
 pub fn block_search(
-    n: usize,
-    count: usize,
-    rows: &[u16],
-    cols: &[u16],
-    values: &[i64],
-    c: &[i64],
-    pinned: &[u16],
-    stores: &[u8],
-    present: &[u8],
-    block_sizes: &[u16],
-    block_wagons: &[u16],
-    width: usize,
+    hall: LentHall,
+    request: Request,
     choice: &mut [u8],
     falls: &mut [i64],
     workspace: &mut [u64],
 ) -> Result<(), Refusal>
-    ensures { BlockSearches n count rows.now cols.now values.now c.now pinned.now stores.now
-        present.now block_sizes.now block_wagons.now width choice.old falls.old workspace.old
+    ensures { let t = costs_of hall.entry in let q = request.entry in BlockSearches t.n t.count t.rows t.cols t.values t.c q.pins.wagons.now q.pins.stores.now
+        q.present.now q.blocks.sizes.now q.blocks.wagons.now q.width choice.old falls.old workspace.old
         choice.new falls.new workspace.new (numbered result) }
 {
-    block_number(
-        n,
-        count,
-        rows,
-        cols,
-        values,
-        c,
-        pinned,
-        stores,
-        present,
-        block_sizes,
-        block_wagons,
-        width,
-        choice.len(),
-        falls.len(),
-        workspace.len(),
-    )?;
+    block_number(hall, request, choice.len(), falls.len(), workspace.len())?;
+    // No `judged_hall`, which tells the table in the slices: here clauses tell of the slices themselves. (Tried: `returns` then has no equation for them.)
+    let table = Entries {
+        count: hall.table.count,
+        rows: hall.table.rows,
+        cols: hall.table.cols,
+        values: hall.table.values,
+    };
+    let judged = JudgedHall {
+        n: hall.table.size,
+        table,
+        c: hall.c,
+    };
     clear_house(
-        n,
-        count,
-        rows,
-        cols,
-        values,
-        c,
-        pinned,
-        stores,
-        present,
-        block_sizes,
-        block_wagons,
-        width,
-        &mut choice[0..n],
+        judged,
+        request,
+        &mut choice[0..hall.table.size],
         falls,
         &mut workspace[0..SEARCH_WORKSPACE],
     );

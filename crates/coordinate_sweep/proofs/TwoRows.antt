@@ -16,6 +16,7 @@ use lib.ListN.{length, get_or, take, drop, length-append, take-append-drop, get_
 use lib.Seq.{take_at, drop_at, drop-drop, get_or-take, get_or-drop, get_or-append-add, length-take-le}
 use borrow.Author.Tests.{eq-eqb}
 use lib.Ieee
+use Rattle.laws.specs.Turns.{up_to}
 use Rattle.laws.specs.Rows.{row_of, set_row}
 use Rattle.laws.specs.Lists.{any_below}
 use Rattle.laws.proofs.Any.{below_false}
@@ -27,6 +28,7 @@ use Rattle.ieee.specs.Sqrt.{sqrt_of}
 use Rattle.factor.specs.Shapes.{Shaped}
 use Rattle.factor.specs.Norms.{squared_norm}
 use Rattle.factor.specs.Vectors.{scaled}
+use Rattle.factor.specs.Columns.{sum_to_column}
 use Rattle.row_gradient.specs.Columns.{column_to}
 use Rattle.row_gradient.specs.Gradient.{gradient_of}
 use Rattle.coordinate_sweep.specs.Sweep.{momentum_row, exact_row, normalized, pick_row, wrote, update_row, gradient_at, row_to, row_by, swept_row, sweep_to, meets_next}
@@ -129,7 +131,7 @@ pair_moved rank i f g m xs ys zs h lf lg lm ey ez =
 module _ (cols : List ℕ) (values factor u : List Float) (vertex rank i : ℕ) (l : i * rank + rank ≤ length factor) (n : length u ≡ rank) where
   column_away : (j : ℕ) → j < rank → (e : ℕ) → ((k : ℕ) → k < e → get_or cols k 0 ≡ i → ⊥)
       → column_to cols values (set_row rank factor i u) vertex rank j e ≡ column_to cols values factor vertex rank j e
-  unfolding column_to
+  unfolding sum_to_column
   column_away j h zero away = refl
   column_away j h (suc e) away =
       rw (column_away j h e (λ k b. away k (omega arith)), get_d_other rank i (get_or cols e 0) j factor u nan l n (away e (omega arith)) h)
@@ -227,7 +229,7 @@ rows_swept cols values starts rank beta xs i l none =
 pub sweep_one : (cols : List ℕ) (values : List Float) (starts : List ℕ) (rank : ℕ) (beta : Float) (factor : List Float) (i : ℕ) (xs ys : List Float)
     → xs ≡ sweep_to cols values starts rank beta factor i → ys ≡ swept_row cols values starts rank beta xs i
     → ys ≡ sweep_to cols values starts rank beta factor (i + 1)
-unfolding sweep_to
+unfolding sweep_to up_to
 sweep_one cols values starts rank beta factor i xs ys e h = rw (add-one i, ← e) h
 
 pub sweep_two : (cols : List ℕ) (values : List Float) (starts : List ℕ) (rank : ℕ) (beta : Float) (factor : List Float) (i : ℕ) (xs ys : List Float)

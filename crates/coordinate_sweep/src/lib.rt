@@ -4,7 +4,7 @@
 mod pairs; // pairs.rt: two rows at once
 
 ghost use Rattle.std.specs.Prelude.{◌≡◌, false, cond, ◌+◌, ◌*◌, ◌≤◌, ◌<◌, length, replicate};
-ghost use Rattle.ieee.specs.Floats.{zero64};
+ghost use Rattle.ieee.specs.Floats.{◌/ᶠ◌, zero64, one64};
 ghost use Rattle.ieee.specs.Sqrt.{sqrt_of};
 ghost use Rattle.factor.specs.Norms.{squared_norm};
 ghost use Rattle.factor.specs.Shapes.{RowFits, Shaped};
@@ -12,6 +12,7 @@ ghost use Rattle.coordinate_sweep.specs.Sweep.{exact_row, momentum_row, normaliz
 
 use factor::rows::{clear, scale, update_with};
 use factor::sums::squared_norm;
+use factor::table::Prepared;
 use pairs::{next_apart, renew_pair};
 use row_gradient::pair4::gradients;
 use row_gradient::ranks::gradient;
@@ -23,7 +24,7 @@ struct Went {
     left: usize,
 }
 
-// Whether a row whose gradient has this norm is written. `update_row` says so itself; who counts rows asks here, and the compiler then leaves that
+// Whether a row whose gradient has this norm is written. `update_row` answers so too; who counts rows asks here, and the compiler then leaves that
 // answer out of the update.
 fn writes(norm: f64) -> bool
     ensures { result ≡ wrote norm }
@@ -54,11 +55,19 @@ fn set_momentum(row: &mut [f64], g: &[f64], inv: f64, beta: f64)
     update_with(row, g, |old, x| (1.0 + beta) * (x * inv) - beta * old);
 }
 
+// 1.0 divided by the norm of a row.
+fn inverse_norm(row: &[f64]) -> f64
+    ensures { result ≡ one64 /ᶠ sqrt_of (squared_norm row.now) }
+{
+    1.0 / ieee::sqrt(squared_norm(row))
+}
+
 // The row times 1.0 divided by its norm.
+#[tactic(auto, unfolding(crate::specs::Sweep::normalized))]
 fn normalize(row: &mut [f64])
     ensures { row.new ≡ normalized row.old }
 {
-    let inv = 1.0 / ieee::sqrt(squared_norm(row));
+    let inv = inverse_norm(row);
     scale(row, inv);
 }
 
@@ -68,7 +77,7 @@ fn update_row(row: &mut [f64], g: &[f64], norm: f64, beta: f64) -> bool
     ensures value { result ≡ wrote norm }
     ensures row_after { row.new ≡ update_row beta g.now norm row.old }
 {
-    if norm >= 1E-24 {
+    if writes(norm) {
         let inv = 1.0 / norm;
         if beta == 0.0 {
             set_exact(row, g, inv);
@@ -94,74 +103,37 @@ fn update_at(factor: &mut [f64], g: &[f64], i: usize, norm: f64, beta: f64) -> b
 }
 
 // The gradient of row i.
-fn gradient_at(
-    cols: &[u16],
-    values: &[f64],
-    starts: &[usize],
-    factor: &[f64],
-    i: usize,
-    g: &mut [f64],
-)
-    requires { RowFits cols.now values.now starts.now factor.now (length g.old) i }
-    ensures { g.new ≡ gradient_at cols.now values.now starts.now (length g.old) factor.now i }
+fn gradient_at(table: Prepared, factor: &[f64], i: usize, g: &mut [f64])
+    requires { RowFits table.cols.now table.values.now table.starts.now factor.now (length g.old) i }
+    ensures { g.new ≡ gradient_at table.entry.cols.now table.entry.values.now table.entry.starts.now (length g.old) factor.now i }
 {
-    let lo = starts[i];
-    let hi = starts[i + 1];
-    gradient(&cols[lo..hi], &values[lo..hi], factor, i, g);
+    gradient(table.row(i), factor, i, g);
 }
 
 // The gradients of rows i and i + 1.
-fn gradients_at(
-    cols: &[u16],
-    values: &[f64],
-    starts: &[usize],
-    factor: &[f64],
-    i: usize,
-    g: &mut [f64],
-    h: &mut [f64],
-)
-    requires row_fits { RowFits cols.now values.now starts.now factor.now (length g.old) i }
-    requires row_fits_2 { RowFits cols.now values.now starts.now factor.now (length g.old) (i + 1) }
+fn gradients_at(table: Prepared, factor: &[f64], i: usize, g: &mut [f64], h: &mut [f64])
+    requires row_fits { RowFits table.cols.now table.values.now table.starts.now factor.now (length g.old) i }
+    requires row_fits_2 { RowFits table.cols.now table.values.now table.starts.now factor.now (length g.old) (i + 1) }
     requires h_len { (length h.old ≡ length g.old) × (i < 65536) }
-    ensures g_after { g.new ≡ gradient_at cols.now values.now starts.now (length g.old) factor.now i }
-    ensures h_after { h.new ≡ gradient_at cols.now values.now starts.now (length g.old) factor.now (i + 1) }
+    ensures g_after { g.new ≡ gradient_at table.entry.cols.now table.entry.values.now table.entry.starts.now (length g.old) factor.now i }
+    ensures h_after { h.new ≡ gradient_at table.entry.cols.now table.entry.values.now table.entry.starts.now (length g.old) factor.now (i + 1) }
 {
     if g.len() == 4 {
-        let lo = starts[i];
-        let mid = starts[i + 1];
-        let hi = starts[i + 1 + 1];
-        gradients(
-            &cols[lo..mid],
-            &values[lo..mid],
-            &cols[mid..hi],
-            &values[mid..hi],
-            factor,
-            i,
-            g,
-            h,
-        );
+        gradients(table.row(i), table.row(i + 1), factor, i, g, h);
     } else {
-        gradient_at(cols, values, starts, factor, i, g);
-        gradient_at(cols, values, starts, factor, i + 1, h);
+        gradient_at(table, factor, i, g);
+        gradient_at(table, factor, i + 1, h);
     }
 }
 
 // Row i of the factor anew; g is left at its gradient. Whether the row was written.
-fn sweep_row(
-    cols: &[u16],
-    values: &[f64],
-    starts: &[usize],
-    factor: &mut [f64],
-    g: &mut [f64],
-    i: usize,
-    beta: f64,
-) -> bool
-    requires { RowFits cols.now values.now starts.now factor.old (length g.old) i }
-    ensures value { result ≡ wrote (sqrt_of (squared_norm (gradient_at cols.now values.now starts.now (length g.old) factor.old i))) }
-    ensures factor_after { factor.new ≡ swept_row cols.now values.now starts.now (length g.old) beta factor.old i }
-    ensures g_after { g.new ≡ gradient_at cols.now values.now starts.now (length g.old) factor.old i }
+fn sweep_row(table: Prepared, factor: &mut [f64], g: &mut [f64], i: usize, beta: f64) -> bool
+    requires { RowFits table.cols.now table.values.now table.starts.now factor.old (length g.old) i }
+    ensures value { result ≡ wrote (sqrt_of (squared_norm (gradient_at table.entry.cols.now table.entry.values.now table.entry.starts.now (length g.old) factor.old i))) }
+    ensures factor_after { factor.new ≡ swept_row table.entry.cols.now table.entry.values.now table.entry.starts.now (length g.old) beta factor.old i }
+    ensures g_after { g.new ≡ gradient_at table.entry.cols.now table.entry.values.now table.entry.starts.now (length g.old) factor.old i }
 {
-    gradient_at(cols, values, starts, factor, i, g);
+    gradient_at(table, factor, i, g);
     let norm = ieee::sqrt(squared_norm(g));
     update_at(factor, g, i, norm, beta);
     writes(norm)
@@ -170,33 +142,29 @@ fn sweep_row(
 // Rows i and i + 1 of the factor anew, where no entry of the second lies in column i; g and h are left at their gradients. How many of the two
 // were left.
 fn sweep_pair(
-    cols: &[u16],
-    values: &[f64],
-    starts: &[usize],
+    table: Prepared,
     factor: &mut [f64],
     g: &mut [f64],
     h: &mut [f64],
     i: usize,
     beta: f64,
 ) -> usize
-    requires row_fits { RowFits cols.now values.now starts.now factor.old (length g.old) i }
-    requires row_fits_2 { RowFits cols.now values.now starts.now factor.old (length g.old) (i + 1) }
-    requires h_len { (length h.old ≡ length g.old) × (i < 65536) × (meets_next cols.now starts.now i ≡ false) }
-    ensures factor_after { factor.new ≡ swept_row cols.now values.now starts.now (length g.old) beta
-        (swept_row cols.now values.now starts.now (length g.old) beta factor.old i) (i + 1) }
-    ensures value { result ≡ stands (norm_at cols.now values.now starts.now (length g.old) factor.old i)
-        + stands (norm_at cols.now values.now starts.now (length g.old)
-        (swept_row cols.now values.now starts.now (length g.old) beta factor.old i) (i + 1)) }
+    requires row_fits { RowFits table.cols.now table.values.now table.starts.now factor.old (length g.old) i }
+    requires row_fits_2 { RowFits table.cols.now table.values.now table.starts.now factor.old (length g.old) (i + 1) }
+    requires h_len { (length h.old ≡ length g.old) × (i < 65536) × (meets_next table.cols.now table.starts.now i ≡ false) }
+    ensures factor_after { factor.new ≡ swept_row table.entry.cols.now table.entry.values.now table.entry.starts.now (length g.old) beta
+        (swept_row table.entry.cols.now table.entry.values.now table.entry.starts.now (length g.old) beta factor.old i) (i + 1) }
+    ensures value { result ≡ stands (norm_at table.entry.cols.now table.entry.values.now table.entry.starts.now (length g.old) factor.old i)
+        + stands (norm_at table.entry.cols.now table.entry.values.now table.entry.starts.now (length g.old)
+        (swept_row table.entry.cols.now table.entry.values.now table.entry.starts.now (length g.old) beta factor.old i) (i + 1)) }
 {
-    gradients_at(cols, values, starts, factor, i, g, h);
+    gradients_at(table, factor, i, g, h);
     renew_pair(factor, g, h, i, beta)
 }
 
 // Row i anew, and row i + 1 with it where that can be.
 fn sweep_on(
-    cols: &[u16],
-    values: &[f64],
-    starts: &[usize],
+    table: Prepared,
     m: usize,
     factor: &mut [f64],
     g: &mut [f64],
@@ -204,17 +172,17 @@ fn sweep_on(
     i: usize,
     beta: f64,
 ) -> Went
-    requires shaped { Shaped cols.now values.now starts.now factor.old m (length g.old) }
+    requires shaped { Shaped table.cols.now table.values.now table.starts.now factor.old m (length g.old) }
     requires h_len { (length h.old ≡ length g.old) × (i < m) }
     ensures { (i < result.next) × (result.next ≤ m)
-        × SweepsOn cols.now values.now starts.now (length g.old) beta i result.next factor.old factor.new
-        × StandsOn cols.now values.now starts.now (length g.old) beta i result.next result.left factor.old }
+        × SweepsOn table.entry.cols.now table.entry.values.now table.entry.starts.now (length g.old) beta i result.next factor.old factor.new
+        × StandsOn table.entry.cols.now table.entry.values.now table.entry.starts.now (length g.old) beta i result.next result.left factor.old }
 {
-    if next_apart(cols, starts, m, i) {
-        let left = sweep_pair(cols, values, starts, factor, g, h, i, beta);
+    if next_apart(table.cols, table.starts, m, i) {
+        let left = sweep_pair(table, factor, g, h, i, beta);
         return Went { next: i + 2, left };
     }
-    let written = sweep_row(cols, values, starts, factor, g, i, beta);
+    let written = sweep_row(table, factor, g, i, beta);
     Went {
         next: i + 1,
         left: left_of(written),
@@ -223,26 +191,25 @@ fn sweep_on(
 
 // One sweep over the m rows, the diagonal left out; how many rows it left as they were. The row g is left cleared; what is left in h is free.
 pub fn coordinate_sweep(
-    cols: &[u16],
-    values: &[f64],
-    starts: &[usize],
+    table: Prepared,
     m: usize,
     factor: &mut [f64],
     g: &mut [f64],
     h: &mut [f64],
     beta: f64,
 ) -> usize
-    requires shaped { Shaped cols.now values.now starts.now factor.old m (length g.old) }
+    requires shaped { Shaped table.cols.now table.values.now table.starts.now factor.old m (length g.old) }
     requires h_len { length h.old ≡ length g.old }
-    ensures value { result ≡ standing_to cols.now values.now starts.now (length g.old) beta factor.old m }
-    ensures factor_after { factor.new ≡ sweep_to cols.now values.now starts.now (length g.old) beta factor.old m }
+    ensures value { result ≡ standing_to table.entry.cols.now table.entry.values.now table.entry.starts.now (length g.old) beta factor.old m }
+    ensures factor_after { factor.new ≡ sweep_to table.entry.cols.now table.entry.values.now table.entry.starts.now (length g.old) beta factor.old m }
     ensures g_after { g.new ≡ replicate (length g.old) zero64 }
 {
     let mut i = 0;
     let mut left: usize = 0;
-    // one row or two a turn, as the entries allow: no range counts so
+    // One row or two a turn, as the entries allow: no range counts so. Tried as `for i in 0..m` with a mark of the next row: a test at each row, and the
+    // mark, its two bounds and a proof by both ways of that test more.
     while i < m {
-        let went = sweep_on(cols, values, starts, m, factor, g, h, i, beta);
+        let went = sweep_on(table, m, factor, g, h, i, beta);
         left += went.left;
         i = went.next;
     }

@@ -1,5 +1,7 @@
 // Two rows that follow each other, at once: where no entry of the second lies in the first one's column, its gradient can be taken before the
-// first is made anew, and the two roots then don't wait for each other. The rows come out as one after the other.
+// first is made anew, and the two roots then don't wait for each other. The rows come out as one after the other. A row that is written is cut where it is
+// used (factor/src/rows.rt says why). `i < 65536` is asked where i + 1 is counted, and h's length where two rows are: factor, g and h are written, so that a
+// value of them would need the clause at each function that each of its references keeps its name.
 
 ghost use Rattle.std.specs.Prelude.{◌≡◌, true, false, cond, ℕ, ◌+◌, ◌*◌, ◌≤◌, ◌<◌, eqb, length, get_or};
 ghost use Rattle.std.specs.Float.Ieee as Ieee;
@@ -11,7 +13,7 @@ ghost use Rattle.factor.specs.Norms.{squared_norm};
 ghost use Rattle.factor.specs.Vectors.{scaled};
 ghost use Rattle.coordinate_sweep.specs.Sweep.{momentum_row, normalized, wrote, row_by, row_to, meets_next, stands};
 
-use super::{left_of, set_momentum, update_at};
+use super::{inverse_norm, left_of, set_momentum, update_at, writes};
 use factor::rows::{row, scale};
 use factor::sums::squared_norm;
 
@@ -24,14 +26,6 @@ fn move_row(factor: &mut [f64], g: &[f64], i: usize, inv: f64, beta: f64)
     let start = i * rank;
     let end = start + rank;
     set_momentum(&mut factor[start..end], g, inv, beta);
-}
-
-// 1.0 divided by the norm of row i.
-fn inverse_norm(factor: &[f64], rank: usize, i: usize) -> f64
-    requires { i * rank + rank ≤ length factor.now }
-    ensures { result ≡ one64 /ᶠ sqrt_of (squared_norm (row_of rank factor.now i)) }
-{
-    1.0 / ieee::sqrt(squared_norm(row(factor, rank, i)))
 }
 
 // Row i times `by`.
@@ -51,8 +45,8 @@ fn normalize_pair(factor: &mut [f64], rank: usize, i: usize)
         (row_to rank factor.old i (scaled (one64 /ᶠ sqrt_of (squared_norm (row_of rank factor.old i)))))
         (i + 1) (scaled (one64 /ᶠ sqrt_of (squared_norm (row_of rank factor.old (i + 1))))) }
 {
-    let a = inverse_norm(factor, rank, i);
-    let b = inverse_norm(factor, rank, i + 1);
+    let a = inverse_norm(row(factor, rank, i));
+    let b = inverse_norm(row(factor, rank, i + 1));
     scale_row(factor, rank, i, a);
     scale_row(factor, rank, i + 1, b);
 }
@@ -77,8 +71,8 @@ fn moves(a: f64, b: f64, beta: f64) -> bool
     if beta == 0.0 {
         return false;
     }
-    if a >= 1E-24 {
-        return b >= 1E-24;
+    if writes(a) {
+        return writes(b);
     }
     false
 }

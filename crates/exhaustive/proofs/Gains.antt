@@ -11,13 +11,13 @@ use borrow.Author.Tests.{eq-eqb, ne_eqb}
 use lib.Dec.{eqb}
 use lib.IntN.{ℤ, pos, nat_abs, ◌+ℤ◌, ◌*ℤ◌, *ℤ_comm, *ℤ-zero, zero-*ℤ, +ℤ_idr}
 use Rattle.laws.specs.Sum.{sum, sum₂, total, only}
-use Rattle.laws.proofs.Integer.{parts, differences, sorted, ring, abs_add, abs_mul, times_one}
+use Rattle.laws.proofs.Integer.{parts, differences, ring, abs_add, abs_mul, times_one}
 use Rattle.laws.proofs.Sums.{sum_ext, sum_add, sum_zero, sum_only, sum_bounded, sum₂_ext, sum₂_add, sum₂_swap, sum₂_zero}
 use Rattle.limits.specs.Limits.{most_magnitude, most_sign_magnitude}
 use Rattle.tables.specs.Table.{Table, Symmetric, InRange, magnitude_of, value_at}
 use Rattle.tables.specs.Cost.{cost_eighths, cost_term, linear_term, bit, choice_at}
 use Rattle.tables.specs.Check.{hall_magnitude}
-use Rattle.tables.proofs.Places.{only_sum}
+use Rattle.tables.proofs.Flips.{one_row, expanded}
 use Rattle.tables.proofs.Choices.{cost_ext, cost_entries, cost_abs, linear_abs}
 use Rattle.exhaustive.specs.Choices.{digit, digits_of, walk_cost}
 use Rattle.exhaustive.proofs.Digits.{clear, raised, digit_clear, digit_set, digit_other, digit_none, at_digit}
@@ -35,13 +35,6 @@ only_right a b q = go (eqb a b)
     go : (t : Bool) → q *ℤ cond t (pos 1) (pos 0) ≡ cond t q (pos 0)
     go true = times_one q
     go false = *ℤ-zero q
-
-one_row : (m i : ℕ) (f : ℕ → ℕ → ℤ) → i < m → sum₂ m (λ a b. only i a (f a b)) ≡ sum m (f i)
-unfolding sum₂
-one_row m i f h = sum_ext m _ _ (λ a k. only_sum m i a (f a)) ∙ sum_only m i (λ a. sum m (f a)) h
-
-expanded : (q a b c d : ℤ) → q *ℤ ((a +ℤ b) *ℤ (c +ℤ d)) ≡ q *ℤ (a *ℤ c) +ℤ q *ℤ (b *ℤ c) +ℤ (q *ℤ (b *ℤ d) +ℤ q *ℤ (d *ℤ a))
-expanded q a b c d = simp sorted
 
 -- ---- of any choice
 

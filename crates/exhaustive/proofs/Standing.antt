@@ -15,11 +15,11 @@ use mir.Val.{SFits}
 use mir.Facts.{to_z-of_z}
 use Rattle.exhaustive.proofs.Terms.{word, word_is}
 use Rattle.laws.proofs.Integer.{fits_abs, parts, differences, ring, abs_add, abs_neg}
-use Rattle.tables.specs.Table.{Table, InRange, value_at, Symmetric}
+use Rattle.tables.specs.Table.{Table, InRange}
 use Rattle.laws.proofs.Sums.{total_at}
 use Rattle.tables.specs.Check.{Hall}
 use Rattle.limits.specs.Limits.{most_wagons, most_entries, most_magnitude, most_sign_magnitude}
-use Rattle.tables.proofs.Mirrors.{mirrored_symmetric}
+use Rattle.tables.proofs.Mirrors.{hall_symmetric}
 use Rattle.rounding.specs.Rounding.{first_least}
 use Rattle.exhaustive.specs.Choices.{walk_cost, least_number}
 use Rattle.exhaustive.specs.Walk.{Best, LaidOut, Small, Standing, Raised, Raisable, Walked-on, Starts}
@@ -234,9 +234,6 @@ pub all_below : {n : ℕ} → n ≤ 16 → 2 ^ n ≤ 65536
 all_below few = pow_mono few
 
 module _ {n : ℕ} {h : Table} (c : List ℤ) {grid : List ℤ} (hall : Hall most_wagons most_entries most_magnitude n h (elem_z c)) (few : n ≤ 16) (laid : LaidOut h grid) where
-  pub symmetric : Symmetric n (value_at h)
-  symmetric = mirrored_symmetric hall.rising hall.mirrored n
-
   pub grid_values : Small grid
   grid_values = record { small = λ i j k l. rw (laid.value_is i j k l) (omega (arith, value_small h i j, hall.magnitude)) }
 
@@ -252,10 +249,10 @@ module _ {n : ℕ} {h : Table} (c : List ℤ) {grid : List ℤ} (hall : Hall mos
     cost_is = sym (zero_cost n h (elem_z c));
     fields_are = λ j l.
         start.start_is j l ∙ ap (λ z. pos 4 *ℤ z +ℤ pos 8 *ℤ elem_z c j) (laid.value_is j j (omega arith) (omega arith)) ∙ sym (zero_gain n h (elem_z c) j);
-    grows = λ j q l. digit_grows n h (elem_z c) j q l symmetric;
+    grows = λ j q l. digit_grows n h (elem_z c) j q l (hall_symmetric hall);
     shifts = λ i j q l m.
         digit_shifts n h (elem_z c) i j q m
-        ∙ ap (λ z. gain_of n h (elem_z c) i (q * 2 ^ suc j) +ℤ pos 8 *ℤ z) (symmetric.mirror i j (omega arith) m ∙ sym (laid.value_is j i (omega arith) (omega arith)));
+        ∙ ap (λ z. gain_of n h (elem_z c) i (q * 2 ^ suc j) +ℤ pos 8 *ℤ z) ((hall_symmetric hall).mirror i j (omega arith) m ∙ sym (laid.value_is j i (omega arith) (omega arith)));
     costs_small = cost_small n h (elem_z c) hall.in_range hall.magnitude;
     grid_small = grid_values;
     best = record { least_is = sym (zero_cost n h (elem_z c)); number_is = refl };

@@ -1,15 +1,16 @@
 // The numbers of the call: 31, 13 to 16, 24. Nothing is written.
-ghost use Rattle.std.specs.Prelude.{◌≡◌, false, ℕ, ◌≤◌, ◌<◌, length, ltb};
+ghost use Rattle.std.specs.Prelude.{◌≡◌, length, ltb};
 ghost use Rattle.laws.specs.Lists.{elem_z};
 ghost use Rattle.refusal.specs.Number.{numbered};
 ghost use Rattle.limits.specs.Limits.{most_wagons, most_entries, most_magnitude, most_walked};
-ghost use Rattle.tables.specs.Table.{table_of, Lent};
+ghost use Rattle.tables.specs.Lent.{LentWithin, lent_table, costs_of};
 ghost use Rattle.tables.specs.Check.{hall_number};
 ghost use Rattle.exhaustive.specs.Contract.{walk_short, walk_number};
 
-use limits::{MOST_ENTRIES, MOST_MAGNITUDE, MOST_WAGONS, MOST_WALKED};
+use limits::{MOST_ENTRIES, MOST_WAGONS, MOST_WALKED};
 use refusal::Refusal;
 use tables::check::{hall_number, short_table, too_short};
+use tables::lent::LentHall;
 
 // Whether there are more wagons.
 fn many(n: usize) -> bool
@@ -20,68 +21,41 @@ fn many(n: usize) -> bool
 
 // 31: a slice is too short.
 #[tactic(auto, unfolding(crate::specs::Contract::walk_short, laws::specs::Refusal::any_of))]
-fn slices_short(
-    n: usize,
-    count: usize,
-    rows: &[u16],
-    cols: &[u16],
-    values: &[i64],
-    c: usize,
-    b: usize,
-) -> bool
-    ensures { result ≡ walk_short n count (length rows.now) (length cols.now) (length values.now) c b }
+fn slices_short(hall: LentHall, b: usize) -> bool
+    ensures { let t = hall.entry.table in result ≡ walk_short t.size t.count (length t.rows.now) (length t.cols.now) (length t.values.now) (length hall.entry.c.now) b }
 {
+    let n = hall.table.size;
     let refused = many(n);
-    short_table(MOST_ENTRIES, count, rows, cols, values)
-        || too_short(refused, n, c)
+    short_table(MOST_ENTRIES, hall.table)
+        || too_short(refused, n, hall.c.len())
         || too_short(refused, n, b)
 }
 
 // 13 to 16, a cost that isn't there taken for 0.
-fn house_number(
-    n: usize,
-    count: usize,
-    rows: &[u16],
-    cols: &[u16],
-    values: &[i64],
-    c: &[i64],
-) -> Result<(), Refusal>
-    requires { count ≤ most_entries → Lent count rows.now cols.now values.now }
-    ensures { numbered result ≡ hall_number most_wagons most_entries most_magnitude n (table_of count rows.now cols.now values.now) (elem_z c.now) }
+fn house_number(hall: LentHall) -> Result<(), Refusal>
+    requires { LentWithin most_entries hall.table }
+    ensures { numbered result ≡ hall_number most_wagons most_entries most_magnitude hall.entry.table.size (lent_table hall.entry.table) (elem_z hall.entry.c.now) }
 {
+    let c = hall.c;
     let mut there = [0i64; MOST_WAGONS];
     let given = c.len().min(MOST_WAGONS);
     there[..given].copy_from_slice(&c[..given]);
-    hall_number(
-        MOST_WAGONS,
-        MOST_ENTRIES,
-        MOST_MAGNITUDE,
-        n,
-        count,
-        rows,
-        cols,
-        values,
-        &there,
-    )
+    hall_number(LentHall {
+        table: hall.table,
+        c: &there,
+    })
 }
 
 // The first number that applies; `b` is the length of the slice for the choice.
-pub fn walk_number(
-    n: usize,
-    count: usize,
-    rows: &[u16],
-    cols: &[u16],
-    values: &[i64],
-    c: &[i64],
-    b: usize,
-) -> Result<(), Refusal>
-    ensures { numbered result ≡ walk_number n count rows.now cols.now values.now c.now b }
+#[tactic(auto, unfolding(crate::specs::Contract::walk_number, laws::specs::Refusal::first, laws::specs::Refusal::or_else))]
+pub fn walk_number(hall: LentHall, b: usize) -> Result<(), Refusal>
+    ensures { let t = costs_of hall.entry in numbered result ≡ walk_number t.n t.count t.rows t.cols t.values t.c b }
 {
-    if slices_short(n, count, rows, cols, values, c.len(), b) {
+    if slices_short(hall, b) {
         return Err(Refusal::Slice);
     }
-    house_number(n, count, rows, cols, values, c)?;
-    if many(n) {
+    house_number(hall)?;
+    if many(hall.table.size) {
         return Err(Refusal::Walk);
     }
     Ok(())

@@ -1,18 +1,17 @@
 // The table as a square of as many wagons as are walked, and what setting each digit adds to the cost.
-ghost use Rattle.std.specs.Prelude.{◌≡◌, ℕ, ◌+◌, ◌*◌, ◌^◌, ◌<◌, ◌≤◌, length, set, replicate, pos, nat_abs, ◌+ℤ◌};
+ghost use Rattle.std.specs.Prelude.{◌≡◌, ℕ, ◌+◌, ◌*◌, ◌<◌, ◌≤◌, length, set, replicate, pos, nat_abs, ◌+ℤ◌};
 ghost use Rattle.std.specs.Int.{w64};
 ghost use Rattle.std.proofs.Common.{SFits};
 ghost use Rattle.laws.specs.Lists.{elem_z};
 ghost use Rattle.limits.specs.Limits.{most_magnitude, most_walked};
-ghost use Rattle.tables.specs.Table.{table_of, Lent, InRange, magnitude_of};
+ghost use Rattle.tables.specs.Table.{InRange, magnitude_of};
 ghost use Rattle.exhaustive.specs.Walk.{LaidOut, Small, raised_field, Raised, Raisable, start_field, Starts};
 ghost use Rattle.tables.specs.Entries.{listed};
 
 use limits::MOST_WALKED;
-use tables::check::wide;
 use tables::entries::Entries;
 
-// The square's places, row by row.
+// The square's places, row by row: one array, no array of rows, since definitions speak of one list, and one `set` says what an entry changes.
 pub const PLACES: usize = MOST_WALKED * MOST_WALKED;
 
 // Adds a value at (i, j).
@@ -30,8 +29,8 @@ pub fn lay_out(table: Entries, grid: &mut [i64; PLACES])
     ensures { LaidOut (listed table.entry) grid.new }
 {
     for k in 0..table.count {
-        let i = wide(table.rows[k]);
-        let j = wide(table.cols[k]);
+        let i = usize::from(table.rows[k]);
+        let j = usize::from(table.cols[k]);
         add_at(i, j, table.values[k], grid);
     }
 }

@@ -1,24 +1,23 @@
 // The walk of all choices in binary order: the upper digits kept, the choices of the lower ones in turn, with what each digit adds.
-ghost use Rattle.std.specs.Prelude.{◌≡◌, cond, ℕ, ◌+◌, ◌-◌, ◌^◌, ◌<◌, ◌≤◌, length};
+ghost use Rattle.std.specs.Prelude.{◌≡◌, cond, ◌+◌, ◌-◌, ◌^◌, ◌<◌, ◌≤◌, length};
 ghost use Rattle.std.specs.Int.Signed.{lt_z};
 ghost use Rattle.laws.specs.Lists.{elem_z, over};
-ghost use Rattle.limits.specs.Limits.{most_wagons, most_entries, most_magnitude, most_walked};
-ghost use Rattle.tables.specs.Table.{table_of, Lent};
-ghost use Rattle.tables.specs.Check.{Hall};
+ghost use Rattle.limits.specs.Limits.{most_walked};
 ghost use Rattle.exhaustive.specs.Choices.{digits_of, walk_cost, least_number};
 ghost use Rattle.exhaustive.specs.Walk.{Standing, Walked-on};
 ghost use Rattle.tables.specs.Entries.{listed};
 
+use crate::Least;
 use crate::grid::{PLACES, lay_out, raise, start_fields};
 use limits::MOST_WALKED;
-use tables::entries::Entries;
+use tables::judged::JudgedHall;
 
-// The least cost so far, whose choice it is, and how many choices were visited.
+// The least cost so far, whose choice it is, and how many choices were visited: `Least`, which the call answers, has no number.
 #[derive(Drop)]
-pub struct Kept {
-    pub least: i64,
-    pub number: u64,
-    pub visited: u64,
+struct Kept {
+    least: i64,
+    number: u64,
+    visited: u64,
 }
 
 // Visits the next choice, of this cost: it is kept if it costs less.
@@ -38,6 +37,7 @@ fn visit(cost: i64, at: Kept) -> Kept
 }
 
 // Visits the next choice, whose lowest digit is 0, and the one with that digit set.
+// `fields` and `grid` stay apart here and below: each level raises fields of its own, and the grid is one for all.
 fn visit_two(
     d: usize,
     cost: i64,
@@ -86,16 +86,17 @@ fn put_digits(n: usize, k: u64, b: &mut [u8])
 }
 
 // The first choice of least cost, which goes to b.
-pub fn least_of(n: usize, table: Entries, c: &[i64], b: &mut [u8]) -> Kept
-    requires { (n ≤ length c.now) × (n ≤ length b.old) × (n ≤ most_walked) × Hall most_wagons most_entries most_magnitude n (listed table) (elem_z c.now) }
-    ensures found { (result.least ≡ walk_cost n (listed table.entry) (elem_z c.now) (least_number n (listed table.entry) (elem_z c.now)))
-        × (result.visited ≡ 2 ^ n) }
-    ensures choice { b.new ≡ over (digits_of n (least_number n (listed table.entry) (elem_z c.now))) b.old }
+pub fn least_of(hall: JudgedHall, b: &mut [u8]) -> Least
+    requires { (hall.n ≤ length b.old) × (hall.n ≤ most_walked) }
+    ensures found { let h = hall.entry in let c = elem_z h.c.now in
+        (result.cost ≡ walk_cost h.n (listed h.table) c (least_number h.n (listed h.table) c)) × (result.visited ≡ 2 ^ h.n) }
+    ensures choice { let h = hall.entry in b.new ≡ over (digits_of h.n (least_number h.n (listed h.table) (elem_z h.c.now))) b.old }
 {
+    let n = hall.n;
     let mut grid = [0i64; PLACES];
-    lay_out(table, &mut grid);
+    lay_out(hall.table, &mut grid);
     let mut fields = [0i64; MOST_WALKED];
-    start_fields(n, &grid, c, &mut fields);
+    start_fields(n, &grid, hall.c, &mut fields);
     let found = walk(
         n,
         0,
@@ -108,5 +109,8 @@ pub fn least_of(n: usize, table: Entries, c: &[i64], b: &mut [u8]) -> Kept
         },
     );
     put_digits(n, found.number, b);
-    found
+    Least {
+        cost: found.least,
+        visited: found.visited,
+    }
 }

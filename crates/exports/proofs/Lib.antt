@@ -3,7 +3,6 @@ pub mod Answering
 pub mod Running
 pub mod RangedRunning
 pub mod Exchanging
-pub mod Asked
 pub mod Enough
 pub mod OnWords
 pub mod Turning

@@ -1,12 +1,13 @@
 -- The ranged finish on words, from what it promises of the record that the words hold. Assumes nothing.
-use Rattle.exports.specs.Answers.{by_number}
-use Rattle.std.specs.Prelude.{Result, Ok, Err}
-use Prim.Native.Nat.{ℕ, zero, suc, ◌≤◌}
-use mathlib.Core.Path.{◌≡◌, refl, sym, ap, subst}
-use mathlib.Core.Bool.{Bool, true, false}
+use Rattle.std.specs.Prelude.{Result, Err, MatchResult}
+use Rattle.std.specs.Result.{IsOkAnd}
+use Rattle.refusal.specs.declared.Refusal.{Refusal}
+use Rattle.refusal.specs.Number.{numbered, in_numbers}
+use Rattle.exports.proofs.Answering.{handed}
+use Prim.Native.Nat.{ℕ, ◌≤◌}
+use mathlib.Core.Path.{◌≡◌}
 use mathlib.Core.List.{List}
 use native.Mathlib.Omega.{arith}
-use lib.Dec.{T}
 use lib.Ieee.{Float}
 use lib.IntN.{pos}
 use lib.ListN.{length}
@@ -16,28 +17,14 @@ use Rattle.ranged_finish.specs.Call.{RangedFinishes}
 use Rattle.ranged_finish.specs.declared.RangedResult.{RangedResult}
 use Rattle.exports.specs.Words.{run_words, run_in}
 use Rattle.exports.specs.RangedWords.{ranged_words, ranged_words_of, RangedFinishesWords}
-use Rattle.exports.specs.Answers.{words_after}
-
-abbrev gave : Result RangedResult ℕ → Bool
-gave (Ok x) = true
-gave (Err k) = false
+use Rattle.exports.specs.Answers.{written}
 
 module _ {words : List ℕ} {t : RangedTable} {width draw_count : ℕ} {draws factor : List Float} {b : List ℕ} {dual : List Float} {workspace result : List ℕ} where
-  pub ranged_short_lem : (run_words ≤ length words → ranged_words ≤ length result → ⊥)
-      → RangedFinishesWords words t width draw_count draws factor b dual workspace result 31 b dual workspace result
-  ranged_short_lem n = record { short_words = λ _. (refl, refl, refl, refl, refl); short_result = λ _. (refl, refl, refl, refl, refl); finishes = λ l m. absurd (n l m) }
-
-  -- the words are long enough: what the call answered is what its number and the result say
-  pub ranged_given : {b' : List ℕ} {dual' : List Float} {workspace' result' : List ℕ} (number : ℕ) (x : RangedResult) → run_words ≤ length words → ranged_words ≤ length result
-      → RangedFinishes (run_in words) t width draw_count draws factor b dual workspace (by_number number x) b' dual' workspace' → result' ≡ words_after number (ranged_words_of x) result
+  pub ranged_made : {b' : List ℕ} {dual' : List Float} {workspace' result' : List ℕ} {number : ℕ} (answer : Result RangedResult Refusal) (made : Result (List ℕ) Refusal)
+      → run_words ≤ length words → ranged_words ≤ length result → RangedFinishes (run_in words) t width draw_count draws factor b dual workspace (in_numbers answer) b' dual' workspace'
+      → MatchResult answer (λ x. IsOkAnd made (λ w. w ≡ ranged_words_of x)) (λ e. made ≡ Err e) → (number ≡ numbered made) × (result' ≡ written made result)
       → RangedFinishesWords words t width draw_count draws factor b dual workspace result number b' dual' workspace' result'
-  ranged_given number x l m e w =
-      record { short_words = λ n. absurd (omega (arith, l, n)); short_result = λ n. absurd (omega (arith, m, n)); finishes = λ _ _. (x, e, w) }
-
-  -- a refusal comes with any result, since it shows none
-  pub ranged_left : {b' : List ℕ} {dual' : List Float} {workspace' : List ℕ} (k : ℕ) → run_words ≤ length words → ranged_words ≤ length result
-      → RangedFinishes (run_in words) t width draw_count draws factor b dual workspace (Err k) b' dual' workspace'
-      → RangedFinishesWords words t width draw_count draws factor b dual workspace result k b' dual' workspace' result
-  ranged_left zero l m e = let (x, is) = e.given refl in absurd (subst T (sym (ap gave is)) tt)
-  ranged_left (suc k) l m e =
-      ranged_given (suc k) (record { result = finish_result (run_in words) (high_of t) width draw_count draws factor; low = pos 0; high = pos 0; low_floor = pos 0 }) l m e refl
+  ranged_made answer made l m e cases out =
+      let any : RangedResult = record { result = finish_result (run_in words) (high_of t) width draw_count draws factor; low = pos 0; high = pos 0; low_floor = pos 0 } in
+      let (x, is, w) = handed ranged_words_of any answer made result cases out in
+      record { short_words = λ n. absurd (omega (arith, l, n)); short_result = λ n. absurd (omega (arith, m, n)); finishes = λ _ _. (x, rw is e, w) }

@@ -2,7 +2,7 @@
 use Prim.Native.Nat.{ℕ, zero, suc, ◌+◌, ◌-◌, ◌*◌, ◌≤◌, ◌<◌}
 use mathlib.Core.Path.{◌≡◌, refl, sym, ap, ap₂, subst, ◌∙◌}
 use mathlib.Core.Bool.{Bool, true, false}
-use mathlib.Core.List.{List, [], ◌∷◌, ◌++◌, append-nil, append_assoc}
+use mathlib.Core.List.{List, [], ◌∷◌, ◌++◌, append_assoc}
 use mathlib.Core.Logic.{◌⊎◌, inl, inr}
 use native.Mathlib.Nat.{mul-suc, eq-or-lt_of_le}
 use native.Mathlib.Numerals.{add-one}
@@ -11,8 +11,8 @@ use borrow.Author.Tests.{ltb-false, le-ltb}
 use lib.Dec.{ltb}
 use lib.IntN.{ℤ}
 use lib.Ieee.{Float}
-use lib.ListN.{length, take, drop, replicate, length-append, length-replicate, length-drop, take-append-drop, drop_of_length-le}
-use lib.Seq.{take_all, take_at, drop_at, drop-drop, length-take-le}
+use lib.ListN.{length, take, drop, replicate, length-append, length-replicate, length-drop, take-append-drop}
+use lib.Seq.{take_all, take_at, drop_at, drop-drop}
 use Rattle.laws.specs.Rows.{map_first}
 use Rattle.laws.specs.Lists.{over, fill}
 use Rattle.laws.proofs.MapFirst.{get_d_map_first}
@@ -70,26 +70,16 @@ record_read f count rest i l =
 pub rest_is : (k : ℕ) (words : List ℕ) → take (length words - k) (drop k words) ≡ drop k words
 rest_is k words = take_all (length words - k) (drop k words) (rw (length-drop k words) (omega arith))
 
-pub rest_long : (i count : ℕ) (words : List ℕ) → i < count → run_words * count ≤ length words → run_words ≤ length (take (length words - run_words * i) (drop (run_words * i) words))
-rest_long i count words l m = rw (rest_is (run_words * i) words, length-drop (run_words * i) words) (omega (arith, l, m))
-
 over_long : (a xs : List ℕ) → length a ≤ length xs → length (over a xs) ≡ length xs
 over_long a xs l = length-append a (drop (length a) xs) ∙ rw (length-drop (length a) xs) (omega (arith, l))
 
 -- a loop that writes record after record: one more
-module _ (f : ℕ → Run) (i : ℕ) (words₀ words new : List ℕ) (d : ℕ) (w : words ≡ over (joined (λ j. words_of (f j)) i) words₀) (room : run_words * i + run_words ≤ length words)
-    (e : d ≡ run_words) (n : new ≡ over (words_of (f i)) (take d (drop (run_words * i) words))) where
+module _ (f : ℕ → Run) (i : ℕ) (words₀ words : List ℕ) (d : ℕ) (w : words ≡ over (joined (λ j. words_of (f j)) i) words₀) (room : run_words * i + run_words ≤ length words)
+    (e : d ≡ run_words) where
   abbrev front : List ℕ
   front = joined (λ j. words_of (f j)) i
 
-  new_is : new ≡ words_of (f i)
-  new_is =
-      let there : length (take d (drop (run_words * i) words)) ≡ d = length-take-le d (drop (run_words * i) words) (rw (e, length-drop (run_words * i) words) (omega (arith, room))) in
-      let same : length (take d (drop (run_words * i) words)) ≡ length (words_of (f i)) = there ∙ e ∙ sym (length_words (f i)) in
-      let low : length (take d (drop (run_words * i) words)) ≤ length (words_of (f i)) = omega (arith, same) in
-      n ∙ ap (λ (xs : List ℕ). words_of (f i) ++ xs) (drop_of_length-le (take d (drop (run_words * i) words)) low) ∙ append-nil (words_of (f i))
-
-  put_turn : take (run_words * i) words ++ (new ++ drop d (drop (run_words * i) words)) ≡ over (joined (λ j. words_of (f j)) (i + 1)) words₀
+  put_turn : take (run_words * i) words ++ (words_of (f i) ++ drop d (drop (run_words * i) words)) ≡ over (joined (λ j. words_of (f j)) (i + 1)) words₀
   unfolding joined
   put_turn =
       let long = length_records f i in
@@ -97,13 +87,13 @@ module _ (f : ℕ → Run) (i : ℕ) (words₀ words new : List ℕ) (d : ℕ) (
       let left_is : drop (run_words * i) words ≡ drop (run_words * i) words₀ =
       ap (drop (run_words * i)) w ∙ drop_at front (drop (length front) words₀) (run_words * i) long ∙ ap (λ (k : ℕ). drop k words₀) long in
       let both_long : length (front ++ words_of (f i)) ≡ run_words * i + run_words = length-append front (words_of (f i)) ∙ ap₂ (λ (a b : ℕ). a + b) long (length_words (f i)) in
-      ap₂ (λ (x y : List ℕ). x ++ (y ++ drop d (drop (run_words * i) words))) front_is new_is
+      ap (λ (x : List ℕ). x ++ (words_of (f i) ++ drop d (drop (run_words * i) words))) front_is
       ∙ ap (λ (x : List ℕ). front ++ (words_of (f i) ++ x)) (ap₂ (λ (k : ℕ) (xs : List ℕ). drop k xs) e left_is ∙ drop-drop run_words (run_words * i) words₀)
       ∙ sym (append_assoc front (words_of (f i)) (drop (run_words * i + run_words) words₀))
       ∙ ap (λ (k : ℕ). (front ++ words_of (f i)) ++ drop k words₀) (sym both_long)
       ∙ ap (λ (k : ℕ). over (joined (λ j. words_of (f j)) k) words₀) (sym (add-one i))
 
-  put_long : length words ≡ length words₀ → length (take (run_words * i) words ++ (new ++ drop d (drop (run_words * i) words))) ≡ length words₀
+  put_long : length words ≡ length words₀ → length (take (run_words * i) words ++ (words_of (f i) ++ drop d (drop (run_words * i) words))) ≡ length words₀
   put_long same = let all = length_records f (i + 1) in ap length put_turn ∙ over_long (joined (λ j. words_of (f j)) (i + 1)) words₀ (omega (arith, all, room, same))
 
 held_turn : (f : ℕ → Run) (i : ℕ) → ((j : ℕ) → j < i → run_in (words_of (f j)) ≡ f j) → run_in (words_of (f i)) ≡ f i → (j : ℕ) → j < i + 1 → run_in (words_of (f j)) ≡ f j
@@ -127,14 +117,13 @@ unfolding joined
 put_none runs words = record { long = refl; is = refl; held = λ j l. absurd (omega (arith, l)) }
 
 pub put_next : {runs : List Run} {words₀ words new : List ℕ} {d : ℕ} (i : ℕ) → Put runs words₀ words i → run_words * i + run_words ≤ length words → d ≡ run_words
-    → (new ≡ over (words_of (run_at runs i)) (take d (drop (run_words * i) words))) × (run_in new ≡ run_at runs i)
-    → Put runs words₀ (take (run_words * i) words ++ (new ++ drop d (drop (run_words * i) words))) (i + 1)
-put_next {runs} {words₀} {words} {new} {d} i p room e n =
-    record {
-      long = put_long (run_at runs) i words₀ words new d p.is room e n.0 p.long;
-      is = put_turn (run_at runs) i words₀ words new d p.is room e n.0;
-      held = held_turn (run_at runs) i p.held (ap run_in (sym (new_is (run_at runs) i words₀ words new d p.is room e n.0)) ∙ n.1);
-    }
+    → new ≡ words_of (run_at runs i) → run_in new ≡ run_at runs i → Put runs words₀ (take (run_words * i) words ++ (new ++ drop d (drop (run_words * i) words))) (i + 1)
+put_next {runs} {words₀} {words} {new} {d} i p room e n back =
+    rw n (record {
+      long = put_long (run_at runs) i words₀ words d p.is room e p.long;
+      is = put_turn (run_at runs) i words₀ words d p.is room e;
+      held = held_turn (run_at runs) i p.held (rw n at back);
+    })
 
 pub put_all : {runs : List Run} {words₀ words : List ℕ} (i n : ℕ) → Put runs words₀ words i → i ≤ n → n ≤ i
     → (words ≡ over (joined (λ j. words_of (run_at runs j)) n) words₀) × ((j : ℕ) → j < n → run_in (words_of (run_at runs j)) ≡ run_at runs j)

@@ -1,8 +1,12 @@
 -- What the exported calls promise: those of a run by the predicates of run_contract, on words; those that answer a value by what the call answers,
 -- made of the number and of what is lent for the value.
 use Rattle.std.specs.Prelude.{ℕ, zero, suc, ◌≤◌, ◌<◌, ◌≡◌, List, Float, length, Result, Ok, Err}
+use Rattle.std.specs.Result.{result_unwrap_or}
 use Rattle.laws.specs.Lists.{over}
-use Rattle.run_record.specs.CostTable.{CostTable}
+use Rattle.refusal.specs.declared.Refusal.{Refusal}
+use Rattle.refusal.specs.Number.{numbered}
+use Rattle.run_record.specs.declared.Run.{Run}
+use Rattle.tables.specs.CostTable.{CostTable}
 use Rattle.run_contract.specs.declared.FinishResult.{FinishResult}
 use Rattle.run_contract.specs.Calls.{Opens, Sweeps, Finishes}
 use Rattle.exports.specs.Words.{run_words, setting_words, result_words, run_in, words_of, settings_in, result_words_of}
@@ -23,6 +27,17 @@ Stays number value value' = (number ≡ 0 → ⊥) → value' ≡ value
 abbrev pub words_after : ℕ → List ℕ → List ℕ → List ℕ
 words_after zero new words = over new words
 words_after (suc k) new words = words
+
+-- the words of a value that a call answered, over the front of those lent for them
+abbrev pub written : Result (List ℕ) Refusal → List ℕ → List ℕ
+written (Ok new) words = over new words
+written (Err refusal) words = words
+
+-- the record that a call answered, in words
+pub record HandsRun (answer : Result Run Refusal) (words : List ℕ) (number : ℕ) (words' : List ℕ) : Type 0 where
+  pub is_number : number ≡ numbered answer
+  pub held : run_in words' ≡ result_unwrap_or answer (run_in words)
+  pub written_over : words' ≡ words_after number (words_of (run_in words')) words
 
 -- fewer words than a record or the settings have are too short: 31, and nothing is written. Else what `open` promises, of the record that the words
 -- then hold

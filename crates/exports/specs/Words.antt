@@ -11,7 +11,7 @@ use Rattle.step_rules.specs.Rule.{rule_of, rule_number}
 use Rattle.run_record.specs.declared.Stage.{Stage}
 use Rattle.run_record.specs.declared.Stage.TheVariants.{Open, Stopped}
 use Rattle.run_record.specs.declared.Run.{Run}
-use Rattle.run_record.specs.CostTable.{CostTable}
+use Rattle.tables.specs.CostTable.{CostTable}
 use Rattle.run_contract.specs.Calls.{Settings, settings_of}
 use Rattle.run_contract.specs.declared.FinishResult.{FinishResult}
 

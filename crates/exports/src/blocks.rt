@@ -2,7 +2,9 @@
 ghost use Rattle.block_search.specs.Call.{BlockSearches};
 
 use block_search::block_search;
+use block_search::lent::{Blocks, Pins, Request};
 use refusal::number_in;
+use tables::lent::{LentHall, LentTable};
 
 #[unsafe(no_mangle)]
 pub extern "C" fn wagonplan_raw_block_search(
@@ -26,21 +28,27 @@ pub extern "C" fn wagonplan_raw_block_search(
         present.now block_sizes.now block_wagons.now width choice.old falls.old workspace.old
         choice.new falls.new workspace.new result }
 {
-    number_in(block_search(
-        n,
-        count,
-        rows,
-        cols,
-        values,
+    let hall = LentHall {
+        table: LentTable {
+            size: n,
+            count,
+            rows,
+            cols,
+            values,
+        },
         c,
-        pinned,
-        stores,
+    };
+    let request = Request {
+        pins: Pins {
+            wagons: pinned,
+            stores,
+        },
         present,
-        block_sizes,
-        block_wagons,
+        blocks: Blocks {
+            sizes: block_sizes,
+            wagons: block_wagons,
+        },
         width,
-        choice,
-        falls,
-        workspace,
-    ))
+    };
+    number_in(block_search(hall, request, choice, falls, workspace))
 }

@@ -1,7 +1,8 @@
 // The exchange of a run's rule, the record in words.
 ghost use Rattle.exports.specs.Exchange.{ExchangesWords};
 
-use crate::words::{RUN_WORDS, byte_in, put_run, run_in};
+use crate::words::{RUN_WORDS, byte_in, hand_run, run_in};
+use refusal::Refusal;
 use sdp_solver::exchange::exchange_rule;
 
 #[unsafe(no_mangle)]
@@ -9,13 +10,7 @@ pub extern "C" fn wagonplan_raw_exchange_rule(words: &mut [u64], rule: u64, numb
     ensures { ExchangesWords words.old rule number result words.new }
 {
     if words.len() < RUN_WORDS {
-        return 31;
+        return Refusal::Slice.number();
     }
-    match exchange_rule(run_in(words), byte_in(rule), number) {
-        Ok(run) => {
-            put_run(run, words);
-            0
-        }
-        Err(refusal) => refusal.number(),
-    }
+    hand_run(exchange_rule(run_in(words), byte_in(rule), number), words)
 }

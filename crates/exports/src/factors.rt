@@ -10,7 +10,9 @@ ghost use Rattle.factor_calls.specs.Answers.{RoundsFactor, Multiplies};
 ghost use Rattle.exports.specs.Answers.{by_number, Stays};
 
 use crate::answers::hand_over;
+use crate::lent::lent_table;
 use refusal::number_in;
+use run_limits::Draws;
 
 #[unsafe(no_mangle)]
 pub extern "C" fn wagonplan_raw_compute_rounded_sol(
@@ -32,10 +34,13 @@ pub extern "C" fn wagonplan_raw_compute_rounded_sol(
         out.old (by_number result objective.new) out.new }
     ensures stays { Stays result objective.old objective.new }
 {
+    let table = lent_table(m, count, rows, cols, values);
+    let drawn = Draws {
+        count: draw_count,
+        numbers: draws,
+    };
     hand_over(
-        factor_calls::compute_rounded_sol(
-            m, count, rows, cols, values, rank, factor, draw_count, draws, out,
-        ),
+        factor_calls::compute_rounded_sol(table, rank, factor, drawn, out),
         objective,
     )
 }
@@ -55,7 +60,8 @@ pub extern "C" fn wagonplan_raw_dual_variables(
         (whole_multipliers (table_of count rows.now cols.now values.now) m (rank_meant m rank) factor.now)
         out.old result out.new }
 {
-    number_in(factor_calls::dual_variables(m, count, rows, cols, values, rank, factor, out))
+    let table = lent_table(m, count, rows, cols, values);
+    number_in(factor_calls::dual_variables(table, rank, factor, out))
 }
 
 #[unsafe(no_mangle)]
@@ -73,5 +79,6 @@ pub extern "C" fn wagonplan_raw_dual_variables_divided(
         (divided_multipliers (table_of count rows.now cols.now values.now) m rank factor.now)
         out.old result out.new }
 {
-    number_in(factor_calls::dual_variables_divided(m, count, rows, cols, values, rank, factor, out))
+    let table = lent_table(m, count, rows, cols, values);
+    number_in(factor_calls::dual_variables_divided(table, rank, factor, out))
 }

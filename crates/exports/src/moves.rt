@@ -2,7 +2,9 @@
 ghost use Rattle.limited_search.specs.Call.{LimitedSearches};
 ghost use Rattle.exports.specs.Answers.{by_number, Stays};
 
+use crate::answers::hand_both;
 use limited_search::limited_search;
+use tables::lent::{LentHall, LentTable};
 
 #[unsafe(no_mangle)]
 pub extern "C" fn wagonplan_raw_limited_search(
@@ -24,14 +26,16 @@ pub extern "C" fn wagonplan_raw_limited_search(
         choice.new workspace.new (by_number result (cost.new, rounds.new)) }
     ensures stays { Stays result cost.old cost.new × Stays result rounds.old rounds.new }
 {
-    match limited_search(
-        n, count, rows, cols, values, c, present, k, width, choice, workspace,
-    ) {
-        Ok((least, made)) => {
-            *cost = least;
-            *rounds = made;
-            0
-        }
-        Err(refusal) => refusal.number(),
-    }
+    let hall = LentHall {
+        table: LentTable {
+            size: n,
+            count,
+            rows,
+            cols,
+            values,
+        },
+        c,
+    };
+    let searched = limited_search(hall, present, k, width, choice, workspace);
+    hand_both(searched, cost, rounds)
 }

@@ -59,10 +59,11 @@ pub extern "C" fn wagonplan_raw_version() -> u32
 
 // The size that is asked for, 0 where there is none.
 #[unsafe(no_mangle)]
+#[tactic(auto, unfolding(crate::specs::Sizes::size_of, sign_words::specs::Size::sign_words))]
 pub extern "C" fn wagonplan_raw_size(which: u32) -> usize
     ensures { result ≡ size_of which }
 {
-    let sizes: [usize; 22] = [
+    let sizes = [
         MOST_BYTES,
         MOST_WAGONS,
         MOST_ENTRIES,
@@ -86,8 +87,5 @@ pub extern "C" fn wagonplan_raw_size(which: u32) -> usize
         MOST_TURN as usize,
         HALL_WORDS,
     ];
-    if which < 22 {
-        return sizes[which as usize];
-    }
-    0
+    sizes.get(which as usize).copied().unwrap_or(0)
 }

@@ -4,7 +4,9 @@ ghost use Rattle.reduced.specs.Lift.{Lifts};
 ghost use Rattle.exports.specs.Answers.{by_number, Stays};
 
 use crate::answers::hand_over;
+use crate::lent::lent_table;
 use reduced::from_principal_submatrix::from_principal_submatrix;
+use reduced::indices::Indices;
 use reduced::lift_solution::lift_solution;
 use refusal::number_in;
 
@@ -26,13 +28,10 @@ pub extern "C" fn wagonplan_raw_from_principal_submatrix(
         (by_number result entries.new) (slices_of out_rows.new out_cols.new out_values.new) }
     ensures stays { Stays result entries.old entries.new }
 {
+    let table = lent_table(size, count, rows, cols, values);
     hand_over(
         from_principal_submatrix(
-            size,
-            count,
-            rows,
-            cols,
-            values,
+            table,
             variable_map,
             fixed_index,
             out_rows,
@@ -55,12 +54,10 @@ pub extern "C" fn wagonplan_raw_lift_solution(
     ensures { Lifts size variable_map.now fixed_index.now fixed_value.now reduced_solution.now
         lifted.old result lifted.new }
 {
-    number_in(lift_solution(
+    let indices = Indices {
         size,
         variable_map,
         fixed_index,
-        fixed_value,
-        reduced_solution,
-        lifted,
-    ))
+    };
+    number_in(lift_solution(indices, fixed_value, reduced_solution, lifted))
 }

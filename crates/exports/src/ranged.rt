@@ -1,47 +1,30 @@
 // The ranged finish, record and result in words.
-ghost use Rattle.std.specs.Prelude.{◌≡◌, ◌≤◌, length};
-ghost use Rattle.laws.specs.Lists.{over};
+ghost use Rattle.std.specs.Prelude.{◌≡◌};
 ghost use Rattle.ranged_finish.specs.Ranged.{ranged_table};
-ghost use Rattle.exports.specs.RangedWords.{ranged_words, ranged_words_of, RangedFinishesWords};
+ghost use Rattle.exports.specs.RangedWords.{ranged_words_of, RangedFinishesWords};
 
-use crate::words::{RESULT_WORDS, RUN_WORDS, put_words, result_words, run_in};
+use crate::answers::hand_words;
+use crate::words::{RESULT_WORDS, RUN_WORDS, result_words, run_in};
 use ieee::bits::bits_of_signed;
-use ranged_finish::RangedResult;
 use ranged_finish::finish::finish_ranged;
+use ranged_finish::{LentRanged, RangedResult};
+use refusal::Refusal;
+use run_limits::Draws;
 
 // Three more than a finish's result.
 const RANGED_WORDS: usize = RESULT_WORDS + 3;
 
 // The words of a ranged result.
+#[tactic(auto, unfolding(crate::specs::RangedWords::ranged_words_of, crate::specs::Words::result_words_of))]
 fn ranged_words(x: RangedResult) -> [u64; RANGED_WORDS]
     ensures { result ≡ ranged_words_of x }
 {
-    let front = result_words(x.result);
-    [
-        front[0],
-        front[1],
-        front[2],
-        front[3],
-        front[4],
-        front[5],
-        front[6],
-        front[7],
-        front[8],
-        front[9],
-        front[10],
-        bits_of_signed(x.low),
-        bits_of_signed(x.high),
-        bits_of_signed(x.low_floor),
-    ]
-}
-
-// Writes a ranged result over the front of the words.
-fn put_ranged(x: RangedResult, words: &mut [u64])
-    requires { ranged_words ≤ length words.old }
-    ensures { words.new ≡ over (ranged_words_of x) words.old }
-{
-    let made = ranged_words(x);
-    put_words(words, &made);
+    let mut words = [0; RANGED_WORDS];
+    words[..RESULT_WORDS].copy_from_slice(&result_words(x.result));
+    words[RESULT_WORDS] = bits_of_signed(x.low);
+    words[RESULT_WORDS + 1] = bits_of_signed(x.high);
+    words[RESULT_WORDS + 2] = bits_of_signed(x.low_floor);
+    words
 }
 
 #[unsafe(no_mangle)]
@@ -69,14 +52,12 @@ pub extern "C" fn wagonplan_raw_finish_ranged(
         result b.new dual_variables.new workspace.new res.new }
 {
     if words.len() < RUN_WORDS {
-        return 31;
+        return Refusal::Slice.number();
     }
     if res.len() < RANGED_WORDS {
-        return 31;
+        return Refusal::Slice.number();
     }
-    let run = run_in(words);
-    let finished = finish_ranged(
-        run,
+    let ranged = LentRanged {
         n,
         count,
         rows,
@@ -85,19 +66,19 @@ pub extern "C" fn wagonplan_raw_finish_ranged(
         high,
         low_c,
         high_c,
+    };
+    let finished = finish_ranged(
+        run_in(words),
+        ranged,
         width,
-        draw_count,
-        draws,
+        Draws {
+            count: draw_count,
+            numbers: draws,
+        },
         factor,
         b,
         dual_variables,
         workspace,
     );
-    match finished {
-        Ok(x) => {
-            put_ranged(x, res);
-            0
-        }
-        Err(refusal) => refusal.number(),
-    }
+    hand_words(finished.map(ranged_words), res)
 }

@@ -1,17 +1,17 @@
 // The calls of a run, the record in words.
-ghost use Rattle.std.specs.Prelude.{◌≡◌};
-ghost use Rattle.run_record.specs.CostTable.{cost_table};
-ghost use Rattle.run_contract.specs.Calls.{Sweeps};
+ghost use Rattle.tables.specs.CostTable.{cost_table};
 ghost use Rattle.exports.specs.Answers.{OpensWords, SweepsWords, FinishesWords};
 
+use crate::answers::hand_words;
 use crate::words::{
-    RESULT_WORDS, RUN_WORDS, SETTING_WORDS, byte_in, count_in, put_result, put_run, run_in,
+    RESULT_WORDS, RUN_WORDS, SETTING_WORDS, hand_run, result_words, run_in, settings_in,
 };
-use ieee::bits::double_of;
-use run_record::{LentTable, OpenSettings};
+use refusal::Refusal;
+use run_limits::Draws;
 use sdp_solver::finish::finish;
 use sdp_solver::open::open;
 use sdp_solver::sweep::sweep_run;
+use tables::lent::{LentHall, LentTable};
 
 #[unsafe(no_mangle)]
 pub extern "C" fn wagonplan_raw_open(
@@ -30,41 +30,22 @@ pub extern "C" fn wagonplan_raw_open(
         settings.now numbers.now factor.old words.old result factor.new words.new }
 {
     if settings.len() < SETTING_WORDS {
-        return 31;
+        return Refusal::Slice.number();
     }
     if words.len() < RUN_WORDS {
-        return 31;
+        return Refusal::Slice.number();
     }
-    let asked = OpenSettings {
-        rank: settings[0] as usize,
-        rule: byte_in(settings[1]),
-        number: double_of(settings[2]),
-        most: count_in(settings[3]),
-        minimum: count_in(settings[4]),
-        objective_tolerance: double_of(settings[5]),
-        stationarity_tolerance: double_of(settings[6]),
-        start: byte_in(settings[7]),
-    };
-    let opened = open(
-        LentTable {
-            n,
+    let hall = LentHall {
+        table: LentTable {
+            size: n,
             count,
             rows,
             cols,
             values,
-            c,
         },
-        asked,
-        numbers,
-        factor,
-    );
-    match opened {
-        Ok(run) => {
-            put_run(run, words);
-            0
-        }
-        Err(unopened) => unopened.number(),
-    }
+        c,
+    };
+    hand_run(open(hall, settings_in(settings), numbers, factor), words)
 }
 
 #[unsafe(no_mangle)]
@@ -83,28 +64,20 @@ pub extern "C" fn wagonplan_raw_sweep(
         k factor.old result words.new factor.new }
 {
     if words.len() < RUN_WORDS {
-        return 31;
+        return Refusal::Slice.number();
     }
-    let run = run_in(words);
-    match sweep_run(
-        run,
-        LentTable {
-            n,
+    let hall = LentHall {
+        table: LentTable {
+            size: n,
             count,
             rows,
             cols,
             values,
-            c,
         },
-        k,
-        factor,
-    ) {
-        Ok(after) => {
-            put_run(after, words);
-            0
-        }
-        Err(unswept) => unswept.number(),
-    }
+        c,
+    };
+    let run = run_in(words);
+    hand_run(sweep_run(run, hall, k, factor), words)
 }
 
 #[unsafe(no_mangle)]
@@ -130,35 +103,33 @@ pub extern "C" fn wagonplan_raw_finish(
         result b.new dual_variables.new workspace.new res.new }
 {
     if words.len() < RUN_WORDS {
-        return 31;
+        return Refusal::Slice.number();
     }
     if res.len() < RESULT_WORDS {
-        return 31;
+        return Refusal::Slice.number();
     }
-    let run = run_in(words);
-    let finished = finish(
-        run,
-        LentTable {
-            n,
+    let hall = LentHall {
+        table: LentTable {
+            size: n,
             count,
             rows,
             cols,
             values,
-            c,
         },
+        c,
+    };
+    let finished = finish(
+        run_in(words),
+        hall,
         width,
-        draw_count,
-        draws,
+        Draws {
+            count: draw_count,
+            numbers: draws,
+        },
         factor,
         b,
         dual_variables,
         workspace,
     );
-    match finished {
-        Ok(x) => {
-            put_result(x, res);
-            0
-        }
-        Err(unfinished) => unfinished.number(),
-    }
+    hand_words(finished.map(result_words), res)
 }

@@ -3,6 +3,8 @@ ghost use Rattle.sdp_local_search.specs.BeamSearch.{base_limits};
 ghost use Rattle.sdp_local_search.specs.Call.{BeamSearches};
 ghost use Rattle.exports.specs.Answers.{by_number, Stays};
 
+use crate::answers::hand_both;
+use crate::lent::lent_table;
 use sdp_local_search::beam_search;
 
 #[unsafe(no_mangle)]
@@ -23,12 +25,8 @@ pub extern "C" fn wagonplan_raw_beam_search(
         out.new workspace.new (by_number result (record { least = objective.new; rounds = rounds.new })) }
     ensures stays { Stays result objective.old objective.new × Stays result rounds.old rounds.new }
 {
-    match beam_search(m, count, rows, cols, values, width, start, out, workspace) {
-        Ok(found) => {
-            *objective = found.least;
-            *rounds = found.rounds;
-            0
-        }
-        Err(refusal) => refusal.number(),
-    }
+    let table = lent_table(m, count, rows, cols, values);
+    let searched = beam_search(table, width, start, out, workspace);
+    let told = searched.map(|found| (found.least, found.rounds));
+    hand_both(told, objective, rounds)
 }

@@ -11,8 +11,10 @@ ghost use Rattle.table_calls.specs.Numbers.{floor_number, objective_number, cost
 ghost use Rattle.exports.specs.Answers.{by_number, Stays};
 
 use crate::answers::hand_over;
+use crate::lent::lent_table;
 use refusal::number_in;
 use table_calls::{choices, halls, sign_tables};
+use tables::lent::{LentHall, LentTable};
 
 #[unsafe(no_mangle)]
 pub extern "C" fn wagonplan_raw_obj_rounded(
@@ -28,10 +30,8 @@ pub extern "C" fn wagonplan_raw_obj_rounded(
         (objective_of (table_of count rows.now cols.now values.now) (sign_at signs.now)) }
     ensures stays { Stays result value.old value.new }
 {
-    hand_over(
-        sign_tables::obj_rounded(m, count, rows, cols, values, signs),
-        value,
-    )
+    let table = lent_table(m, count, rows, cols, values);
+    hand_over(sign_tables::obj_rounded(table, signs), value)
 }
 
 #[unsafe(no_mangle)]
@@ -47,10 +47,8 @@ pub extern "C" fn wagonplan_raw_floor_eighths(
         (floor_of (table_of count rows.now cols.now values.now)) }
     ensures stays { Stays result value.old value.new }
 {
-    hand_over(
-        sign_tables::floor_eighths(m, count, rows, cols, values),
-        value,
-    )
+    let table = lent_table(m, count, rows, cols, values);
+    hand_over(sign_tables::floor_eighths(table), value)
 }
 
 #[unsafe(no_mangle)]
@@ -66,10 +64,8 @@ pub extern "C" fn wagonplan_raw_entrywise_lower_bound(
         (entrywise (table_of count rows.now cols.now values.now)) }
     ensures stays { Stays result value.old value.new }
 {
-    hand_over(
-        sign_tables::entrywise_lower_bound(m, count, rows, cols, values),
-        value,
-    )
+    let table = lent_table(m, count, rows, cols, values);
+    hand_over(sign_tables::entrywise_lower_bound(table), value)
 }
 
 #[unsafe(no_mangle)]
@@ -87,10 +83,17 @@ pub extern "C" fn wagonplan_raw_eval_qubo_objective(
         (cost_eighths n (value_at (table_of count rows.now cols.now values.now)) (elem_z c.now) (choice_at b.now)) }
     ensures stays { Stays result value.old value.new }
 {
-    hand_over(
-        halls::eval_qubo_objective(n, count, rows, cols, values, c, b),
-        value,
-    )
+    let hall = LentHall {
+        table: LentTable {
+            size: n,
+            count,
+            rows,
+            cols,
+            values,
+        },
+        c,
+    };
+    hand_over(halls::eval_qubo_objective(hall, b), value)
 }
 
 #[unsafe(no_mangle)]
@@ -112,8 +115,18 @@ pub extern "C" fn wagonplan_raw_qubo_sign_table(
         to_rows.old to_cols.old to_values.old (by_number result entries.new) to_rows.new to_cols.new to_values.new }
     ensures stays { Stays result entries.old entries.new }
 {
+    let hall = LentHall {
+        table: LentTable {
+            size: n,
+            count,
+            rows,
+            cols,
+            values,
+        },
+        c,
+    };
     hand_over(
-        halls::qubo_sign_table(n, count, rows, cols, values, c, to_rows, to_cols, to_values),
+        halls::qubo_sign_table(hall, to_rows, to_cols, to_values),
         entries,
     )
 }

@@ -7,18 +7,19 @@ ghost use Rattle.exports.specs.Words.{run_words, run_in, words_of};
 ghost use Rattle.refusal.specs.Number.{numbered};
 ghost use Rattle.exports.specs.TurnWords.{hall_words, runs_in, halls_in, early_number, TurnsWords};
 
-use crate::words::{RUN_WORDS, put_run, run_in};
+use crate::words::{RUN_WORDS, run_in, words_of};
 use limits::MOST_RUNS;
-use refusal::Refusal;
+use refusal::{Refusal, number_in};
 use run_record::{Run, Stage};
-use several_runs::HallSize;
 use several_runs::numbers::{bad_count, bad_turn};
 use several_runs::turn::turn;
+use several_runs::{HallSize, LentRuns};
 use step_rules::StepRule;
 
 pub const HALL_WORDS: usize = 2;
 
 // What is refused before a record is read.
+#[tactic(auto, using(several_runs::proofs::Counted::count_few), unfolding(crate::specs::TurnWords::early_number, laws::specs::Refusal::first, laws::specs::Refusal::or_else))]
 fn early_number(sweeps: u32, run_count: usize, words: usize, sizes: usize) -> Result<(), Refusal>
     ensures { numbered result ≡ early_number sweeps run_count words sizes }
 {
@@ -41,7 +42,7 @@ fn early_number(sweeps: u32, run_count: usize, words: usize, sizes: usize) -> Re
 fn no_run() -> Run
     ensures { result ≡ blank }
 {
-    let none = 0.0 / 0.0;
+    let none = f64::NAN;
     Run {
         size: 0,
         rank: 0,
@@ -58,7 +59,7 @@ fn no_run() -> Run
     }
 }
 
-// The records that words hold, run after run.
+// The records that words hold, run after run. Arrays of eight beside `run_count`, since `turn` takes them: a public function, which may not take less.
 fn runs_in(run_count: usize, words: &[u64]) -> [Run; MOST_RUNS]
     requires { (run_count ≤ most_runs) × (run_words * run_count ≤ length words.now) }
     ensures { result ≡ runs_in run_count words.now }
@@ -93,11 +94,29 @@ fn put_runs(run_count: usize, runs: [Run; MOST_RUNS], words: &mut [u64])
     ensures { (words.new ≡ over (joined (λ i. words_of (run_at runs i)) run_count) words.old) × ((i : ℕ) → i < run_count → run_in (words_of (run_at runs i)) ≡ run_at runs i) }
 {
     for i in 0usize..run_count {
-        let run = runs[i];
         let at = RUN_WORDS * i;
-        let end = at + RUN_WORDS;
-        put_run(run, &mut words[at..end]);
+        words[at..at + RUN_WORDS].copy_from_slice(&words_of(runs[i]));
     }
+}
+
+// The call on the runs' tables, as lent.
+fn turn_words(
+    run_count: usize,
+    words: &mut [u64],
+    sizes: &[u64],
+    sweeps: u32,
+    lent: LentRuns,
+    factors: &mut [f64],
+) -> Result<(), Refusal>
+    ensures { TurnsWords sweeps run_count words.old sizes.now lent.entry.rows.now lent.entry.cols.now lent.entry.values.now lent.entry.c.now
+        factors.old (numbered result) words.new factors.new }
+{
+    early_number(sweeps, run_count, words.len(), sizes.len())?;
+    let runs = runs_in(run_count, words);
+    let halls = halls_in(run_count, sizes);
+    let after = turn(run_count, runs, halls, sweeps, lent, factors)?;
+    put_runs(run_count, after, words);
+    Ok(())
 }
 
 #[unsafe(no_mangle)]
@@ -115,20 +134,11 @@ pub extern "C" fn wagonplan_raw_turn(
     ensures { TurnsWords sweeps run_count words.old sizes.now rows.now cols.now values.now c.now
         factors.old result words.new factors.new }
 {
-    let judged = early_number(sweeps, run_count, words.len(), sizes.len());
-    if let Err(early) = judged {
-        return early.number();
-    }
-    let runs = runs_in(run_count, words);
-    let halls = halls_in(run_count, sizes);
-    let turned = turn(
-        run_count, runs, halls, sweeps, rows, cols, values, c, factors,
-    );
-    match turned {
-        Ok(after) => {
-            put_runs(run_count, after, words);
-            0
-        }
-        Err(refusal) => refusal.number(),
-    }
+    let lent = LentRuns {
+        rows,
+        cols,
+        values,
+        c,
+    };
+    number_in(turn_words(run_count, words, sizes, sweeps, lent, factors))
 }

@@ -1,12 +1,16 @@
-// The run record, the settings of an open and the result of a finish as words.
-ghost use Rattle.std.specs.Prelude.{◌≡◌, ◌≤◌, length};
-ghost use Rattle.laws.specs.Lists.{over};
+// The run record, the settings of an open and the result of a finish as words: by functions, since `From` is not open to other crates' types.
+ghost use Rattle.std.specs.Prelude.{◌≡◌, ◌≤◌, List, Float, length};
 ghost use Rattle.step_rules.specs.Rule.{rule_number};
-ghost use Rattle.exports.specs.Words.{run_words, result_words, byte_in, count_in, stage_in, stage_word, rule_in, rule_value, run_in, words_of, result_words_of};
+ghost use Rattle.tables.specs.CostTable.{CostTable};
+ghost use Rattle.run_contract.specs.Calls.{asked_of};
+ghost use Rattle.exports.specs.Words.{run_words, setting_words, byte_in, count_in, stage_in, stage_word, rule_in, rule_value, run_in, words_of, settings_in, result_words_of};
+ghost use Rattle.exports.specs.Answers.{HandsRun};
 
+use crate::answers::hand_words;
 use ieee::bits::{bits_of, bits_of_signed, double_of};
+use refusal::Refusal;
 use run_contract::FinishResult;
-use run_record::{Run, Stage};
+use run_record::{OpenSettings, Run, Stage};
 use step_rules::{StepRule, rule_of};
 
 pub const RUN_WORDS: usize = 13;
@@ -16,25 +20,22 @@ pub const SETTING_WORDS: usize = 8;
 pub const RESULT_WORDS: usize = 11;
 
 // A word as a byte.
+#[tactic(auto, unfolding(crate::specs::Words::within))]
 pub fn byte_in(word: u64) -> u8
     ensures { result ≡ byte_in word }
 {
-    if 255 < word {
-        return 255;
-    }
-    word as u8
+    u8::try_from(word).unwrap_or(u8::MAX)
 }
 
 // A word as a count of 32 bits.
+#[tactic(auto, unfolding(crate::specs::Words::within))]
 pub fn count_in(word: u64) -> u32
     ensures { result ≡ count_in word }
 {
-    if 4294967295 < word {
-        return 4294967295;
-    }
-    word as u32
+    u32::try_from(word).unwrap_or(u32::MAX)
 }
 
+#[tactic(auto, using(crate::proofs::Back::stopped))]
 fn stage_in(word: u64) -> Stage
     ensures { result ≡ stage_in word }
 {
@@ -48,18 +49,16 @@ fn stage_in(word: u64) -> Stage
 fn stage_word(stage: Stage) -> u64
     ensures { result ≡ stage_word stage }
 {
-    match stage {
-        Stage::Open => 0,
-        Stage::Stopped => 1,
-    }
+    stage as u64
 }
 
 // The rule of a word; one above 4 is a momentum that 18 refuses.
+#[tactic(auto, unfolding(crate::specs::Words::rule_in))]
 fn rule_in(word: u64, number: f64) -> StepRule
     ensures { result ≡ rule_in word number }
 {
     if 4 < word {
-        return StepRule::CoordMomentum(0.0 / 0.0);
+        return StepRule::CoordMomentum(f64::NAN);
     }
     rule_of(word as u8, number)
 }
@@ -89,61 +88,60 @@ fn rule_value(rule: StepRule) -> f64
     }
 }
 
-// The run record that words hold.
+// The run record that words hold. Each call tests itself that they are long enough: a reader that answers 31 by `?` would need, beside each call in C, a function of
+// its up to 17 parameters that answers a Result.
+#[tactic(auto, unfolding(crate::specs::Words::run_in))]
 pub fn run_in(words: &[u64]) -> Run
     requires { run_words ≤ length words.now }
     ensures { result ≡ run_in words.now }
 {
-    let rule = rule_in(words[2], double_of(words[3]));
-    let stage = stage_in(words[10]);
     Run {
         size: words[0] as usize,
         rank: words[1] as usize,
-        rule,
+        rule: rule_in(words[2], double_of(words[3])),
         sweeps: count_in(words[4]),
         last_objective: double_of(words[5]),
         objective_tolerance: double_of(words[6]),
         stationarity_tolerance: double_of(words[7]),
         most: count_in(words[8]),
         minimum: count_in(words[9]),
-        stage,
+        stage: stage_in(words[10]),
         status: byte_in(words[11]),
         standing: words[12],
     }
 }
 
 // The words of a run record.
-fn words_of(run: Run) -> [u64; RUN_WORDS]
+pub fn words_of(run: Run) -> [u64; RUN_WORDS]
     ensures { (result ≡ words_of run) × (run_in result ≡ run) }
 {
-    let rule = run.rule;
-    let stage = run.stage;
     [
         run.size as u64,
         run.rank as u64,
-        rule_word(rule),
-        bits_of(rule_value(rule)),
-        run.sweeps as u64,
+        rule_word(run.rule),
+        bits_of(rule_value(run.rule)),
+        u64::from(run.sweeps),
         bits_of(run.last_objective),
         bits_of(run.objective_tolerance),
         bits_of(run.stationarity_tolerance),
-        run.most as u64,
-        run.minimum as u64,
-        stage_word(stage),
-        run.status as u64,
+        u64::from(run.most),
+        u64::from(run.minimum),
+        stage_word(run.stage),
+        u64::from(run.status),
         run.standing,
     ]
 }
 
 // The words of a result.
+#[tactic(auto, unfolding(crate::specs::Words::result_words_of))]
 pub fn result_words(x: FinishResult) -> [u64; RESULT_WORDS]
     ensures { result ≡ result_words_of x }
 {
     [
-        x.status as u64,
+        u64::from(x.status),
         x.rank as u64,
         x.n as u64,
-        x.sweeps as u64,
+        u64::from(x.sweeps),
         bits_of(x.relaxed_objective),
         bits_of(x.float_bound),
         bits_of_signed(x.floor),
@@ -154,30 +152,28 @@ pub fn result_words(x: FinishResult) -> [u64; RESULT_WORDS]
     ]
 }
 
-// Writes words over the front of a slice.
-pub fn put_words(to: &mut [u64], from: &[u64])
-    requires { length from.now ≤ length to.old }
-    ensures { to.new ≡ over from.now to.old }
+// The settings of an open that words hold.
+#[tactic(auto, unfolding(crate::specs::Words::settings_in))]
+pub fn settings_in(words: &[u64]) -> OpenSettings
+    requires { setting_words ≤ length words.now }
+    ensures { (t : CostTable) → (numbers : List Float) → asked_of t result numbers ≡ settings_in t words.now numbers }
 {
-    for k in 0..from.len() {
-        to[k] = from[k];
+    OpenSettings {
+        rank: words[0] as usize,
+        rule: byte_in(words[1]),
+        number: double_of(words[2]),
+        most: count_in(words[3]),
+        minimum: count_in(words[4]),
+        objective_tolerance: double_of(words[5]),
+        stationarity_tolerance: double_of(words[6]),
+        start: byte_in(words[7]),
     }
 }
 
-// Writes a run record over the front of the words.
-pub fn put_run(run: Run, words: &mut [u64])
+// The record that a call answered, over the front of the words; a refusal leaves them.
+pub fn hand_run(answer: Result<Run, Refusal>, words: &mut [u64]) -> u8
     requires { run_words ≤ length words.old }
-    ensures { (words.new ≡ over (words_of run) words.old) × (run_in words.new ≡ run) }
+    ensures { HandsRun answer words.old result words.new }
 {
-    let made = words_of(run);
-    put_words(words, &made);
-}
-
-// Writes a result over the front of the words.
-pub fn put_result(x: FinishResult, words: &mut [u64])
-    requires { result_words ≤ length words.old }
-    ensures { words.new ≡ over (result_words_of x) words.old }
-{
-    let made = result_words(x);
-    put_words(words, &made);
+    hand_words(answer.map(words_of), words)
 }

@@ -1,4 +1,4 @@
-mod ByColumns
+pub mod ByColumns
 pub mod Shaping
 pub mod Updates
 pub mod Written

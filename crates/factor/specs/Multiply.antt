@@ -13,11 +13,14 @@ product_turn cols values factor rank e sums = add_scaled (at values e) (row_of r
 unfoldable pub product_row : List ℕ → List Float → List Float → ℕ → List Float
 product_row cols values factor rank = up_to (product_turn cols values factor rank) (length cols) (replicate rank zero64)
 
--- row i of the table, whose entries lie from starts[i] up to starts[i + 1], times the factor
+-- what f makes of row i of the table, whose entries lie from starts[i] up to starts[i + 1]
+abbrev pub of_row : (List ℕ → List Float → List Float) → List ℕ → List Float → List ℕ → ℕ → List Float
+of_row f cols values starts i =
+    f (part (get_or starts i 0) (get_or starts (i + 1) 0) cols) (part (get_or starts i 0) (get_or starts (i + 1) 0) values)
+
+-- row i of the table times the factor
 abbrev pub product_at : List ℕ → List Float → List ℕ → List Float → ℕ → ℕ → List Float
-product_at cols values starts factor rank i =
-    product_row (part (get_or starts i 0) (get_or starts (i + 1) 0) cols)
-    (part (get_or starts i 0) (get_or starts (i + 1) 0) values) factor rank
+product_at cols values starts factor rank i = of_row (λ cs vs. product_row cs vs factor rank) cols values starts i
 
 -- the first m rows of the table times the factor, row after row
 unfoldable pub product_of : List ℕ → List Float → List ℕ → List Float → ℕ → ℕ → List Float

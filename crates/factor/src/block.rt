@@ -1,28 +1,44 @@
-// A block of N columns of a row of the table times the factor, whose sums stay in registers (002, `grad`).
+// A block of N columns of the sums over a row of the table, which stay in registers (002, `grad`; 001, `gradient_block::<N>`). The row and the factor stay
+// two parameters, here and in columns.rt and blocks.rt: the rank is most often the length of g, so that a value of both, with its rank and what is asked of
+// its columns, would have each function ask that its rank is that length, a clause for a clause. Columns are widened by `as`: tried, of `usize::from` the
+// proof knows the result by its clause alone, which each answer then hands on.
 
-ghost use Rattle.std.specs.Prelude.{◌≡◌, ℕ, ◌+◌, ◌*◌, ◌≤◌, ◌<◌, length, get_or, take, drop};
+ghost use Rattle.std.specs.Prelude.{◌≡◌, false, ℕ, ◌+◌, ◌*◌, ◌≤◌, ◌<◌, length, get_or, take, drop};
 ghost use Rattle.laws.specs.Rows.{map_first};
 ghost use Rattle.ieee.specs.Floats.{at};
 ghost use Rattle.factor.specs.Shapes.{ColumnsWithin};
 ghost use Rattle.factor.specs.Columns.{block_entry, block_to, put_block};
 
-// The N sums with weight times source added.
-fn add<const N: usize>(sums: &mut [f64; N], weight: f64, source: &[f64])
+use super::table::Row;
+use super::term::Term;
+
+// The N sums with weight times source.
+fn add<T: Term, const N: usize>(term: T, sums: &mut [f64; N], weight: f64, source: &[f64])
     requires { length source.now ≡ N }
-    ensures { sums.new ≡ block_entry N weight source.now sums.old }
+    ensures { sums.new ≡ block_entry (T.joins term) false N weight source.now sums.old }
 {
     for j in 0..N {
-        sums[j] = sums[j] + weight * source[j];
+        sums[j] = term.joined(sums[j], weight * source[j]);
     }
 }
 
-// One entry of the row, whose N elements of the factor lie from `start` on.
-fn add_entry<const N: usize>(sums: &mut [f64; N], factor: &[f64], weight: f64, start: usize)
+// One entry of the row, at column k, whose N elements of the factor lie from `start` on.
+pub fn add_entry<T: Term, const N: usize>(
+    term: T,
+    sums: &mut [f64; N],
+    factor: &[f64],
+    k: usize,
+    weight: f64,
+    start: usize,
+)
     requires { start + N ≤ length factor.now }
-    ensures { sums.new ≡ block_entry N weight (take N (drop start factor.now)) sums.old }
+    ensures { sums.new ≡ block_entry (T.joins term) (T.leaves term k) N weight (take N (drop start factor.now)) sums.old }
 {
+    if term.leaves_out(k) {
+        return;
+    }
     let end = start + N;
-    add(sums, weight, &factor[start..end]);
+    add(term, sums, weight, &factor[start..end]);
 }
 
 // The N sums, copied.
@@ -30,47 +46,49 @@ pub fn copy<const N: usize>(out: &mut [f64], sums: &[f64; N])
     requires { length out.old ≡ N }
     ensures { out.new ≡ map_first (λ j old. at sums.now j) N out.old }
 {
+    // a loop over N, which the compiler lays out: `copy_from_slice` goes by the length of `out`, which the compiler doesn't know to be N, and is a call
     for j in 0..N {
         out[j] = sums[j];
     }
 }
 
-// The sums of N columns from `offset` on.
-fn product_block<const N: usize>(
-    cols: &[u16],
-    values: &[f64],
+// The sums of N columns from `offset` on. Inlined, so that the compiler sees the rank where the caller names it.
+#[inline(always)]
+pub fn block<T: Term, const N: usize>(
+    term: T,
+    row: Row,
     factor: &[f64],
     rank: usize,
     offset: usize,
     out: &mut [f64],
 )
-    requires out_len { (length out.old ≡ N) × (length cols.now ≡ length values.now) }
-    requires by_index { (e : ℕ) → e < length cols.now → get_or cols.now e 0 * rank + offset + N ≤ length factor.now }
-    ensures { out.new ≡ block_to cols.now values.now factor.now rank offset N (length cols.now) }
+    requires out_len { length out.old ≡ N }
+    requires by_index { (e : ℕ) → e < length row.cols.now → get_or row.cols.now e 0 * rank + offset + N ≤ length factor.now }
+    ensures { out.new ≡ block_to (T.joins term) (T.leaves term) row.entry.cols.now row.entry.values.now factor.now rank offset N (length row.entry.cols.now) }
 {
     let mut sums = [0.0; N];
-    for e in 0..cols.len() {
-        let k = cols[e] as usize;
+    for e in 0..row.cols.len() {
+        let k = row.cols[e] as usize;
         let start = k * rank + offset;
-        add_entry(&mut sums, factor, values[e], start);
+        add_entry(term, &mut sums, factor, k, row.values[e], start);
     }
     copy(out, &sums);
 }
 
 // The columns from `offset` on, written where they lie in g.
-pub fn put_block<const N: usize>(
-    cols: &[u16],
-    values: &[f64],
+pub fn put_block<T: Term, const N: usize>(
+    term: T,
+    row: Row,
     factor: &[f64],
     offset: usize,
     g: &mut [f64],
 )
-    requires offset_in_bounds { (offset + N ≤ length g.old) × (length cols.now ≡ length values.now) }
-    requires columns_within { ColumnsWithin cols.now (length g.old) factor.now }
+    requires offset_in_bounds { offset + N ≤ length g.old }
+    requires columns_within { ColumnsWithin row.cols.now (length g.old) factor.now }
     ensures { g.new ≡ put_block N offset
-        (block_to cols.now values.now factor.now (length g.old) offset N (length cols.now)) g.old }
+        (block_to (T.joins term) (T.leaves term) row.entry.cols.now row.entry.values.now factor.now (length g.old) offset N (length row.entry.cols.now)) g.old }
 {
     let rank = g.len();
     let end = offset + N;
-    product_block::<N>(cols, values, factor, rank, offset, &mut g[offset..end]);
+    block::<T, N>(term, row, factor, rank, offset, &mut g[offset..end]);
 }

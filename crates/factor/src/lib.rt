@@ -4,7 +4,9 @@
 
 pub mod sums; // sums.rt: dot products, sums and squared norms
 pub mod rows; // rows.rt: a row at a time, and the projection
-pub mod block; // block.rt: a block of columns of a row of the table times the factor
-mod columns; // columns.rt: a column
-mod blocks; // blocks.rt: a row by blocks of columns
+pub mod term; // term.rt: how an entry of a row of the table enters a sum
+pub mod block; // block.rt: a block of columns of the sums over a row
+pub mod table; // table.rt: a table made ready for the float work, and a row of it
+pub mod columns; // columns.rt: a column
+pub mod blocks; // blocks.rt: a row by blocks of columns
 pub mod product; // product.rt: the table times the factor

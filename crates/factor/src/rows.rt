@@ -39,14 +39,14 @@ pub fn update_with<F: Fn(f64, f64) -> f64>(acc: &mut [f64], source: &[f64], f: F
     }
 }
 
-// Every element becomes 0.0.
+// Every element becomes 0.0: `fill` by the definitions' `zero64`.
 pub fn clear(g: &mut [f64])
     ensures { g.new ≡ replicate (length g.old) zero64 }
 {
     g.fill(0.0);
 }
 
-// The elements of `source`, copied.
+// The elements of `source`, copied. What `copy_from_slice` ensures is no equation, and callers' answers, which rewrite by one, would each open it (tried).
 pub fn copy(out: &mut [f64], source: &[f64])
     requires { length out.old ≡ length source.now }
     ensures { out.new ≡ source.now }
@@ -77,7 +77,8 @@ pub fn scale(row: &mut [f64], by: f64)
     update(row, |x| x * by);
 }
 
-// `by` times each element.
+// `by` times each element. Not `scale`, whose product stands the other way round: the definitions keep the order of 001 and of 002, and one function for
+// both would need a law of the product at each use.
 pub fn multiply_by(xs: &mut [f64], by: f64)
     ensures { xs.new ≡ multiplied by xs.old }
 {
@@ -107,6 +108,7 @@ pub fn norm_l2(row: &[f64]) -> f64
 }
 
 // The row divided by its norm.
+#[tactic(auto, unfolding(crate::specs::Vectors::unit))]
 pub fn normalize(row: &mut [f64])
     ensures { row.new ≡ unit row.old }
 {
@@ -114,7 +116,7 @@ pub fn normalize(row: &mut [f64])
     divide(row, norm);
 }
 
-// Row i divided by its norm.
+// Row i divided by its norm. The cut of a row that is written stands where it is used: a function that lends it on (`&mut s[start..end]`, with `Lends` and `set_row`) got no proof.
 fn normalize_row(factor: &mut [f64], rank: usize, i: usize)
     requires { i * rank + rank ≤ length factor.old }
     ensures { factor.new ≡ unit_row rank i factor.old }

@@ -15,6 +15,7 @@ pub fn dot(a: &[f64], b: &[f64]) -> f64
     sum
 }
 
+// Four sums by name: of an array, each clause would say `get_or result 0 nan` in the place of `result.first`, no plainer.
 #[derive(Drop)]
 pub struct Four {
     pub first: f64,
@@ -23,7 +24,8 @@ pub struct Four {
     pub fourth: f64,
 }
 
-// The dot products of `a` with four others at once, each left to right from 0.0.
+// The dot products of `a` with four others at once, each left to right from 0.0: the four sums wait for each other's turn, not for their own. `dot` is no
+// case of it, since one sum alone is what most callers need.
 pub fn dot_four(a: &[f64], b: &[f64], c: &[f64], d: &[f64], e: &[f64]) -> Four
     requires { (length a.now ≡ length b.now) × (length a.now ≡ length c.now) × (length a.now ≡ length d.now) × (length a.now ≡ length e.now) }
     ensures { (result.first ≡ dot_of a.now b.now) × (result.second ≡ dot_of a.now c.now)
@@ -53,8 +55,8 @@ pub fn sum(a: &[f64]) -> f64
     ensures { result ≡ sum_of a.now }
 {
     let mut total = 0.0;
-    for i in 0..a.len() {
-        total = total + a[i];
+    for x in a {
+        total = total + *x;
     }
     total
 }
@@ -95,6 +97,7 @@ fn add_squares(values: &[f64], start: usize, count: usize, sum: f64) -> f64
 }
 
 // The sum of squares by four running sums, then the elements that fill no quad.
+#[tactic(auto, unfolding(crate::specs::Norms::squared_norm))]
 pub fn squared_norm(values: &[f64]) -> f64
     ensures { result ≡ squared_norm values.now }
 {

@@ -1,7 +1,7 @@
 -- What holds where a call is accepted, and how its 31 is put together.
 -- Assumes nothing.
 use mathlib.Core.Path.{◌≡◌, refl, sym, ap, ◌∙◌}
-use mathlib.Core.Bool.{Bool, true, false, ◌&&◌}
+use mathlib.Core.Bool.{Bool, true, false}
 use mathlib.Core.List.{List, [], ◌∷◌}
 use Prim.Native.Nat.{ℕ, zero, suc, ◌*◌, ◌≤◌}
 use native.Mathlib.Omega.{arith}
@@ -12,7 +12,7 @@ use lib.IntN.{ℤ}
 use lib.Ieee.{Float}
 use Rattle.laws.specs.Refusal.{◌if◌, first, any_of, short}
 use Rattle.laws.proofs.Refusal.{clear, first_head, first_rest}
-use Rattle.laws.proofs.Any.{any_head, any_rest, any_not, any_none, any_skip, any_last}
+use Rattle.laws.proofs.Any.{any_head, any_rest, any_not, any_none, any_skip, any_last, and_left, and_right}
 use Rattle.limits.specs.Limits.{most_signs, most_sign_entries, most_sign_magnitude, most_rank, most_draws}
 use Rattle.tables.specs.Table.{Table, Lent, table_of}
 use Rattle.rounding.specs.Rounding.{least_draw, rounded_sol}
@@ -20,9 +20,11 @@ use Rattle.rounding.proofs.Least.{length_signs_of}
 use Rattle.tables.specs.Check.{Accepted, short_table}
 use Rattle.tables.proofs.Checks.{long_enough, table_lent, table_accepted}
 use Rattle.run_limits.specs.Rank.{rank_meant}
+use Rattle.run_limits.specs.Draws.{bad_draws}
+use Rattle.run_limits.proofs.Counts.{draws_some, draws_few}
 use Rattle.table_calls.specs.Numbers.{bad_signs, sign_table_number}
 use Rattle.table_calls.proofs.Accepting.{signs_passes, signs_parts}
-use Rattle.factor_calls.specs.Numbers.{bad_rank, bad_draws, factor_refused, factor_short, draws_refused, draws_short, rounded_short, rounded_number, dual_short, dual_number, bad_given_rank, given_factor_short, divided_short, divided_number, given_rank}
+use Rattle.factor_calls.specs.Numbers.{bad_rank, factor_refused, factor_short, draws_refused, draws_short, rounded_short, rounded_number, dual_short, dual_number, bad_given_rank, given_factor_short, divided_short, divided_number, given_rank}
 
 -- a draw's signs are m
 pub length_rounded_sol : (factor : List Float) (rank m : ℕ) (draws : List Float) (t : Table) (count : ℕ) → length (rounded_sol factor rank m draws t count) ≡ m
@@ -46,21 +48,14 @@ pub draws_tested : (m rank k lent : ℕ) {r : ℕ} → draws_refused m rank k �
 unfolding draws_short short
 draws_tested m rank k lent e q = rw q (simp e)
 
-and_right : (a b : Bool) → b ≡ false → (a && b) ≡ false
-and_right true b e = e
-and_right false b e = refl
-
-and_left : (a b : Bool) → a ≡ true → (a && b) ≡ false → b ≡ false
-and_left a b e f = rw e at f
-
 -- what the draws' length rests on, where it isn't refused
 pub draws_good : (m rank k : ℕ) → draws_refused m rank k ≡ false → (rank ≡ 0 → m ≤ most_signs) × (rank ≤ most_rank) × (k ≤ most_draws)
-unfolding draws_refused bad_draws
+unfolding draws_refused
 draws_good m rank k e =
     let rest = any_rest _ _ e in (
       λ z. (signs_parts m (and_left (eqb rank 0) (bad_signs m) (rw z) (any_head _ _ (any_rest _ _ rest)))).1,
       ltb-false most_rank rank (any_head _ _ rest),
-      ltb-false most_draws k (any_head _ _ (any_rest _ _ (any_head _ _ e))),
+      draws_few k (any_head _ _ e),
     )
 
 pub record RoundedUsable (m count : ℕ) (rows cols : List ℕ) (values : List ℤ) (rank factor k draws out : ℕ) : Type 0 where
@@ -79,7 +74,7 @@ module _ (m count : ℕ) (rows cols : List ℕ) (values : List ℤ) (rank factor
   rounded_lent s h = table_lent (any_head _ _ s) h
 
   pub rounded_accepted : rounded_number m count rows cols values rank factor k draws out ≡ 0 → RoundedUsable m count rows cols values rank factor k draws out
-  unfolding rounded_number rounded_short factor_short factor_refused draws_short draws_refused bad_draws
+  unfolding rounded_number rounded_short factor_short factor_refused draws_short draws_refused
   rounded_accepted ok =
       let later = first_rest _ _ ok in
       let s = clear (rounded_short m count (length rows) (length cols) (length values) rank factor k draws out) 30 (first_head _ _ ok) in
@@ -91,7 +86,7 @@ module _ (m count : ℕ) (rows cols : List ℕ) (values : List ℤ) (rank factor
         lent = rounded_lent s t.entries;
         table = t;
         rank_low = ltb-false most_rank rank low;
-        some = ltb-false k 1 (any_head _ _ many);
+        some = draws_some k many;
         factor_long = long_enough (any_head _ _ (any_rest _ _ s)) (any_not _ _ signs (any_not _ _ low any_none));
         draws_long = long_enough (any_head _ _ (any_rest _ _ (any_rest _ _ s))) (any_not _ _ many (any_not _ _ low (any_not _ _ (and_right (eqb rank 0) (bad_signs m) signs) any_none)));
         out_long = long_enough (any_head _ _ (any_rest _ _ (any_rest _ _ (any_rest _ _ s)))) signs;

@@ -5,7 +5,6 @@ use native.Mathlib.Decide.{ℕ_discrete}
 use native.Mathlib.Numerals.{add-one}
 use native.Mathlib.Omega.{arith}
 use borrow.Author.Tests.{eq-eqb, ne_eqb}
-use mathlib.Core.Bool.{false}
 use mathlib.Core.Logic.{inl, inr}
 use mathlib.Core.List.{List}
 use mathlib.Core.Path.{◌≡◌, sym, ap, ◌∙◌}
@@ -16,8 +15,8 @@ use Rattle.laws.specs.Rows.{row_of}
 use Rattle.laws.proofs.UpTo.{up_to_next}
 use Rattle.ieee.specs.Floats.{zero64, eighth_of}
 use Rattle.tables.specs.Table.{Table, Before, Rising}
-use Rattle.sign_table.specs.Walk.{At, RowAt, in_row}
-use Rattle.sign_table.proofs.Cursor.{row_end}
+use Rattle.sign_table.specs.Walk.{At, RowAt}
+use Rattle.sign_table.proofs.Cursor.{in_row_false, row_end}
 use Rattle.factor.specs.Vectors.{add_scaled}
 use Rattle.maxcut_oracle.specs.Whole.{row_takes, whole_turn, whole_row}
 
@@ -68,8 +67,8 @@ module _ (t : Table) (rank : ℕ) (factor : List Float) (i : ℕ) where
   row_ends to at = sym (up_to_skip (whole_turn t rank factor i) to t.count (replicate rank zero64) at.inside (λ k l h. takes_none k (λ e. at.ahead k l h (inl (omega arith)))))
 
   -- where the next entry isn't of row i, the row is done and the next one starts
-  pub row_done : (to : ℕ) → Rising t → RowAt t.count t.row to i → in_row t.count t.row i to ≡ false
+  pub row_done : (to : ℕ) → Rising t → RowAt t.count t.row to i → (to < t.count → t.row to ≡ i → ⊥)
       → (sums : List Float) → sums ≡ up_to (whole_turn t rank factor i) to (replicate rank zero64) → (sums ≡ whole_row t rank factor i) × At t to (i + 1) 0
   row_done to rising at past sums is =
-      let next : At t to (suc i) 0 = row_end t to i rising at past in
+      let next : At t to (suc i) 0 = row_end t to i rising at (in_row_false t.count t.row i to past) in
       (is ∙ row_ends to next, rw (add-one i) next)

@@ -2,18 +2,15 @@
 -- 31, 13 to 16, 17, and 19 of the draws. A length that rests on a number which is itself refused isn't tested.
 use Rattle.std.specs.Prelude.{Bool, ◌&&◌, List, [], ◌∷◌, ℕ, zero, suc, ◌*◌, ltb, eqb, length, ℤ}
 use Rattle.laws.specs.Refusal.{◌if◌, first, any_of, short}
-use Rattle.limits.specs.Limits.{most_sign_entries, most_rank, most_draws}
+use Rattle.limits.specs.Limits.{most_sign_entries, most_rank}
 use Rattle.tables.specs.Check.{short_table}
 use Rattle.run_limits.specs.Rank.{rank_meant}
+use Rattle.run_limits.specs.Draws.{bad_draws}
 use Rattle.table_calls.specs.Numbers.{bad_signs, sign_table_number}
 
 -- 17
 abbrev pub bad_rank : ℕ → Bool
 bad_rank rank = ltb most_rank rank
-
--- 19: draws not 1 to 1,000
-unfoldable pub bad_draws : ℕ → Bool
-bad_draws k = any_of (ltb k 1 ∷ ltb most_draws k ∷ [])
 
 -- 31 of a factor of m rows, which rests on m and the rank
 unfoldable pub factor_refused : ℕ → ℕ → Bool

@@ -2,11 +2,10 @@
 // result field of a run is `maxcut_oracle::objective::dual_variables`.
 
 ghost use Rattle.std.specs.Prelude.{◌≡◌, ◌+◌, ◌*◌, ◌≤◌, length};
-ghost use Rattle.laws.specs.Lists.{elem};
 ghost use Rattle.laws.specs.Rows.{row_of};
 ghost use Rattle.ieee.specs.Floats.{◌/ᶠ◌, eighth_of};
-ghost use Rattle.tables.specs.Table.{table_of, Lent, InRange, Rising};
-ghost use Rattle.sign_table.specs.Walk.{At, in_row};
+ghost use Rattle.tables.specs.Table.{InRange, Rising};
+ghost use Rattle.sign_table.specs.Walk.{At};
 ghost use Rattle.factor.specs.Vectors.{add_scaled};
 ghost use Rattle.factor.specs.Norms.{dot_of};
 ghost use Rattle.maxcut_oracle.specs.Whole.{whole_row};
@@ -15,19 +14,7 @@ ghost use Rattle.tables.specs.Entries.{listed};
 
 use factor::rows::{add_scaled, clear, row};
 use factor::sums::dot;
-use tables::check::wide;
 use tables::entries::Entries;
-
-// Whether entry e is there, in row i.
-fn in_row(count: usize, rows: &[u16], i: usize, e: usize) -> bool
-    requires { count ≤ length rows.now }
-    ensures { result ≡ in_row count (elem rows.now) i e }
-{
-    if e < count {
-        return wide(rows[e]) == i;
-    }
-    false
-}
 
 // An entry of column j and `value` eighths: `value` / 8 times row j of the factor, added to `sums`.
 fn take_entry(j: usize, value: i64, factor: &[f64], rank: usize, sums: &mut [f64])
@@ -47,20 +34,26 @@ fn whole_row(
     from: usize,
     sums: &mut [f64],
 ) -> usize
-    requires lent { InRange m (listed table) }
+    requires in_range { InRange m (listed table) }
     requires rising { Rising (listed table) × At (listed table) from i 0 }
     requires rank_in_bounds { (m * rank ≤ length factor.now) × (length sums.old ≡ rank) }
     ensures sums_after { sums.new ≡ whole_row (listed table.entry) rank factor.now i }
     ensures at { At (listed table.entry) result (i + 1) 0 }
 {
     clear(sums);
-    let mut e = from;
-    // the end is found by the entries
-    while in_row(table.count, table.rows, i, e) {
-        take_entry(wide(table.cols[e]), table.values[e], factor, rank, sums);
-        e += 1;
+    for e in from..table.count {
+        if usize::from(table.rows[e]) != i {
+            return e;
+        }
+        take_entry(
+            usize::from(table.cols[e]),
+            table.values[e],
+            factor,
+            rank,
+            sums,
+        );
     }
-    e
+    table.count
 }
 
 // A row's sums times the row, divided by the row's product with itself: both products in one pass.
@@ -100,7 +93,7 @@ pub fn whole_multipliers(
     sums: &mut [f64],
     dual: &mut [f64],
 )
-    requires lent { InRange m (listed table) × Rising (listed table) }
+    requires in_order { InRange m (listed table) × Rising (listed table) }
     requires rank_in_bounds { (m * rank ≤ length factor.now) × (length sums.old ≡ rank) × (length dual.old ≡ m) }
     ensures { dual.new ≡ multipliers_by divided (listed table.entry) m rank factor.now }
 {

@@ -2,18 +2,16 @@
 --     chooses         the rounding, the search and the decoding
 --     works           all figures of a sign table
 --     finalizes       they are those of (H, c)
---     cut             the sign table of (H, c) stands at the front of the slices that it was written to
 use Prim.Native.Nat.{ℕ, zero, suc, ◌+◌, ◌*◌, ◌≤◌, ◌<◌}
 use native.Mathlib.Numerals.{add-one}
 use native.Mathlib.Omega.{arith}
 use mathlib.Core.Bool.{Bool, true, false}
 use mathlib.Core.List.{List}
-use mathlib.Core.Path.{◌≡◌, refl, sym, ap, subst, subst₂, ◌∙◌}
+use mathlib.Core.Path.{◌≡◌, refl, sym, ap, subst, ◌∙◌}
 use lib.IntN.{ℤ}
 use lib.Ieee
 use lib.Ieee.{Float}
-use lib.ListN.{length, take, length-map}
-use lib.Seq.{sets, sets-eq, take_at, length-take-le}
+use lib.ListN.{length}
 use mir.Syntax.{w64}
 use mir.Val.{to_z, of_z}
 use mir.Facts.{to_z-of_z}
@@ -21,13 +19,12 @@ use Rattle.laws.specs.Lists.{over, fill, tabulate}
 use Rattle.laws.specs.Rows.{row_of}
 use Rattle.laws.proofs.MapFirst.{fill_none, fill_more}
 use Rattle.laws.proofs.Made.{tabulate_next}
-use Rattle.limits.specs.Limits.{most_wagons, most_entries, most_magnitude, most_signs, most_sign_entries, most_sign_magnitude, most_words, most_width, search_workspace}
-use Rattle.tables.specs.Table.{Table, table_of, Lent, floor_of}
-use Rattle.tables.specs.Check.{Hall, Accepted}
+use Rattle.limits.specs.Limits.{most_signs, most_sign_entries, most_sign_magnitude, most_words, most_width, search_workspace}
+use Rattle.tables.specs.Table.{Table, floor_of}
+use Rattle.tables.specs.Check.{Accepted}
 use Rattle.tables.specs.Bound.{entrywise}
 use Rattle.tables.specs.Cost.{decoded_byte}
-use Rattle.tables.specs.Stored.{rows_of, cols_of, values_of, Wrote}
-use Rattle.sign_table.specs.SignTable.{sign_of, sign_places, sign_table}
+use Rattle.sign_table.specs.SignTable.{sign_table}
 use Rattle.ieee.specs.Floats.{zero64}
 use Rattle.factor.specs.Norms.{dot_of}
 use Rattle.factor.specs.Vectors.{unit}
@@ -39,7 +36,6 @@ use Rattle.sign_search.specs.Clauses.{Found-by, Sound, LevelRoom}
 use Rattle.sign_search.proofs.Lawful.{objective_fits}
 use Rattle.sign_search.proofs.Theorems.{accepted_mirrors}
 use Rattle.sign_search.proofs.TurnLaws.{rising_climbs}
-use Rattle.sign_table.proofs.Theorems.{hall_sign_table}
 use Rattle.prepared_table.specs.Work.{diagonal_sum}
 use Rattle.maxcut_oracle.specs.Table.{dual_variables}
 use Rattle.finalize.specs.Finalize.{choice_of, floor_eighths, float_bound, diagonal_total, multipliers_of, rounded_signs, rounded_cost, search_result, searched_choice, searched_cost, searched_rounds}
@@ -52,9 +48,6 @@ module _ {A : Type 0} where
   fill_tabulate f l (suc n) h =
       subst (λ (k : ℕ). fill f k l ≡ over (tabulate f k) l) (add-one n)
       (sym (fill_more f l n refl refl) ∙ tabulate_next f n l (fill f n l) (f n) (omega arith) (fill_tabulate f l n (omega arith)))
-
-  pub taken : (xs l : List A) (n : ℕ) → n ≡ length xs → n ≤ length l → take n (sets l 0 xs) ≡ xs
-  taken xs l n e h = rw (sets-eq xs l 0 (omega arith)) (take_at xs _ n (sym e))
 
 rounded_objective_lem : (factor : List Float) (rank m : ℕ) (draws : List Float) (t : Table) (draw_count : ℕ)
     → rounded_objective factor rank m draws t draw_count ≡ objective_in t (rounded_sol factor rank m draws t draw_count)
@@ -97,19 +90,17 @@ module _ {m : ℕ} {t : Table} (ok : Accepted most_signs most_sign_entries most_
 
 module _ {t : Table} {n rank width draw_count : ℕ} {draws factor : List Float} {b b' : List ℕ} {multipliers multipliers' : List Float}
     {diagonal bound : Float} {floor rounded cost : ℤ} {rounds : ℕ} where
-  pub works : Accepted most_signs most_sign_entries most_sign_magnitude (suc n) t → Chooses t n rank width draw_count draws factor b b' rounded cost rounds
+  pub works : Chooses t n rank width draw_count draws factor b b' rounded cost rounds
       → diagonal ≡ diagonal_sum t (n + 1) → bound ≡ entrywise t → floor ≡ floor_of t → multipliers' ≡ over (dual_variables t (n + 1) rank factor) multipliers
-      → Works t n rank width draw_count draws factor b b' multipliers multipliers' diagonal bound floor (to_z w64 (of_z w64 rounded)) (to_z w64 (of_z w64 cost)) rounds
-  works ok ch d u f m =
-      subst₂ (λ (x y : ℤ). Works t n rank width draw_count draws factor b b' multipliers multipliers' diagonal bound floor x y rounds)
-      (sym (objective_held ok _ ch.rounded_is)) (sym (objective_held ok _ ch.cost_is))
-      (record {
+      → Works t n rank width draw_count draws factor b b' multipliers multipliers' diagonal bound floor rounded cost rounds
+  works ch d u f m =
+      record {
         chooses = ch;
         diagonal_is = d ∙ ap (diagonal_sum t) (add-one n);
         bound_is = u;
         floor_is = f;
         multipliers_are = m ∙ ap (λ (k : ℕ). over (dual_variables t k rank factor) multipliers) (add-one n);
-      })
+      }
 
 module _ (n : ℕ) (h : Table) (c : ℕ → ℤ) (rank width draw_count : ℕ) (draws factor : List Float) {b b' : List ℕ} {multipliers multipliers' : List Float}
     {diagonal bound : Float} {floor rounded cost : ℤ} {rounds : ℕ} where
@@ -132,57 +123,6 @@ module _ (n : ℕ) (h : Table) (c : ℕ → ℤ) (rank width draw_count : ℕ) (
       → Finalizes n h c rank width draw_count draws factor b b' multipliers multipliers' diagonal bound floor rounded cost rounds
   finalizes e w =
       of_signs (subst (λ (t : Table). Works t n rank width draw_count draws factor b b' multipliers multipliers' diagonal bound floor rounded cost rounds) e w)
-
--- ---- the sign table at the front of the slices that `sign_matrix` wrote
-
-pub record Cut (n : ℕ) (h : Table) (c : ℕ → ℤ) (entries : ℕ) (rows cols : List ℕ) (values : List ℤ) : Type 0 where
-  pub rows_fit : entries ≤ length rows
-  pub cols_fit : entries ≤ length cols
-  pub values_fit : entries ≤ length values
-  pub is : table_of entries (take entries rows) (take entries cols) (take entries values) ≡ sign_table n h c
-
-module _ (n : ℕ) (h : Table) (c : ℕ → ℤ) where
-  cut_is : {rows cols rows' cols' : List ℕ} {values values' : List ℤ} (entries : ℕ)
-      → Wrote (sign_of n h c) (sign_places n h c) 0 rows cols values rows' cols' values' → entries ≡ length (sign_places n h c)
-      → entries ≤ length rows → entries ≤ length cols → entries ≤ length values
-      → table_of entries (take entries rows') (take entries cols') (take entries values') ≡ sign_table n h c
-  cut_is {rows} {cols} {values = values} entries w e r k v =
-      let ps = sign_places n h c in
-      rw (
-        w.rows_are,
-        w.cols_are,
-        w.values_are,
-        taken (rows_of ps) rows entries (e ∙ sym (length-map ps (λ p. p.0))) r,
-        taken (cols_of ps) cols entries (e ∙ sym (length-map ps (λ p. p.1))) k,
-        taken (values_of (sign_of n h c) ps) values entries (e ∙ sym (length-map ps (λ p. sign_of n h c p.0 p.1))) v,
-        e,
-      )
-
-  pub cut : {rows cols rows' cols' : List ℕ} {values values' : List ℤ} (entries : ℕ) → Hall most_wagons most_entries most_magnitude n h c
-      → Wrote (sign_of n h c) (sign_places n h c) 0 rows cols values rows' cols' values' → entries ≡ length (sign_places n h c)
-      → (most_sign_entries ≡ length rows) × (length rows' ≡ length rows) → (most_sign_entries ≡ length cols) × (length cols' ≡ length cols)
-      → (most_sign_entries ≡ length values) × (length values' ≡ length values)
-      → Cut n h c entries rows' cols' values'
-  cut entries hall w e r k v =
-      let few : length (sign_places n h c) ≤ most_sign_entries = (hall_sign_table hall).entries in
-      record {
-        rows_fit = omega (arith, few, e, r.0, r.1);
-        cols_fit = omega (arith, few, e, k.0, k.1);
-        values_fit = omega (arith, few, e, v.0, v.1);
-        is = cut_is entries w e (omega (arith, few, e, r.0)) (omega (arith, few, e, k.0)) (omega (arith, few, e, v.0));
-      }
-
-module _ {n : ℕ} {h : Table} {c : ℕ → ℤ} {entries : ℕ} {rows cols : List ℕ} {values : List ℤ} (k : Cut n h c entries rows cols values) where
-  pub cut_accepted : Hall most_wagons most_entries most_magnitude n h c → Accepted most_signs most_sign_entries most_sign_magnitude (suc n) (table_of entries (take entries rows) (take entries cols) (take entries values))
-  cut_accepted hall = rw k.is (hall_sign_table hall)
-
-  pub cut_lent : Lent entries (take entries rows) (take entries cols) (take entries values)
-  cut_lent =
-      record {
-        rows_there = omega (arith, length-take-le entries rows k.rows_fit);
-        cols_there = omega (arith, length-take-le entries cols k.cols_fit);
-        values_there = omega (arith, length-take-le entries values k.values_fit);
-      }
 
 module _ {n rank width draw_count draws factor b multipliers workspace : ℕ} (fits : Fits n rank width draw_count draws factor b multipliers workspace) where
   -- a factor that is cut to its rows, a workspace to what is asked

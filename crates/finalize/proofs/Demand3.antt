@@ -52,7 +52,7 @@ differ_all n b b' d = record { differ = d }
 
 -- ---- choices
 
-decoded_byte_lem : (n : ℕ) (signs : List ℕ) (i : ℕ) → (decoded_byte n signs i ≤ 1) × (bit (decoded_byte n signs i) ≡ decoded n signs i)
+pub decoded_byte_lem : (n : ℕ) (signs : List ℕ) (i : ℕ) → (decoded_byte n signs i ≤ 1) × (bit (decoded_byte n signs i) ≡ decoded n signs i)
 unfolding decoded_byte
 decoded_byte_lem n signs i = go (same_sign (elem signs i) (elem signs n))
   where
@@ -77,7 +77,7 @@ module _ (n : ℕ) (signs : List ℕ) where
   unfolding choice_of
   alone_at_lem i h = ap bit (get_d_tabulate (decoded_byte n signs) n i 0 h) ∙ (decoded_byte_lem n signs i).1
 
-other : (x y : ℕ) → (bit x ≡ bit y → ⊥) → bit y ≡ pos 1 -ℤ bit x
+pub other : (x y : ℕ) → (bit x ≡ bit y → ⊥) → bit y ≡ pos 1 -ℤ bit x
 other zero zero d = absurd (d refl)
 other zero (suc y) d = refl
 other (suc x) zero d = refl

@@ -1,5 +1,5 @@
 -- What the accepted part of a finish asks and leaves.
-use Rattle.std.specs.Prelude.{ℕ, suc, ◌*◌, ◌≤◌, ◌<◌, List, ◌≡◌, ℤ, Float}
+use Rattle.std.specs.Prelude.{ℕ, suc, ◌*◌, ◌≤◌, List, ◌≡◌, ℤ, Float}
 use Rattle.laws.specs.Lists.{over}
 use Rattle.tables.specs.Table.{Table, floor_of}
 use Rattle.tables.specs.Bound.{entrywise}
@@ -52,15 +52,6 @@ pub record Chooses (t : Table) (n rank width draw_count : ℕ) (draws factor : L
   pub cost_is : cost ≡ objective_in t (beam_search t width (rounded_sol factor rank (suc n) draws t draw_count)).answer
   pub rounds_are : rounds ≡ (beam_search t width (rounded_sol factor rank (suc n) draws t draw_count)).rounds
   pub choice_is : b' ≡ over (choice_of n (beam_search t width (rounded_sol factor rank (suc n) draws t draw_count)).answer) b
-
--- room for a table of m rows without its diagonal, for a row of its product with the factor, and for m multipliers
-pub record Rooms (entries m rank : ℕ) (rows cols values starts sums multipliers : ℕ) : Type 0 where
-  pub rows_room : entries ≤ rows
-  pub cols_room : entries ≤ cols
-  pub values_room : entries ≤ values
-  pub starts_room : m < starts
-  pub sums_size : sums ≡ rank
-  pub multipliers_size : multipliers ≡ m
 
 -- all figures
 pub record Works (t : Table) (n rank width draw_count : ℕ) (draws factor : List Float) (b b' : List ℕ) (multipliers multipliers' : List Float)

@@ -1,33 +1,26 @@
 // The rounded choice of a factor, the search from it, and the choice that its answer decodes to (000, 002, 003).
 ghost use Rattle.std.specs.Prelude.{◌≡◌, suc, ◌≤◌, length};
-ghost use Rattle.tables.specs.Table.{table_of, Lent};
 ghost use Rattle.tables.specs.Check.{Accepted};
 ghost use Rattle.limits.specs.Limits.{most_signs, most_sign_entries, most_sign_magnitude, most_rank};
 ghost use Rattle.finalize.specs.Clauses.{ChoiceFits, Chooses};
 ghost use Rattle.tables.specs.Entries.{listed};
 
-use super::room;
+use super::{Chosen, room};
 use rounding::compute_rounded_sol;
+use run_limits::Draws;
 use sign_search::search::search_signs;
 use tables::entries::Entries;
 use tables::objective::qubo_binary_from_sign_solution;
 
-// The cost of the rounded choice, that of the search's answer, and the rounds.
-#[derive(Drop)]
-pub struct Chosen {
-    pub rounded_cost: i64,
-    pub cost: i64,
-    pub rounds: u64,
-}
-
+// `Accepted` stays a clause here and at `finalize_signs`: a ghost field must be a proposition, which it is not (`Mirrored` says "there is"), and a struct that says
+// it by the table's number would have to be written out, and its number proved, by the one function that makes the table, `finalize`.
 // `choose`, with room for a direction of rank numbers and twice n + 1 signs.
 fn search_from(
     n: usize,
     table: Entries,
     rank: usize,
     width: usize,
-    draw_count: usize,
-    draws: &[f64],
+    draws: Draws,
     factor: &[f64],
     direction: &mut [f64],
     signs: &mut [u8],
@@ -35,10 +28,10 @@ fn search_from(
     b: &mut [u8],
     workspace: &mut [u64],
 ) -> Chosen
-    requires lent { Accepted most_signs most_sign_entries most_sign_magnitude (suc n) (listed table) }
-    requires choice_fits { ChoiceFits n rank width draw_count (length draws.now) (length factor.now) (length b.old) (length workspace.old)
+    requires accepted { Accepted most_signs most_sign_entries most_sign_magnitude (suc n) (listed table) }
+    requires choice_fits { ChoiceFits n rank width draws.count (length draws.numbers.now) (length factor.now) (length b.old) (length workspace.old)
         × (length direction.old ≡ rank) × (length signs.old ≡ suc n) × (length best.old ≡ suc n) }
-    ensures { Chooses (listed table.entry) n rank width draw_count draws.now
+    ensures { Chooses (listed table.entry) n rank width draws.entry.count draws.entry.numbers.now
         factor.now b.old b.new result.rounded_cost result.cost result.rounds }
 {
     let rounded_cost = compute_rounded_sol(
@@ -46,7 +39,6 @@ fn search_from(
         factor,
         rank,
         n + 1,
-        draw_count,
         draws,
         direction,
         signs,
@@ -67,15 +59,14 @@ pub fn choose(
     table: Entries,
     rank: usize,
     width: usize,
-    draw_count: usize,
-    draws: &[f64],
+    draws: Draws,
     factor: &[f64],
     b: &mut [u8],
     workspace: &mut [u64],
 ) -> Chosen
-    requires lent { Accepted most_signs most_sign_entries most_sign_magnitude (suc n) (listed table) }
-    requires choice_fits { ChoiceFits n rank width draw_count (length draws.now) (length factor.now) (length b.old) (length workspace.old) × (rank ≤ most_rank) }
-    ensures { Chooses (listed table.entry) n rank width draw_count draws.now
+    requires accepted { Accepted most_signs most_sign_entries most_sign_magnitude (suc n) (listed table) }
+    requires choice_fits { ChoiceFits n rank width draws.count (length draws.numbers.now) (length factor.now) (length b.old) (length workspace.old) × (rank ≤ most_rank) }
+    ensures { Chooses (listed table.entry) n rank width draws.entry.count draws.entry.numbers.now
         factor.now b.old b.new result.rounded_cost result.cost result.rounds }
 {
     let mut direction = room::direction();
@@ -87,7 +78,6 @@ pub fn choose(
         table,
         rank,
         width,
-        draw_count,
         draws,
         factor,
         &mut direction[..rank],

@@ -1,47 +1,13 @@
-// Arrays for the sign table, for what is made of it and for the signs, of which the first places are used: every place holds 0. They stay
-// functions of their own: one generic function would be `[zero; N]` itself, and each caller would have to say type and size again.
-ghost use Rattle.std.specs.Prelude.{◌≡◌, ◌+◌, pos, length, replicate};
+// Arrays for the float work and for the signs, of which the first places are used: every place holds 0. They stay
+// functions of their own: one generic function would be `[zero; N]` itself, and each caller would have to say type and size.
+ghost use Rattle.std.specs.Prelude.{◌≡◌, ◌+◌, length, replicate};
 ghost use Rattle.ieee.specs.Floats.{zero64};
-ghost use Rattle.limits.specs.Limits.{most_signs, most_sign_entries, most_rank, most_factor};
+ghost use Rattle.limits.specs.Limits.{most_signs, most_rank, most_factor};
 
-use limits::{MOST_FACTOR, MOST_RANK, MOST_SIGN_ENTRIES, MOST_SIGNS};
-
-const ROW_STARTS: usize = MOST_SIGNS + 1;
+use limits::{MOST_FACTOR, MOST_RANK, MOST_SIGNS};
 
 // A place more than a factor has.
 const SUMS: usize = MOST_FACTOR + 1;
-
-// Rows or columns of a table.
-pub fn indices() -> [u16; MOST_SIGN_ENTRIES]
-    ensures value { result ≡ replicate most_sign_entries 0 }
-    ensures most_sign_entries_value { most_sign_entries ≡ length result }
-{
-    [0; MOST_SIGN_ENTRIES]
-}
-
-// Values of a table.
-pub fn eighths() -> [i64; MOST_SIGN_ENTRIES]
-    ensures value { result ≡ replicate most_sign_entries (pos 0) }
-    ensures most_sign_entries_value { most_sign_entries ≡ length result }
-{
-    [0; MOST_SIGN_ENTRIES]
-}
-
-// The same as doubles.
-pub fn units() -> [f64; MOST_SIGN_ENTRIES]
-    ensures value { result ≡ replicate most_sign_entries zero64 }
-    ensures most_sign_entries_value { most_sign_entries ≡ length result }
-{
-    [0.0; MOST_SIGN_ENTRIES]
-}
-
-// Where rows start.
-pub fn row_starts() -> [usize; ROW_STARTS]
-    ensures value { result ≡ replicate (most_signs + 1) 0 }
-    ensures most_signs_value { most_signs + 1 ≡ length result }
-{
-    [0; ROW_STARTS]
-}
 
 // Rows of as many numbers as a factor's.
 pub fn rows_of_numbers() -> [f64; MOST_FACTOR]
@@ -51,7 +17,8 @@ pub fn rows_of_numbers() -> [f64; MOST_FACTOR]
     [0.0; MOST_FACTOR]
 }
 
-// The same with a place behind them: beside the others a sweep's sums then start where 16 divides, and rule 2 takes 7 % less (docs/BENCH.md).
+// The same with a place behind them: beside the others a sweep's sums then start where 16 divides. Without it rule 2 took 7 % more (docs/DECISIONS.md 96; measured
+// before a prepared table was one value, and not since).
 pub fn rows_of_sums() -> [f64; SUMS]
     ensures value { result ≡ replicate (most_factor + 1) zero64 }
     ensures most_factor_value { most_factor + 1 ≡ length result }

@@ -1,13 +1,15 @@
-// The factor that a run starts from (000 and 004, `prepare_initial_factor`).
+// The factor that a run starts from (000 and 004, `prepare_initial_factor`). The factor is written, so that a value of it with rank and m would need the
+// clause at each function that its reference keeps its name: `length factor.old ≡ m * rank` is no longer.
 #![tactic(auto)]
 
 ghost use Rattle.std.specs.Prelude.{◌≡◌, ◌*◌, ◌≤◌, length};
 ghost use Rattle.std.specs.Float.Ieee as Ieee;
 ghost use Rattle.ieee.specs.Floats.{zero64};
-ghost use Rattle.run_limits.specs.Start.{start_count};
+ghost use Rattle.run_limits.specs.Start.{start_count, signs_in, draws_in};
 ghost use Rattle.initialize.specs.Initialize.{start_rows, sign_by, with_signs, start_signs, start_drawn, start_by, start_within};
 
 use factor::rows::{clear, copy, multiply_by, project};
+use run_limits::Start;
 
 // Starts 0 and 1: the numbers' rows, projected.
 pub fn start_rows(numbers: &[f64], rank: usize, m: usize, factor: &mut [f64])
@@ -41,6 +43,7 @@ fn set_signs(signs: &[f64], rank: usize, m: usize, factor: &mut [f64])
 }
 
 // Start 2 with no draws: the signs alone.
+#[tactic(auto, unfolding(crate::specs::Initialize::start_signs))]
 pub fn start_signs(signs: &[f64], rank: usize, m: usize, factor: &mut [f64])
     requires { (m ≤ length signs.now) × (length factor.old ≡ m * rank) × (1 ≤ rank) }
     ensures { factor.new ≡ start_signs rank m signs.now }
@@ -51,6 +54,7 @@ pub fn start_signs(signs: &[f64], rank: usize, m: usize, factor: &mut [f64])
 }
 
 // Start 2 with draws: the signs over a hundredth of the projected draws.
+#[tactic(auto, unfolding(crate::specs::Initialize::start_drawn, crate::specs::Initialize::start_rows))]
 pub fn start_drawn(signs: &[f64], draws: &[f64], rank: usize, m: usize, factor: &mut [f64])
     requires m_in_bounds { (m ≤ length signs.now) × (length factor.old ≡ m * rank) × (1 ≤ rank) }
     requires rank_in_bounds { m * rank ≤ length draws.now }
@@ -62,34 +66,29 @@ pub fn start_drawn(signs: &[f64], draws: &[f64], rank: usize, m: usize, factor: 
     project(factor, rank, m);
 }
 
-// The factor by the start's kind: `signs` for start 2, and `drawn` where draws follow them.
-fn start_by(signs: bool, drawn: bool, numbers: &[f64], rank: usize, m: usize, factor: &mut [f64])
-    requires { (start_count signs drawn rank m ≤ length numbers.now) × (length factor.old ≡ m * rank) × (1 ≤ rank) }
-    ensures { factor.new ≡ start_by signs drawn rank m numbers.now }
+// The factor by the start's kind.
+fn start_by(start: Start, numbers: &[f64], rank: usize, m: usize, factor: &mut [f64])
+    requires { (start_count (signs_in start) (draws_in start) rank m ≤ length numbers.now) × (length factor.old ≡ m * rank) × (1 ≤ rank) }
+    ensures { factor.new ≡ start_by (signs_in start) (draws_in start) rank m numbers.now }
 {
-    if signs {
-        if drawn {
-            start_drawn(numbers, &numbers[m..], rank, m, factor);
-        } else {
-            start_signs(numbers, rank, m, factor);
-        }
-    } else {
-        start_rows(numbers, rank, m, factor);
+    match start {
+        Start::Rows => start_rows(numbers, rank, m, factor),
+        Start::Signs => start_signs(numbers, rank, m, factor),
+        Start::SignsAndDraws => start_drawn(numbers, &numbers[m..], rank, m, factor),
     }
 }
 
 // The factor of a start in the first m rows of `factor`; a longer slice keeps its tail.
 pub fn prepare_initial_factor(
-    signs: bool,
-    drawn: bool,
+    start: Start,
     numbers: &[f64],
     rank: usize,
     m: usize,
     factor: &mut [f64],
 )
-    requires { (start_count signs drawn rank m ≤ length numbers.now) × (m * rank ≤ length factor.old) × (1 ≤ rank) }
-    ensures { factor.new ≡ start_within signs drawn rank m numbers.now factor.old }
+    requires { (start_count (signs_in start) (draws_in start) rank m ≤ length numbers.now) × (m * rank ≤ length factor.old) × (1 ≤ rank) }
+    ensures { factor.new ≡ start_within (signs_in start) (draws_in start) rank m numbers.now factor.old }
 {
     let size = m * rank;
-    start_by(signs, drawn, numbers, rank, m, &mut factor[..size]);
+    start_by(start, numbers, rank, m, &mut factor[..size]);
 }

@@ -21,8 +21,7 @@ use Rattle.job_reader.specs.Encode.{bytes_of}
 use Rattle.job_reader.proofs.Encode.{length_bytes_of, read_front, read_bytes, read_signed, read_double}
 use Rattle.job_record.specs.Versions.{versions}
 use Rattle.job_record.specs.Fields.{version, wagons, entry_count, row, column, value, pins_place, pin_at, pin_count_by, free_by, settings_by}
-use Rattle.job_record.specs.Values.{pin_count, free_wagons, settings_place, draws_by, draws_place, job_by, job_of, job_cost, job_pin_wagon, job_pin_store, job_start, job_draw}
-use Rattle.job_record.specs.declared.job.Job.{Job}
+use Rattle.job_record.specs.Values.{JobValues, pin_count, free_wagons, settings_place, draws_by, draws_place, job_by, job_of, job_cost, job_pin_wagon, job_pin_store, job_start, job_draw}
 use Rattle.job_encoding.specs.Encode.{Entry, Pin, Values, each, entry_bytes, signed_bytes, double_bytes, pin_bytes, pins_bytes, settings_bytes, body_bytes, head_bytes, job_bytes}
 use Rattle.job_encoding.specs.Allowed.{no_entry, entry_of, cost_in, no_pin, pin_of, free_in, Typed}
 use Rattle.job_encoding.proofs.Each.{read_behind, length_each, read_each}
@@ -304,7 +303,7 @@ module _ (v : Values) where
 
 same : {n n' count count' pins pins' free free' rank rank' rule rule' most most' minimum minimum' width width' start start' draws draws' : ℕ} {number number' objective objective' stationarity stationarity' : Float}
     → n ≡ n' → count ≡ count' → pins ≡ pins' → free ≡ free' → rank ≡ rank' → rule ≡ rule' → number ≡ number' → most ≡ most' → minimum ≡ minimum' → objective ≡ objective' → stationarity ≡ stationarity' → width ≡ width' → start ≡ start' → draws ≡ draws'
-    → ◌≡◌ {A = Job} (record { n = n; count = count; pins = pins; free = free; rank = rank; rule = rule; rule_number = number; most = most; minimum = minimum; objective_tolerance = objective; stationarity_tolerance = stationarity; width = width; start = start; draw_count = draws })
+    → ◌≡◌ {A = JobValues} (record { n = n; count = count; pins = pins; free = free; rank = rank; rule = rule; rule_number = number; most = most; minimum = minimum; objective_tolerance = objective; stationarity_tolerance = stationarity; width = width; start = start; draw_count = draws })
     (record { n = n'; count = count'; pins = pins'; free = free'; rank = rank'; rule = rule'; rule_number = number'; most = most'; minimum = minimum'; objective_tolerance = objective'; stationarity_tolerance = stationarity'; width = width'; start = start'; draw_count = draws' })
 same a b p q c d e f g h i j k l = rw (a, b, p, q, c, d, e, f, g, h, i, j, k, l)
 

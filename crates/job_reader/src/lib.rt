@@ -20,8 +20,8 @@ pub fn big_endian(bytes: &[u8], at: usize, width: usize) -> u64
     ensures { (result ≡ big_endian bytes.now at width) × (result < 256 ^ width) }
 {
     let mut value: u64 = 0;
-    for i in 0..width {
-        value = value * 256 + u64::from(bytes[at + i]);
+    for &byte in &bytes[at..at + width] {
+        value = value * 256 + u64::from(byte);
     }
     value
 }

@@ -19,8 +19,7 @@ use Rattle.job_record.specs.Number.{pin_number, pins_numbers, pins_numbers_by, j
 use Rattle.std.specs.Prelude.{Option, Some}
 use Rattle.job_reader.specs.Bytes.{big_endian, field_at, value_of}
 use Rattle.job_record.specs.declared.reading.HeadValues.{HeadValues}
-use Rattle.job_record.specs.declared.reading.SettingsValues.{SettingsValues}
-use Rattle.job_record.specs.Reading.{HeadThere, settings_from, settings_values}
+use Rattle.job_record.specs.Reading.{SettingsValues, HeadThere, settings_from, settings_values}
 use Rattle.job_record.specs.Values.{pin_count, free_wagons, settings_place, draws_place, draws_by, job_pin_wagon, job_pin_store, states_of, job_states, job_rank, job_start_count, job_drawn}
 use Rattle.run_limits.proofs.Ranks.{meant_low}
 use Rattle.run_limits.proofs.Starts.{start_low}

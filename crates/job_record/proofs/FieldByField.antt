@@ -3,13 +3,13 @@
 --     head_judged_lem, settings_judged_lem      the numbers of the fields are those of the record
 --     head_there, settings_there                the values, where all fields are there
 -- Assumes nothing.
-use Prim.Native.Nat.{ℕ, zero, suc, ◌+◌, ◌-◌, ◌^◌, ◌<◌, ◌≤◌}
+use Prim.Native.Nat.{ℕ, zero, suc, ◌+◌, ◌^◌, ◌<◌, ◌≤◌}
 use mathlib.Core.Path.{◌≡◌, refl, sym, subst, ap, ◌∙◌}
 use mathlib.Core.Bool.{Bool, true, false, cond, ◌&&◌, ◌||◌, not}
 use mathlib.Core.List.{List, [], ◌∷◌}
 use native.Mathlib.Omega.{arith}
 use native.Mathlib.Nat.{pow-suc}
-use borrow.Author.Tests.{leb-true, leb-false, le-leb, lt-ltb, le-ltb, ltb-true, ltb-false, eq-eqb, ne_eqb}
+use borrow.Author.Tests.{leb-true, leb-false, le-leb, lt-ltb, le-ltb, ltb-true, ltb-false}
 use lib.Dec.{leb, ltb, eqb}
 use lib.ListN.{length, get_or}
 use Rattle.laws.specs.Refusal.{◌if◌, or_else, first}
@@ -22,12 +22,10 @@ use Rattle.job_reader.specs.Bytes.{big_endian, field_at, value_of, after, after_
 use Rattle.std.specs.Prelude.{Option, Some, None}
 use Rattle.job_record.specs.declared.reading.HeadFields.{HeadFields}
 use Rattle.job_record.specs.declared.reading.HeadValues.{HeadValues}
-use Rattle.job_record.specs.declared.reading.SettingsFields.{SettingsFields}
-use Rattle.job_record.specs.declared.reading.SettingsValues.{SettingsValues}
 use Rattle.job_record.specs.Versions.{known, versions}
 use Rattle.job_record.specs.Fields.{version, rank_at, rule_at, rule_number_at, most_at, minimum_at, objective_tolerance_at, stationarity_tolerance_at, width_at, start_at}
 use Rattle.job_record.specs.Number.{ends_before, bounded_number, frame_number, version_number, momentum_number, head_numbers, settings_numbers}
-use Rattle.job_record.specs.Reading.{HeadThere, head_of, settings_from, head_values, settings_values, is_short, field_number, frame_judged, head_judged, rule_judged, start_judged, settings_judged}
+use Rattle.job_record.specs.Reading.{SettingsFields, SettingsValues, HeadThere, head_of, settings_from, head_values, settings_values, is_short, field_number, frame_judged, head_judged, rule_judged, start_judged, settings_judged}
 use Rattle.job_record.proofs.Bounded.{bounded_passed}
 use Rattle.job_record.proofs.Whole.{or_join}
 
@@ -79,11 +77,7 @@ abbrev framed : List ℕ → ℕ
 framed s = 11 if not (eqb (4 + big_endian s 0 4) (length s))
 
 frame_judged_lem : (s : List ℕ) → frame_judged (length s) (field_at s 0 4) ≡ first (11 if ends_before s 4 ∷ framed s ∷ [])
-frame_judged_lem s = go (leb 4 (length s)) refl
-  where
-    go : (t : Bool) → leb 4 (length s) ≡ t → frame_judged (length s) (cond t (Some (big_endian s 0 4)) None) ≡ first (11 if ends_before s 4 ∷ framed s ∷ [])
-    go true q = moves_on_if 11 (ends_before s 4) (framed s ∷ []) (le-ltb (length s) 4 (leb-true 4 (length s) q)) (answers_last (framed s) refl)
-    go false q = answers_if 10 (ends_before s 4) (framed s ∷ []) (lt-ltb (length s) 4 (leb-false 4 (length s) q))
+frame_judged_lem s = field_judged s 0 4 (λ v. not (eqb (4 + v) (length s))) 11
 
 -- a field that was read, by what a match finds
 module _ {f : Option ℕ} {v : ℕ} (e : f ≡ Some v) where
@@ -92,15 +86,6 @@ module _ {f : Option ℕ} {v : ℕ} (e : f ≡ Some v) where
 
   pub field_right : (wrong : ℕ → Bool) (k : ℕ) → wrong v ≡ false → 0 ≡ field_number f wrong k
   field_right wrong k t = rw (e, t)
-
-  pub frame_above : (len : ℕ) → len < 4 → 11 ≡ frame_judged len f
-  frame_above len h = rw (e, ne_eqb (4 + v) len (λ q. omega arith))
-
-  pub frame_other : (len : ℕ) → 4 ≤ len → (v ≡ len - 4 → ⊥) → 11 ≡ frame_judged len f
-  frame_other len h n = rw (e, ne_eqb (4 + v) len (λ q. n (omega arith)))
-
-  pub frame_same : (len : ℕ) → 4 ≤ len → v ≡ len - 4 → 0 ≡ frame_judged len f
-  frame_same len h q = rw (e, eq-eqb (4 + v) len (omega arith))
 
 -- the field of w bytes at `at`: its limit, and its value where it is there
 module _ (s : List ℕ) (at w : ℕ) {f : Option ℕ} (e : f ≡ field_at s at w) where

@@ -1,5 +1,4 @@
 pub mod Bounded
-pub mod Fronts
 pub mod Sections
 pub mod Products
 pub mod Same

@@ -11,7 +11,7 @@ use mathlib.Core.Logic.{◌⊎◌, inl, inr}
 use native.Mathlib.Omega.{arith}
 use native.Mathlib.Numerals.{add-one}
 use native.Mathlib.Decide.{ℕ_discrete}
-use borrow.Author.Tests.{le-ltb, le-leb, lt-leb, eq-eqb, ne_eqb, eqb-true, ltb-false, leb-false, not-false}
+use borrow.Author.Tests.{le-ltb, eq-eqb, ne_eqb, eqb-true, ltb-false, leb-false, not-false}
 use lib.ListN.{length, set, replicate, length-replicate, get_or-replicate, length-append}
 use lib.Seq.{get_or-set_same, get_or-set_other}
 use lib.Dec.{leb, ltb, eqb}
@@ -20,7 +20,7 @@ use Rattle.laws.specs.Sum.{total}
 use Rattle.laws.specs.Lists.{elem, any_below, kept, only_if}
 use Rattle.laws.specs.Refusal.{◌if◌, or_else, first, first_of}
 use Rattle.laws.proofs.Made.{below_or_not}
-use Rattle.laws.proofs.Any.{below_at, below_none, or_left, or_right}
+use Rattle.laws.proofs.Any.{never, below_at, below_none, or_left, or_right}
 use Rattle.laws.proofs.Totals.{onlyℕ, total_ext, total_const, total_add, total_only}
 use Rattle.laws.proofs.Refusal.{clear, both, first_head, first_rest, each}
 use Rattle.laws.proofs.Refusal as R
@@ -57,9 +57,6 @@ accepted s n at k e =
       store = store.1;
     }
 
-never : true ≡ false → ⊥
-never e = let z : ◌≡◌ {A = ℕ} 0 1 = cc in omega arith
-
 new_is : (s : List ℕ) (at k : ℕ) → pinned_before s at k ≡ false → any_below k (λ j. eqb (pin_wagon s at j) (pin_wagon s at k)) ≡ false
 unfolding pinned_before
 new_is s at k e = e
@@ -77,17 +74,6 @@ states_next s n at k = rw (add-one k)
 pub length_states : (s : List ℕ) (n at k : ℕ) → length (states_of s n at k) ≡ n
 unfolding states_of
 length_states s n at k = length_put (pin_wagon s at) (pin_store s at) k (replicate n free_state) ∙ length-replicate {A = ℕ} n free_state
-
--- a wagon, against states
-module _ (n : ℕ) (states : List ℕ) (w : ℕ) where
-  pub wagon_outside : n ≤ w → wagon_wrong n states w ≡ true
-  wagon_outside h = rw (le-leb n w h)
-
-  pub wagon_held : w < n → (elem states w ≡ free_state → ⊥) → wagon_wrong n states w ≡ true
-  wagon_held h d = rw (lt-leb n w h, ne_eqb (elem states w) free_state d)
-
-  pub wagon_free : w < n → elem states w ≡ free_state → wagon_wrong n states w ≡ false
-  wagon_free h e = rw (lt-leb n w h, eq-eqb (elem states w) free_state e)
 
 -- a pin by its fields, against states
 three : (a b c : ℕ) → first (first (a ∷ b ∷ []) ∷ c ∷ []) ≡ first (a ∷ b ∷ c ∷ [])
@@ -200,7 +186,7 @@ module _ (s : List ℕ) (n at : ℕ) {f : Option ℕ} (read : f ≡ field_at s a
 module _ (s : List ℕ) (n at count : ℕ) (none-refused : first_of (pin_number s n at) count ≡ 0) where
   -- no two have one wagon
   pub apart : (i j : ℕ) → i < j → j < count → pin_wagon s at i ≡ pin_wagon s at j → ⊥
-  apart i j a b e = never (sym (below_at (λ i. eqb (pin_wagon s at i) (pin_wagon s at j)) j i a (eq-eqb _ _ e)) ∙ new_is s at j (earlier s n at count none-refused j b).new)
+  apart i j a b e = never (sym (new_is s at j (earlier s n at count none-refused j b).new) ∙ below_at (λ i. eqb (pin_wagon s at i) (pin_wagon s at j)) j i a (eq-eqb _ _ e))
 
   pub pin_held : (k : ℕ) → k < count → elem (states_of s n at count) (pin_wagon s at k) ≡ pin_store s at k
   pin_held k l = go (stands s n at count none-refused (pin_wagon s at k) (earlier s n at count none-refused k l).wagon)

@@ -11,9 +11,15 @@ use Rattle.job_record.specs.Versions.{known, versions}
 use Rattle.job_record.specs.Fields.{version, wagons, entry_count, last_store, free_state}
 use Rattle.job_record.specs.declared.reading.HeadFields.{HeadFields}
 use Rattle.job_record.specs.declared.reading.PinFields.{PinFields}
-use Rattle.job_record.specs.declared.reading.SettingsFields.{SettingsFields}
+use Rattle.job_record.specs.declared.reading.SettingsOf.{SettingsOf}
 use Rattle.job_record.specs.declared.reading.HeadValues.{HeadValues}
-use Rattle.job_record.specs.declared.reading.SettingsValues.{SettingsValues}
+
+-- the settings as they were read, and as numbers
+abbrev pub SettingsFields : Type 0
+SettingsFields = SettingsOf (Option ℕ)
+
+abbrev pub SettingsValues : Type 0
+SettingsValues = SettingsOf ℕ
 
 -- length of the rest (4), version (1), n (1), entry count (2)
 unfoldable pub head_of : List ℕ → HeadFields
@@ -80,8 +86,7 @@ field_number None wrong k = 11
 
 -- the length of the rest, which stands first, in a record of so many bytes
 abbrev pub frame_judged : ℕ → Option ℕ → ℕ
-frame_judged len (Some v) = 11 if not (eqb (4 + v) len)
-frame_judged len None = 11
+frame_judged len rest = field_number rest (λ v. not (eqb (4 + v) len)) 11
 
 abbrev pub head_judged : ℕ → HeadFields → List ℕ
 head_judged len head =

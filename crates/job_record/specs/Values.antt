@@ -8,6 +8,7 @@ use Rattle.job_reader.specs.Bytes.{big_endian}
 use Rattle.job_record.specs.Versions.{Format, versions}
 use Rattle.job_record.specs.Fields.{wagons, entry_count, entry_at, row, column, value, entries, signed_from, double_from, pins_place, pin_wagon, pin_store, free_state, pin_count_by, free_by, settings_by, rank_at, rule_at, rule_number_at, most_at, minimum_at, objective_tolerance_at, stationarity_tolerance_at, width_at, start_at, rank_of, start_count_of, draws_after}
 use Rattle.job_record.specs.Number.{job_number}
+use Rattle.job_record.specs.Kinds.{rule_code, start_code}
 use Rattle.job_record.specs.declared.job.Job.{Job}
 
 -- how many pins, and the wagons that no pin holds
@@ -48,9 +49,46 @@ states_of s n at count = put_each (pin_wagon s at) (pin_store s at) count (repli
 unfoldable pub job_states : List ℕ → List ℕ
 job_states s = states_of s (wagons s) (pins_place s + 1) (pin_count s)
 
+-- the fields of one number each, of any record
+pub record JobValues : Type 0 where
+  pub n : ℕ
+  pub count : ℕ
+  pub pins : ℕ
+  pub free : ℕ
+  pub rank : ℕ
+  pub rule : ℕ
+  pub rule_number : Float
+  pub most : ℕ
+  pub minimum : ℕ
+  pub objective_tolerance : Float
+  pub stationarity_tolerance : Float
+  pub width : ℕ
+  pub start : ℕ
+  pub draw_count : ℕ
+
+-- as a job that was judged holds them
+abbrev pub values_in : Job → JobValues
+values_in j =
+    record {
+      n = j.n;
+      count = j.count;
+      pins = j.pins;
+      free = j.free;
+      rank = j.rank;
+      rule = rule_code j.rule;
+      rule_number = j.rule_number;
+      most = j.most;
+      minimum = j.minimum;
+      objective_tolerance = j.objective_tolerance;
+      stationarity_tolerance = j.stationarity_tolerance;
+      width = j.width;
+      start = start_code j.start;
+      draw_count = j.draw_count;
+    }
+
 -- by a table of versions: how many wagons, entries, pins and free wagons; the settings, as far as they are one number each: the rank as given,
 -- the rule with its number, the start's kind
-unfoldable pub job_by : Format → List ℕ → Job
+unfoldable pub job_by : Format → List ℕ → JobValues
 job_by format s =
     record {
       n = wagons s;
@@ -69,7 +107,7 @@ job_by format s =
       draw_count = big_endian s (draws_by format s) 2;
     }
 
-abbrev pub job_of : List ℕ → Job
+abbrev pub job_of : List ℕ → JobValues
 job_of s = job_by versions s
 
 -- the rank that the job's means, for its free wagons

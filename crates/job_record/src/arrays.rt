@@ -7,7 +7,8 @@ use crate::places::entry_at;
 use job_reader::big_endian;
 use job_reader::fields::Stored;
 
-// The first `count` entries: rows, columns and values.
+// The first `count` entries: rows, columns and values. Indexed, as the row below: an `iter_mut` over the front, `..count`,
+// leaves to show besides that what fills the front fills the whole.
 pub fn read_entries(
     job: &[u8],
     count: usize,

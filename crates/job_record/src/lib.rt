@@ -3,6 +3,7 @@
 
 pub mod arrays;
 pub mod job;
+pub mod kinds;
 pub mod number;
 pub mod pins;
 pub mod places;

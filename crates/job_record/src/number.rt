@@ -14,7 +14,7 @@ use crate::arrays::{read_entries, read_stored};
 use crate::pins::{behind_pins, version_pins};
 use crate::places::{ENTRY, HEAD, LENGTH, costs_end, entry_at};
 use crate::reading::{HeadFields, HeadValues, head_values, read_head};
-use crate::settings::{limit_number, run_number};
+use crate::settings::{field_number, limit_number, run_number};
 use crate::versions::{is_known, most_wagons_of};
 use limits::{MOST_BYTES, MOST_ENTRIES, MOST_MAGNITUDE};
 use refusal::Refusal;
@@ -26,22 +26,16 @@ use tables::mirror::unmirrored;
 fn frame_number(len: usize, rest: Option<u64>) -> Result<(), Refusal>
     ensures { numbered result ≡ frame_judged len rest }
 {
-    let value = rest.ok_or(Refusal::Frame)?;
-    if len < LENGTH || value as usize != len - LENGTH {
-        return Err(Refusal::Frame);
-    }
-    Ok(())
+    field_number(rest, Refusal::Frame, |value| {
+        len < LENGTH || value as usize != len - LENGTH
+    })
 }
 
 // 11 past the end, 12 where it isn't known.
 fn version_number(version: Option<u64>) -> Result<(), Refusal>
     ensures { numbered result ≡ field_number version (λ v. not (known versions v)) 12 }
 {
-    let value = version.ok_or(Refusal::Frame)?;
-    if !is_known(value) {
-        return Err(Refusal::Version);
-    }
-    Ok(())
+    field_number(version, Refusal::Version, |value| !is_known(value))
 }
 
 // Frame, version, n, entry count, in a record of `len` bytes.

@@ -1,20 +1,20 @@
 // The pins of a job record, judged as they are read and put into the wagons' states: a byte a wagon, the store that a pin holds it in, or FREE.
 ghost use Rattle.std.specs.Prelude.{◌≡◌, ◌+◌, ◌≤◌, ◌<◌, length, set, replicate};
-ghost use Rattle.laws.specs.Lists.{fill};
 ghost use Rattle.laws.specs.Refusal.{first, first_of};
-ghost use Rattle.limits.specs.Limits.{most_wagons, most_entries, most_bytes};
+ghost use Rattle.limits.specs.Limits.{most_wagons, most_entries};
 ghost use Rattle.refusal.specs.Number.{numbered};
 ghost use Rattle.job_reader.specs.Bytes.{big_endian, value_of};
 ghost use Rattle.job_record.specs.Versions.{versions};
-ghost use Rattle.job_record.specs.Fields.{wagons, entry_count, pins_place, free_state};
+ghost use Rattle.job_record.specs.Fields.{wagons, entry_count, free_state};
 ghost use Rattle.job_record.specs.Number.{pin_number, pins_numbers, pins_numbers_by};
 ghost use Rattle.job_record.specs.Reading.{HeadThere, field_number, wagon_wrong, pin_judged};
 ghost use Rattle.job_record.specs.Values.{pin_count, free_wagons, settings_place, states_of};
 
 use crate::places::{PIN, PIN_COUNT, costs_end};
-use crate::reading::{HeadValues, PinFields, read_pin, read_pin_count};
-use crate::settings::limit_number;
+use crate::reading::{HeadValues, PinFields, read_pin};
+use crate::settings::{field_number, limit_number};
 use crate::versions::carries_pins;
+use job_reader::field_at;
 use limits::MOST_WAGONS;
 use refusal::Refusal;
 
@@ -28,14 +28,9 @@ fn wagon_number(wagon: Option<u64>, n: usize, states: &[u8]) -> Result<(), Refus
     requires { n ≤ length states.now }
     ensures { numbered result ≡ field_number wagon (wagon_wrong n states.now) 21 }
 {
-    let value = wagon.ok_or(Refusal::Frame)?;
-    if n as u64 <= value {
-        return Err(Refusal::Pin);
-    }
-    if states[value as usize] != FREE {
-        return Err(Refusal::Pin);
-    }
-    Ok(())
+    field_number(wagon, Refusal::Pin, |value| {
+        n as u64 <= value || states[value as usize] != FREE
+    })
 }
 
 // A pin's wagon, then its store.
@@ -75,7 +70,7 @@ pub fn pins_number(job: &[u8], n: usize, at: usize, states: &mut [u8]) -> Result
     requires { states.old ≡ replicate n free_state }
     ensures { (numbered result ≡ first (pins_numbers job.now n at)) × (numbered result ≡ 0 → states.new ≡ states_of job.now n (at + 1) (big_endian job.now at 1)) }
 {
-    let count = read_pin_count(job, at).ok_or(Refusal::Frame)?;
+    let count = field_at(job, at, PIN_COUNT).ok_or(Refusal::Frame)?;
     each_pin(job, n, at + PIN_COUNT, count as usize, states)
 }
 
@@ -89,7 +84,7 @@ pub fn version_pins(job: &[u8], head: HeadValues) -> Result<(), Refusal>
     }
     let n = head.n as usize;
     let mut states = [FREE; MOST_WAGONS];
-    pins_number(job, n, costs_end(n, head.count as usize), &mut states[0..n])
+    pins_number(job, n, costs_end(n, head.count as usize), &mut states[..n])
 }
 
 // What they say of the rest: how many they are, the wagons that they leave free, and where the settings stand.
@@ -113,18 +108,10 @@ pub fn behind_pins(job: &[u8], head: HeadValues) -> Behind
             settings: at,
         };
     }
-    let pins = read_pin_count(job, at).unwrap_or(0) as usize;
+    let pins = field_at(job, at, PIN_COUNT).unwrap_or(0) as usize;
     Behind {
         pins,
         free: n - pins,
         settings: at + PIN_COUNT + pins * PIN,
     }
-}
-
-// Every one of the first n wagons free.
-pub fn set_free(n: usize, states: &mut [u8])
-    requires { n ≤ length states.old }
-    ensures { states.new ≡ fill (λ _. free_state) n states.old }
-{
-    states[..n].fill(FREE);
 }

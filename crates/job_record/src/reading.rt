@@ -1,10 +1,9 @@
 // The head, a pin and the settings of a job record, field by field: a reader is made at a place and takes one field after the other.
 // What is past the end stays visible, for whoever judges the fields.
 ghost use Rattle.std.specs.Prelude.{◌≡◌};
-ghost use Rattle.job_reader.specs.Bytes.{field_at};
 ghost use Rattle.job_record.specs.Reading.{head_of, pin_from, settings_from, head_values, settings_values};
 
-use job_reader::{JobReader, field_at};
+use job_reader::JobReader;
 
 // Length of the rest, version, n, entry count.
 #[derive(Clone, Copy, Drop)]
@@ -23,22 +22,27 @@ pub struct PinFields {
     pub next: usize,
 }
 
-// The settings, and how far the reader has read.
+// The settings, each as a T, and how far the reader has read.
 #[derive(Clone, Copy, Drop)]
-pub struct SettingsFields {
-    pub rank: Option<u64>,
-    pub rule: Option<u64>,
-    pub rule_number: Option<u64>,
-    pub most: Option<u64>,
-    pub minimum: Option<u64>,
-    pub objective_tolerance: Option<u64>,
-    pub stationarity_tolerance: Option<u64>,
-    pub width: Option<u64>,
-    pub start: Option<u64>,
+pub struct SettingsOf<T> {
+    pub rank: T,
+    pub rule: T,
+    pub rule_number: T,
+    pub most: T,
+    pub minimum: T,
+    pub objective_tolerance: T,
+    pub stationarity_tolerance: T,
+    pub width: T,
+    pub start: T,
     pub next: usize,
 }
 
-// Version, n and the entry count as numbers.
+// As they were read; and as numbers, doubles as their bits.
+pub type SettingsFields = SettingsOf<Option<u64>>;
+
+pub type SettingsValues = SettingsOf<u64>;
+
+// Version, n and the entry count as numbers; a struct of its own, since the length of the rest is a field of the head alone.
 #[derive(Clone, Copy, Drop)]
 pub struct HeadValues {
     pub version: u64,
@@ -46,22 +50,7 @@ pub struct HeadValues {
     pub count: u64,
 }
 
-// The settings as numbers, doubles as their bits, and how far the reader has read.
-#[derive(Drop)]
-pub struct SettingsValues {
-    pub rank: u64,
-    pub rule: u64,
-    pub rule_number: u64,
-    pub most: u64,
-    pub minimum: u64,
-    pub objective_tolerance: u64,
-    pub stationarity_tolerance: u64,
-    pub width: u64,
-    pub start: u64,
-    pub next: usize,
-}
-
-// The head.
+// The head. `read_head`, `read_pin` and `read_settings` stay apart: each names other fields, beside their widths.
 pub fn read_head(job: &[u8]) -> HeadFields
     ensures { result ≡ head_of job.now }
 {
@@ -147,18 +136,4 @@ pub fn settings_values(f: SettingsFields) -> SettingsValues
         start: f.start.unwrap_or(0),
         next: f.next,
     }
-}
-
-// The pin count at `at`.
-pub fn read_pin_count(job: &[u8], at: usize) -> Option<u64>
-    ensures { result ≡ field_at job.now at 1 }
-{
-    field_at(job, at, 1)
-}
-
-// The draw count at `at`.
-pub fn read_draw_count(job: &[u8], at: usize) -> Option<u64>
-    ensures { result ≡ field_at job.now at 2 }
-{
-    field_at(job, at, 2)
 }

@@ -1,40 +1,52 @@
-// The settings of a job record, its start and its draws: the first number from there on.
-ghost use Rattle.std.specs.Prelude.{◌≡◌, ◌&&◌, ◌||◌, not, ◌≤◌, ltb, eqb};
+// The settings of a job record, its start and its draws: the first number from there on. Rule and start stand as 01's codes here: they are judged field by field,
+// and a field that is not there has no kind.
+ghost use Rattle.std.specs.Prelude.{◌≡◌, ℕ, Bool, ◌&&◌, ◌||◌, not, ◌≤◌, ltb, eqb};
 ghost use Rattle.ieee.specs.Floats.{double_of};
 ghost use Rattle.laws.specs.Refusal.{first};
 ghost use Rattle.limits.specs.Limits.{most_wagons, most_rank, most_bytes};
 ghost use Rattle.run_limits.specs.Momentum.{is_momentum};
 ghost use Rattle.refusal.specs.Number.{number_of, numbered};
-ghost use Rattle.job_record.specs.Reading.{is_short, field_number, rule_judged, start_judged, settings_judged};
+ghost use Rattle.job_record.specs.Reading.{field_number, rule_judged, start_judged, settings_judged};
 ghost use Rattle.job_record.specs.Number.{draws_numbers, run_numbers};
 
 use crate::places::DRAW_COUNT;
-use crate::reading::{SettingsFields, read_draw_count, read_settings, settings_values};
+use crate::reading::{SettingsFields, read_settings, settings_values};
 use ieee::bits::double_of;
+use job_reader::field_at;
 use limits::{LAST_RULE, LAST_START, MOST_DRAWS, MOST_RANK, MOST_WIDTH};
 use refusal::Refusal;
 use run_limits::{is_momentum, rank_meant, start_length};
 
-// A field: 11 past the end, `refusal` above its limit.
-pub(crate) fn limit_number(field: Option<u64>, most: usize, refusal: Refusal) -> Result<(), Refusal>
-    ensures { numbered result ≡ field_number field (ltb most) (number_of refusal) }
+// A field: 11 past the end, `refusal` where its value is wrong.
+pub(crate) fn field_number<F: Fn(u64) -> bool>(
+    field: Option<u64>,
+    refusal: Refusal,
+    wrong: F,
+) -> Result<(), Refusal>
+    requires callable { F.IsAlwaysCallable wrong }
+    ensures { (test : ℕ → Bool) → ((v : ℕ) (b : Bool) → F.post wrong v b → b ≡ test v) → numbered result ≡ field_number field test (number_of refusal) }
 {
     let value = field.ok_or(Refusal::Frame)?;
-    if (most as u64) < value {
+    if wrong(value) {
         return Err(refusal);
     }
     Ok(())
+}
+
+// A field with a limit.
+pub(crate) fn limit_number(field: Option<u64>, most: usize, refusal: Refusal) -> Result<(), Refusal>
+    ensures { numbered result ≡ field_number field (ltb most) (number_of refusal) }
+{
+    field_number(field, refusal, |value| (most as u64) < value)
 }
 
 // The rule's number: 18 for a momentum out of range.
 fn momentum_number(rule: u64, number: Option<u64>) -> Result<(), Refusal>
     ensures { numbered result ≡ field_number number (λ bits. eqb rule 4 && not (is_momentum (double_of bits))) 18 }
 {
-    let bits = number.ok_or(Refusal::Frame)?;
-    if rule == 4 && !is_momentum(double_of(bits)) {
-        return Err(Refusal::Rule);
-    }
-    Ok(())
+    field_number(number, Refusal::Rule, |bits| {
+        rule == 4 && !is_momentum(double_of(bits))
+    })
 }
 
 // Rank, rule, its number.
@@ -81,17 +93,14 @@ fn draws_number(job: &[u8], at: usize, rank: usize) -> Result<(), Refusal>
     if job.len() < at {
         return Err(Refusal::Frame);
     }
-    let drawn = read_draw_count(job, at);
+    let drawn = field_at(job, at, DRAW_COUNT);
     limit_number(drawn, MOST_DRAWS, Refusal::Search)?;
     let count = drawn.unwrap_or(0) as usize;
     if count == 0 {
         return Err(Refusal::Search);
     }
     let end = at + DRAW_COUNT + count * rank * 8;
-    if job.len() < end {
-        return Err(Refusal::Frame);
-    }
-    if end < job.len() {
+    if job.len() != end {
         return Err(Refusal::Frame);
     }
     Ok(())

@@ -10,16 +10,15 @@ const LAST_VERSION: u64 = 3;
 const LAST_SMALL: u64 = 2;
 
 // Versions 1 to the last.
+#[tactic(auto, unfolding(crate::specs::Versions::versions))]
 pub fn is_known(version: u64) -> bool
     ensures { result ≡ known versions version }
 {
-    if version < 1 {
-        return false;
-    }
-    version <= LAST_VERSION
+    1 <= version && version <= LAST_VERSION
 }
 
 // The most wagons of a version.
+#[tactic(auto, unfolding(crate::specs::Versions::versions))]
 pub fn most_wagons_of(version: u64) -> usize
     ensures { result ≡ versions.most version }
 {
@@ -30,6 +29,7 @@ pub fn most_wagons_of(version: u64) -> usize
 }
 
 // Whether a version carries pins.
+#[tactic(auto, unfolding(crate::specs::Versions::versions))]
 pub fn carries_pins(version: u64) -> bool
     ensures { result ≡ versions.pinned version }
 {

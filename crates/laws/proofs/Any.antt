@@ -8,12 +8,14 @@ use mathlib.Core.Logic.{◌⊎◌, inl, inr}
 use native.Mathlib.Omega.{arith}
 use native.Mathlib.Nat.{eq-or-lt_of_le, le_of_suc-le-suc}
 use native.Mathlib.Numerals.{add-one}
+use Rattle.std.proofs.lemmas.Bool.{false≢true}
+pub use Rattle.std.proofs.lemmas.Bool.{or_from as or_none, and_right, and_parts as and_true}
 use Rattle.laws.specs.Refusal.{any_of}
 use Rattle.laws.specs.Lists.{any_below}
 
 -- no test is both
 pub never : {P : Type 0} → false ≡ true → P
-never e = let z : ◌≡◌ {A = ℕ} 0 1 = cc in absurd (omega arith)
+never e = absurd (false≢true e)
 
 pub any_head : (b : Bool) (rest : List Bool) → any_of (b ∷ rest) ≡ false → b ≡ false
 unfolding any_of
@@ -46,9 +48,6 @@ unfolding any_of
 any_last true = refl
 any_last false = refl
 
-pub or_none : (a b : Bool) → a ≡ false → b ≡ false → (a || b) ≡ false
-or_none a b e f = rw e f
-
 pub or_left : (a b : Bool) → (a || b) ≡ false → a ≡ false
 or_left true b e = e
 or_left false b e = refl
@@ -59,14 +58,6 @@ or_right false b e = e
 
 pub and_left : (a b : Bool) → a ≡ true → (a && b) ≡ false → b ≡ false
 and_left a b e f = rw e at f
-
-pub and_right : (a b : Bool) → b ≡ false → (a && b) ≡ false
-and_right true b e = e
-and_right false b e = refl
-
-pub and_true : (a b : Bool) → (a && b) ≡ true → (a ≡ true) × (b ≡ true)
-and_true true b e = (refl, e)
-and_true false b e = never e
 
 -- a test that holds somewhere
 module _ (p : ℕ → Bool) where

@@ -1,12 +1,14 @@
 // The numbers of the call: 31, 13 to 16, 27, 28, 19. Nothing is written.
 ghost use Rattle.std.specs.Prelude.{◌≡◌, ◌≤◌, length};
 ghost use Rattle.refusal.specs.Number.{numbered};
+ghost use Rattle.tables.specs.Lent.{costs_of};
 ghost use Rattle.limited_search.specs.Numbers.{move_number, call_short, limited_number};
 
 use block_search::check::{any_above, bad_width, choices_short};
-use limits::{MOST_ENTRIES, MOST_MAGNITUDE, MOST_WAGONS, SEARCH_WORKSPACE};
+use limits::{MOST_ENTRIES, SEARCH_WORKSPACE};
 use refusal::Refusal;
 use tables::check::{hall_number, short_table};
+use tables::lent::LentHall;
 
 // 27, 28, 19.
 #[tactic(auto, unfolding(crate::specs::Numbers::move_number, laws::specs::Refusal::first, laws::specs::Refusal::or_else))]
@@ -28,63 +30,28 @@ fn move_number(n: usize, present: &[u8], k: usize, width: usize) -> Result<(), R
 
 // 31.
 #[tactic(auto, unfolding(crate::specs::Numbers::call_short, laws::specs::Refusal::any_of, laws::specs::Refusal::short))]
-fn call_short(
-    n: usize,
-    count: usize,
-    rows: &[u16],
-    cols: &[u16],
-    values: &[i64],
-    c: usize,
-    present: usize,
-    choice: usize,
-    workspace: usize,
-) -> bool
-    ensures { result ≡ call_short n count (length rows.now) (length cols.now) (length values.now) c present choice workspace }
+fn call_short(hall: LentHall, present: usize, choice: usize, workspace: usize) -> bool
+    ensures { let t = costs_of hall.entry in result ≡ call_short t.n t.count (length t.rows) (length t.cols) (length t.values) (length t.c) present choice workspace }
 {
-    short_table(MOST_ENTRIES, count, rows, cols, values)
-        || choices_short(n, c, present, choice)
+    short_table(MOST_ENTRIES, hall.table)
+        || choices_short(hall.table.size, hall.c.len(), present, choice)
         || workspace < SEARCH_WORKSPACE
 }
 
 // The first number that applies; the lengths are those of the slices that the call writes.
 pub fn limited_number(
-    n: usize,
-    count: usize,
-    rows: &[u16],
-    cols: &[u16],
-    values: &[i64],
-    c: &[i64],
+    hall: LentHall,
     present: &[u8],
     k: usize,
     width: usize,
     choice: usize,
     workspace: usize,
 ) -> Result<(), Refusal>
-    ensures { numbered result ≡ limited_number n count rows.now cols.now values.now c.now present.now k width choice workspace }
+    ensures { let t = costs_of hall.entry in numbered result ≡ limited_number t.n t.count t.rows t.cols t.values t.c present.now k width choice workspace }
 {
-    if call_short(
-        n,
-        count,
-        rows,
-        cols,
-        values,
-        c.len(),
-        present.len(),
-        choice,
-        workspace,
-    ) {
+    if call_short(hall, present.len(), choice, workspace) {
         return Err(Refusal::Slice);
     }
-    hall_number(
-        MOST_WAGONS,
-        MOST_ENTRIES,
-        MOST_MAGNITUDE,
-        n,
-        count,
-        rows,
-        cols,
-        values,
-        c,
-    )?;
-    move_number(n, present, k, width)
+    hall_number(hall)?;
+    move_number(hall.table.size, present, k, width)
 }

@@ -1,17 +1,18 @@
 // The search of an accepted call.
 ghost use Rattle.std.specs.Prelude.{◌≡◌, suc, ◌≤◌, length};
 ghost use Rattle.laws.specs.Lists.{elem_z};
-ghost use Rattle.limits.specs.Limits.{most_wagons, most_entries, most_magnitude, most_signs, most_sign_entries, most_sign_magnitude};
-ghost use Rattle.tables.specs.Table.{table_of, Lent};
-ghost use Rattle.tables.specs.Check.{Hall, Accepted};
+ghost use Rattle.limits.specs.Limits.{most_signs, most_sign_entries, most_sign_magnitude};
+ghost use Rattle.tables.specs.Check.{Accepted};
 ghost use Rattle.sign_table.specs.SignTable.{sign_table};
 ghost use Rattle.limited_search.specs.Search.{present_signs, SearchFits, Leaves};
 ghost use Rattle.tables.specs.Entries.{listed};
 
-use finalize::room;
+use limits::MOST_SIGNS;
 use sign_search::search::{Searched, search_within};
-use sign_table::sign_matrix::sign_matrix;
+use sign_search::within::Leeway;
+use sign_table::made::SignTable;
 use tables::entries::Entries;
+use tables::judged::JudgedHall;
 use tables::objective::qubo_binary_from_sign_solution;
 
 // The first n bytes of the present choice, then the anchor's, which is +.
@@ -23,7 +24,8 @@ fn start_signs(n: usize, present: &[u8], signs: &mut [u8])
     signs[n] = 0;
 }
 
-// The search on a sign table of n + 1 signs; `found` takes what the answer decodes to.
+// The search on a sign table of n + 1 signs; `found` takes what the answer decodes to. That the table is accepted is asked here alone: a struct that
+// holds it would be made by `SignTable::entries`, which can be called before `make`, so that it would ask the fact in its turn.
 fn search_from(
     n: usize,
     table: Entries,
@@ -39,51 +41,34 @@ fn search_from(
         result.least result.rounds }
 {
     start_signs(n, present, signs);
-    let searched = search_within(table, width, signs, workspace, n, k);
+    let leeway = Leeway { flips: n, most: k };
+    let searched = search_within(table, width, signs, workspace, leeway);
     qubo_binary_from_sign_solution(n, signs, found);
     searched
 }
 
 // The same on (H, c), whose sign table is made.
+// Not one function with `search_reduced` of `block_search`, which also weighs the start on the table made: they share the lines that make table and
+// signs, and a function of these would lend both to a closure, whose clauses would say all that `search_from` asks and promises once more.
 pub fn search_limited(
-    n: usize,
-    table: Entries,
-    c: &[i64],
+    hall: JudgedHall,
     present: &[u8],
     k: usize,
     width: usize,
     found: &mut [u8],
     workspace: &mut [u64],
 ) -> Searched
-    requires { (n ≤ length c.now) × Hall most_wagons most_entries most_magnitude n (listed table) (elem_z c.now) × SearchFits n present.now width (length found.old) (length workspace.old) }
-    ensures { Leaves (sign_table n (listed table.entry) (elem_z c.now)) n present.now k width
+    requires { SearchFits hall.n present.now width (length found.old) (length workspace.old) }
+    ensures { let h = hall.entry in Leaves (sign_table h.n (listed h.table) (elem_z h.c.now)) h.n present.now k width
         found.old found.new result.least result.rounds }
 {
-    let mut sign_rows = room::indices();
-    let mut sign_cols = room::indices();
-    let mut sign_values = room::eighths();
-    let mut signs = room::signs();
-    let entries = sign_matrix(
-        n,
-        table.count,
-        table.rows,
-        table.cols,
-        table.values,
-        c,
-        &mut sign_rows,
-        &mut sign_cols,
-        &mut sign_values,
-    );
-    let m = n + 1;
-    let sign_table = Entries {
-        count: entries,
-        rows: &sign_rows[..entries],
-        cols: &sign_cols[..entries],
-        values: &sign_values[..entries],
-    };
+    let mut sign_table = SignTable::new();
+    sign_table.make(hall);
+    let mut signs = [0u8; MOST_SIGNS];
+    let m = hall.n + 1;
     search_from(
-        n,
-        sign_table,
+        hall.n,
+        sign_table.entries(),
         present,
         k,
         width,

@@ -1,4 +1,6 @@
 // 01's limits, each named once; specs/Limits.antt has the same names. What follows from another limit is computed from it.
+// There is no heap: whatever a call works on stands in arrays of the largest size that these allow, and of each the first places are used, as many as a
+// count or a slice says.
 #![tactic(auto)]
 
 // (H, c)

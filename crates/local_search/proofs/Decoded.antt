@@ -146,38 +146,27 @@ least_decoded n m c os s b after e = ap (decoded m) e ∙ best_map m b (level_of
 
 -- ---- no digit is set behind the last sign: the children of a tidy parent are tidy, and so is a level that takes them in
 
-all_keep_best : (P : Choice → Type 0) (w : ℕ) (l ys : List Choice) → All P l → All P ys → All P (keep_best below w l ys)
+pub all_keep_best : (P : Choice → Type 0) (w : ℕ) (l ys : List Choice) → All P l → All P ys → All P (keep_best below w l ys)
 unfolding keep_best
 all_keep_best P w l [] a b = a
 all_keep_best P w l (y ∷ ys) a b = all_keep_best P w (take w (insert below y l)) ys (all_take P w (insert below y l) (all_insert below P y l b.0 a)) b.1
 
-tidy_child : (changes : List ℤ) (m i : ℕ) (parent : Choice) → i < m → m ≤ 64 * length parent.signs → TidyChoice m parent → TidyChoice m (flip_w changes i parent)
-unfolding flip_w word_child
-tidy_child changes m i parent h held t = tidy_flip i parent.signs (omega arith) m h t
+-- the children of a parent that exist, of those of its first k signs
+module _ (exists : Choice → ℕ → Bool) (changes : List ℤ) (m : ℕ) (parent : Choice) (held : m ≤ 64 * length parent.signs) (t : TidyChoice m parent) where
+  pub tidy_children : (k : ℕ) → k ≤ m → All (TidyChoice m) (improving exists (flip_w changes) k parent)
+  unfolding improving flip_w word_child
+  tidy_children zero h = tt
+  tidy_children (suc k) h =
+      all_append (TidyChoice m) (improving exists (flip_w changes) k parent) (child_at exists (flip_w changes) parent k) (tidy_children k (omega arith)) (go (exists parent k))
+    where
+      go : (b : Bool) → All (TidyChoice m) (cond b (flip_w changes k parent ∷ []) [])
+      go true = (tidy_flip k parent.signs (omega arith) m h t, tt)
+      go false = tt
 
-tidy_children : (changes : List ℤ) (m k : ℕ) (parent : Choice) → k ≤ m → m ≤ 64 * length parent.signs → TidyChoice m parent → All (TidyChoice m) (listed_children changes k parent)
-unfolding improving
-tidy_children changes m zero parent h held t = tt
-tidy_children changes m (suc k) parent h held t =
-    all_append (TidyChoice m) (listed_children changes k parent) (child_at (improves_c (change_of changes)) (flip_w changes) parent k)
-    (tidy_children changes m k parent (omega arith) held t) (go (improves_c (change_of changes) parent k))
-  where
-    child : TidyChoice m (flip_w changes k parent)
-    child = tidy_child changes m k parent (omega arith) held t
-
-    go : (b : Bool) → All (TidyChoice m) (cond b (flip_w changes k parent ∷ []) [])
-    go true = (child, tt)
-    go false = tt
-
-pub kept_tidy : (changes : List ℤ) (m width : ℕ) (parent : Choice) (before after : List Choice) (count : ℕ) → m ≤ 64 * length parent.signs
-    → Kept width before (listed_children changes m parent) after count → TidyChoice m parent → All (TidyChoice m) before → All (TidyChoice m) after
-kept_tidy changes m width parent before after count held p t a =
-    subst (All (TidyChoice m)) (sym p.level) (all_keep_best (TidyChoice m) width before (listed_children changes m parent) a (tidy_children changes m m parent (omega arith) held t))
-
-pub appended_tidy : (changes : List ℤ) (m : ℕ) (start : Choice) (after : List Choice) (count most : ℕ) → m ≤ 64 * length start.signs
-    → Appended [] (listed_children changes m start) after count most → TidyChoice m start → All (TidyChoice m) after
-appended_tidy changes m start after count most held p t =
-    subst (All (TidyChoice m)) (sym p.level) (tidy_children changes m m start (omega arith) held t)
+  pub kept_tidy : (k width : ℕ) (before after : List Choice) (count : ℕ) → k ≤ m → Kept width before (improving exists (flip_w changes) k parent) after count
+      → All (TidyChoice m) before → All (TidyChoice m) after
+  kept_tidy k width before after count h p a =
+      subst (All (TidyChoice m)) (sym p.level) (all_keep_best (TidyChoice m) width before (improving exists (flip_w changes) k parent) a (tidy_children k h))
 
 pub tidy_none : (n m : ℕ) (os : List ℤ) (s : List ℕ) → TidyLevel n m 0 os s
 tidy_none n m os s = subst (All (TidyChoice m)) (sym (level_empty n os s)) tt

@@ -6,21 +6,23 @@ use native.Mathlib.Omega.{arith}
 use borrow.Author.Tests.{lt-ltb, le-ltb}
 use mathlib.Core.Bool.{Bool, true, false, cond}
 use mathlib.Core.List.{List}
-use mathlib.Core.Path.{◌≡◌, refl, sym, ap, ap₂, ◌∙◌, subst, subst₂}
+use mathlib.Core.Path.{◌≡◌, refl, sym, ap, ap₂, ◌∙◌, subst}
 use lib.Dec.{ltb}
 use lib.IntN.{ℤ, pos, ◌+ℤ◌}
 use lib.Signed.{lt_z}
 use lib.ListN.{length, take, get_or}
 use lib.Seq.{get_or-take, length-take-le}
+use Rattle.std.proofs.lemmas.Bool.{false_from_ne_true}
 use Rattle.laws.proofs.Integer.{lt_z_true, lt_z_false}
 use Rattle.local_search.specs.LocalSearch.{keep_best}
 use Rattle.local_search.specs.Level.{Choice, below, place_of, level_of, Ascending}
 use Rattle.local_search.specs.SignSearch.{improving, improves_c, child_at}
 use Rattle.local_search.specs.Children.{change_of, flip_w, Kept}
-use Rattle.local_search.specs.Enters.{finds_room, enters, limit_of, below_limit, FirstFrom}
+use Rattle.local_search.specs.Enters.{finds_room, enters, limit_of, below_limit, FirstFrom, none, first}
+use Rattle.std.specs.Prelude.{Option, Some, None}
 use Rattle.local_search.proofs.Heights.{lt_z_change}
 use Rattle.local_search.proofs.LevelLaws.{objectives_of}
-use Rattle.local_search.proofs.OrderLaws.{not_true, kept_rising, place_start, place_above, place_below}
+use Rattle.local_search.proofs.OrderLaws.{kept_rising, place_start, place_above, place_below}
 use Rattle.local_search.proofs.EntersMeans.{enters_means}
 use Rattle.local_search.proofs.ExpandLaws.{children_one_more}
 
@@ -47,7 +49,7 @@ below_both x last o = go (lt_z last o) refl (lt_z x o) refl (lt_z x last) refl
   where
     go : (a : Bool) → lt_z last o ≡ a → (b : Bool) → lt_z x o ≡ b → (c : Bool) → lt_z x last ≡ c → cond b c false ≡ lt_z x (cond a last o)
     go true p true q c r = sym r
-    go true p false q c r = sym (not_true (lt_z x last) (λ e. omega (arith, lt_z_true last o p, lt_z_false x o q, lt_z_true x last e)))
+    go true p false q c r = sym (false_from_ne_true (lt_z x last) (λ e. omega (arith, lt_z_true last o p, lt_z_false x o q, lt_z_true x last e)))
     go false p true q true r = sym q
     go false p true q false r = absurd (omega (arith, lt_z_false last o p, lt_z_true x o q, lt_z_false x last r))
     go false p false q c r = sym q
@@ -107,9 +109,17 @@ one_more_passed test from i before e j p q = go (dec_lt j i)
     go (yes h) = before j p h
     go (no n) = let same : i ≡ j = omega arith in subst (λ (k : ℕ). test k ≡ false) same e
 
-pub same_first : (changes : List ℤ) (o o' limit limit' : ℤ) (from m r : ℕ) → o ≡ o' → limit ≡ limit'
-    → FirstFrom (below_limit changes o limit) from m r → FirstFrom (below_limit changes o' limit') from m r
-same_first changes o o' limit limit' from m r e f p = subst₂ (λ (a b : ℤ). FirstFrom (below_limit changes a b) from m r) e f p
+pub same_first : (changes : List ℤ) (o : ℤ) {limit limit' : ℤ} {from m : ℕ} {r : Option ℕ} → limit ≡ limit'
+    → FirstFrom (below_limit changes o limit) from m r → FirstFrom (below_limit changes o limit') from m r
+same_first changes o {from} {m} {r} e p = subst (λ (b : ℤ). FirstFrom (below_limit changes o b) from m r) e p
+
+module _ {test : ℕ → Bool} {from m : ℕ} where
+  -- what is known of the one that is found
+  pub first_is : {r : ℕ} → FirstFrom test from m (Some r) → (from ≤ r) × (r < m) × ((i : ℕ) → from ≤ i → i < r → test i ≡ false)
+  first_is (first r onward inside passed found) = (onward, inside, passed)
+
+  pub none_is : FirstFrom test from m None → (i : ℕ) → from ≤ i → i < m → test i ≡ false
+  none_is (none passed) = passed
 
 -- ---- the children that are passed over
 
@@ -137,12 +147,12 @@ module _ (width : ℕ) (before : List Choice) (changes : List ℤ) (parent : Cho
       go (yes p) f = f p
       go (no n) f = let e : from ≡ suc to = omega arith in subst (Listed level count) e k
 
-  pub passed_over : (m count : ℕ) (os : List ℤ) (s : List ℕ) (from to most : ℕ) → 1 ≤ width → width ≤ length os → Ascending (objectives_of before)
-      → FirstFrom (below_limit changes parent.objective (limit_of width count os parent.objective)) from most to
+  pub passed_over : (m count : ℕ) (os : List ℤ) (s : List ℕ) (from to : ℕ) → 1 ≤ width → width ≤ length os → Ascending (objectives_of before) → from ≤ to
+      → ((i : ℕ) → from ≤ i → i < to → below_limit changes parent.objective (limit_of width count os parent.objective) i ≡ false)
       → Listed (level_of m count os s) count from → Listed (level_of m count os s) count to
-  passed_over m count os s from to most some room rising f k =
+  passed_over m count os s from to some room rising onward passed k =
       let few : count ≤ width = k.room in
       let fits : count ≤ length os = omega arith in
       let now-rising : Ascending (take count os) = kept_rising width m count os s before (listed from) count fits rising k in
-      children_stay (level_of m count os s) count from to f.onward
-      (λ i a b. (enters_means width m count os s changes parent i few fits).stays (enters_below width count os changes parent i some few fits now-rising ∙ f.passed i a b)) k
+      children_stay (level_of m count os s) count from to onward
+      (λ i a b. (enters_means width m count os s changes parent i few fits).stays (enters_below width count os changes parent i some few fits now-rising ∙ passed i a b)) k

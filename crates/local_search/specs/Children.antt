@@ -5,6 +5,7 @@ use Rattle.std.proofs.Common.{SFits}
 use Rattle.local_search.specs.LocalSearch.{keep_best}
 use Rattle.local_search.specs.Level.{Choice, below, word_child}
 use Rattle.local_search.specs.SignSearch.{improving, improves_c}
+use Rattle.local_search.specs.declared.children.Parent.{Parent}
 
 -- the changes of one parent, read from a list
 abbrev pub change_of : List ℤ → List ℕ → ℕ → ℤ
@@ -12,6 +13,10 @@ change_of changes x i = get_or changes i (pos 0)
 
 abbrev pub parent_of : ℤ → List ℕ → Choice
 parent_of objective signs = record { objective = objective; signs = signs }
+
+-- the same of a parent as it is passed
+abbrev pub choice_of : Parent → Choice
+choice_of p = parent_of p.objective p.row.now
 
 -- child i of a parent in words
 unfoldable pub flip_w : List ℤ → ℕ → Choice → Choice

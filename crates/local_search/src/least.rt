@@ -1,11 +1,9 @@
-// The first of least objective.
+// The first of least objective. The level's `objectives, signs, count` stay apart, for the reason at the head of level.rt.
 ghost use Rattle.std.specs.Prelude.{◌≡◌, ◌*◌, ◌≤◌, cond, length};
 ghost use Rattle.std.specs.Int.Signed.{lt_z};
 ghost use Rattle.local_search.specs.LocalSearch.{best};
 ghost use Rattle.local_search.specs.Level.{below, level_of};
 ghost use Rattle.local_search.specs.Children.{parent_of};
-
-use sign_words::words::copy;
 
 // The better of the choice kept so far and another, in bytes or in words; of equals the one kept so far. It is `better` of the two (`better_kept` in
 // proofs/Better).
@@ -15,7 +13,7 @@ pub fn keep_better<T: Copy>(least: i64, kept: &mut [T], objective: i64, row: &[T
     ensures kept_after { kept.new ≡ cond (lt_z objective least) row.now kept.old }
 {
     if objective < least {
-        copy(kept, row);
+        kept.copy_from_slice(row);
         return objective;
     }
     least

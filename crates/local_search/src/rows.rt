@@ -1,9 +1,9 @@
 // The rows of a level, in words (sign_words), and the signs of a choice, a byte for each.
-ghost use Rattle.std.specs.Prelude.{◌≡◌, ◌+◌, ◌*◌, ◌≤◌, ◌<◌, length, get_or};
+ghost use Rattle.std.specs.Prelude.{◌≡◌, ◌*◌, ◌<◌, length, get_or};
 ghost use Rattle.sign_words.specs.Signs.{flip_byte, flip_sign};
 ghost use Rattle.sign_words.specs.Packed.{flip_in};
 
-use sign_words::words::{copy, flip_in};
+use sign_words::words::flip_in;
 
 // The byte of sign `i`.
 pub fn sign_at(row: &[u8], i: usize) -> u8
@@ -14,13 +14,15 @@ pub fn sign_at(row: &[u8], i: usize) -> u8
 }
 
 // The other sign.
+#[tactic(auto, unfolding(sign_words::specs::Signs::flip_byte))]
 pub fn flip_byte(sign: u8) -> u8
     ensures { result ≡ flip_byte sign }
 {
-    if sign == 0 { 1 } else { 0 }
+    u8::from(sign == 0)
 }
 
 // Flips sign `i`.
+#[tactic(auto, unfolding(sign_words::specs::Signs::flip_sign))]
 pub fn flip_sign(row: &mut [u8], i: usize)
     requires { i < length row.old }
     ensures { row.new ≡ flip_sign i row.old }
@@ -33,6 +35,6 @@ pub fn copy_flip(row: &mut [u64], parent: &[u64], i: usize)
     requires { (length row.old ≡ length parent.now) × (i < 64 * length parent.now) }
     ensures { row.new ≡ flip_in i parent.now }
 {
-    copy(row, parent);
+    row.copy_from_slice(parent);
     flip_in(row, i);
 }

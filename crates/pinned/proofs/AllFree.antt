@@ -53,13 +53,15 @@ module _ (n : ℕ) (states : List ℕ) (free : (i : ℕ) → i < n → is_free s
     count_all =
         many_free small r ri states ∙ ap length (kept_all (among_free h states) h.value h.count entry_all) ∙ length_tabulate h.value h.count
 
+    places_all : (index : ℕ → ℕ) → ((l : ℕ) → l < h.count → index l < n) → kept (among_free h states) (λ l. place_of states (index l)) h.count ≡ tabulate index h.count
+    places_all index low =
+        kept_all (among_free h states) _ h.count entry_all ∙ tabulate_ext _ index h.count (λ l b. place_all (index l) (low l b))
+
     pub rows_all : rows_of (reduced_places h (free_of n states)) ≡ tabulate h.row h.count
-    rows_all =
-        rows_free small r ri states ∙ kept_all (among_free h states) _ h.count entry_all ∙ tabulate_ext _ h.row h.count (λ l b. place_all (h.row l) (r.rows_in l b))
+    rows_all = rows_free small r ri states ∙ places_all h.row r.rows_in
 
     pub cols_all : cols_of (reduced_places h (free_of n states)) ≡ tabulate h.column h.count
-    cols_all =
-        cols_free small r ri states ∙ kept_all (among_free h states) _ h.count entry_all ∙ tabulate_ext _ h.column h.count (λ l b. place_all (h.column l) (r.cols_in l b))
+    cols_all = cols_free small r ri states ∙ places_all h.column r.cols_in
 
     pub values_all : values_of (value_in h (free_of n states)) (reduced_places h (free_of n states)) ≡ tabulate h.value h.count
     values_all = values_free small r ri states ∙ kept_all (among_free h states) h.value h.count entry_all

@@ -7,49 +7,26 @@ use Prim.Native.Nat.{ℕ, zero, suc, ◌+◌, ◌*◌, ◌<◌, ◌≤◌}
 use native.Mathlib.Nat.{le_trans, le_refl}
 use native.Mathlib.Omega.{arith}
 use lib.ListN.{length}
-use lib.Dec.{eqb}
 use lib.IntN.{ℤ, pos, nat_abs, ◌*ℤ◌, *ℤ-zero, zero-*ℤ}
-use Rattle.laws.specs.Sum.{sum, sum₂, total, only}
+use Rattle.laws.specs.Sum.{sum, sum₂, total}
 use Rattle.laws.specs.Lists.{elem}
 use Rattle.laws.proofs.Integer.{abs_add, abs_mul, times_one}
 use Rattle.laws.proofs.Sums.{sum_abs}
-use Rattle.laws.proofs.Totals.{onlyℕ, total_ext, total_mono, total_zero, total_add, total_swap, total_only}
+use Rattle.laws.proofs.Totals.{onlyℕ, total_ext, total_mono, total_zero, total_add, total_swap}
 use Rattle.tables.specs.Table.{Table, InRange, Mirrored, Symmetric, magnitude_of, value_at, stored_at}
-use Rattle.tables.specs.Stored.{places, listed}
 use Rattle.tables.specs.Cost.{bit, cost_eighths}
 use Rattle.tables.specs.Check.{Hall, hall_magnitude}
-use Rattle.tables.proofs.Kept.{place_at, places_have, row_listed, col_listed, value_listed, places_magnitude}
-use Rattle.tables.proofs.Mirrors.{stored_true, stored_here, mirrored_symmetric}
+use Rattle.tables.proofs.Kept.{places_range, places_rising, places_mirrored, places_magnitude}
+use Rattle.tables.proofs.Weights.{kept_le, spread, value_le}
+use Rattle.tables.proofs.Mirrors.{stored_true, stored_here, hall_symmetric}
 use Rattle.reduced.specs.Submatrix.{kept_in, value_in, reduced_places}
 use Rattle.reduced.specs.Scatter.{Reducible}
-use Rattle.reduced.proofs.Entries.{places_rising, reduced_few}
+use Rattle.reduced.proofs.Entries.{reduced_few}
 use Rattle.pinned.specs.Pinned.{is_free, free_of, held_byte, held_at, free_table, beside_held, free_cost, held_cost}
 use Rattle.pinned.proofs.Free.{free_map, free_few, free_once, total_free}
 use Rattle.pinned.proofs.Costs.{free_cost_lem}
 
--- ---- in range and mirrored
-
-module _ (keep : ℕ → ℕ → Bool) (q : ℕ → ℕ → ℤ) (m : ℕ) where
-  pub places_range : InRange m (listed q (places keep m m))
-  places_range =
-      record {
-        rows_in = λ k h. rw (row_listed (places keep m m) k) (place_at keep m m k h).0;
-        cols_in = λ k h. rw (col_listed (places keep m m) k) (place_at keep m m k h).1;
-      }
-
-  places_mirrored : ((i j : ℕ) → i < m → j < m → keep i j ≡ true → keep j i ≡ true) → Symmetric m q → Mirrored (listed q (places keep m m))
-  places_mirrored sk sq = record {
-    image = λ k h.
-        let ps = places keep m m in
-        let (a, b, e) = place_at keep m m k h in
-        let (l, below, at) = places_have keep m m _ _ b a (sk _ _ a b e) in (
-          l,
-          below,
-          row_listed ps l ∙ ap (λ p. p.0) at ∙ sym (col_listed ps k),
-          col_listed ps l ∙ ap (λ p. p.1) at ∙ sym (row_listed ps k),
-          value_listed q ps l below ∙ ap (λ p. q p.0 p.1) at ∙ sq.mirror _ _ b a ∙ sym (value_listed q ps k h),
-        );
-  }
+-- ---- mirrored
 
 stored_mirror : {h : Table} → Mirrored h → (i j : ℕ) → stored_at h i j ≡ true → stored_at h j i ≡ true
 stored_mirror {h} mi i j e =
@@ -58,36 +35,6 @@ stored_mirror {h} mi i j e =
     stored_here h j i l b' (r' ∙ q) (q' ∙ r)
 
 -- ---- what the entries weigh, over the square
-
-abs_only : (a b : ℕ) (v : ℤ) → nat_abs (only a b v) ≡ onlyℕ a b (nat_abs v)
-abs_only a b v = go (eqb a b)
-  where
-    go : (t : Bool) → nat_abs (cond t v (pos 0)) ≡ cond t (nat_abs v) 0
-    go true = refl
-    go false = refl
-
-spread : {n : ℕ} {h : Table} → InRange n h → (w : ℕ → ℕ)
-    → total n (λ i. total n (λ j. total h.count (λ l. onlyℕ (h.row l) i (onlyℕ (h.column l) j (w l))))) ≡ total h.count w
-spread {n} {h} r w =
-    total_ext n _ (λ i. total h.count (λ l. total n (λ j. onlyℕ (h.row l) i (onlyℕ (h.column l) j (w l))))) (λ i b.
-    total_swap n h.count (λ j l. onlyℕ (h.row l) i (onlyℕ (h.column l) j (w l))))
-    ∙ total_swap n h.count (λ i l. total n (λ j. onlyℕ (h.row l) i (onlyℕ (h.column l) j (w l))))
-    ∙ total_ext h.count _ w (λ l b.
-    total_ext n _ (λ i. onlyℕ (h.row l) i (w l)) (λ i a. inside (eqb (h.row l) i) l b) ∙ total_only n (h.row l) (λ i. w l) (r.rows_in l b))
-  where
-    inside : (t : Bool) (l : ℕ) → l < h.count → total n (λ j. cond t (onlyℕ (h.column l) j (w l)) 0) ≡ cond t (w l) 0
-    inside true l b = total_only n (h.column l) (λ j. w l) (r.cols_in l b)
-    inside false l b = total_zero n
-
-value_le : (h : Table) (i j : ℕ) → nat_abs (value_at h i j) ≤ total h.count (λ l. onlyℕ (h.row l) i (onlyℕ (h.column l) j (nat_abs (h.value l))))
-unfolding value_at
-value_le h i j =
-    le_trans (sum_abs h.count (λ l. only (h.row l) i (only (h.column l) j (h.value l))))
-    (omega (
-      arith,
-      total_ext h.count _ (λ l. onlyℕ (h.row l) i (onlyℕ (h.column l) j (nat_abs (h.value l)))) (λ l b.
-          abs_only (h.row l) i (only (h.column l) j (h.value l)) ∙ ap (onlyℕ (h.row l) i) (abs_only (h.column l) j (h.value l))),
-    ))
 
 square_le : {n : ℕ} {h : Table} → InRange n h → total n (λ i. total n (λ j. nat_abs (value_at h i j))) ≤ magnitude_of h
 square_le {n} {h} r =
@@ -179,10 +126,6 @@ module _ (n : ℕ) (h : Table) (c : ℕ → ℤ) (states : List ℕ) where
 
   abbrev map : List ℕ
   map = free_of n states
-
-  kept_le : (t : Bool) (x : ℕ) → cond t x 0 ≤ x
-  kept_le true x = omega arith
-  kept_le false x = omega arith
 
   -- the quadratic costs among the free wagons
   table_le : magnitude_of (free_table n h states) ≤ free_free n states size
@@ -303,7 +246,7 @@ module _ {most capacity limit n : ℕ} {h : Table} {c : ℕ → ℤ} (ok : Hall 
   pub reduce_hall : Hall most capacity limit (length (free_of n states)) (free_table n h states) (free_cost n h c states)
   unfolding free_table reduced_places
   reduce_hall =
-      let sy = mirrored_symmetric ok.rising ok.mirrored n in
+      let sy = hall_symmetric ok in
       record {
         wagons = omega (arith, free_few n states, ok.wagons);
         entries = le_trans (reduced_few (free_reducible (le_refl n) (le_refl h.count))) ok.entries;

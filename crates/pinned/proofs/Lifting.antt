@@ -10,6 +10,7 @@ use lib.ListN.{length, take, drop}
 use lib.Seq.{get_or-take, length-take-le}
 use lib.IntN.{ℤ}
 use Rattle.laws.specs.Lists.{elem, tabulate, over}
+use Rattle.laws.proofs.Any.{never}
 use Rattle.laws.proofs.Made.{get_d_tabulate, tabulate_get_d}
 use Rattle.tables.specs.Table.{Table, value_at}
 use Rattle.tables.specs.Cost.{bit, choice_at, cost_eighths}
@@ -25,9 +26,6 @@ pub keeping : (n : ℕ) (states b : List ℕ) → ((i : ℕ) → i < n → elem 
 keeping n states b h = record { same = λ i l e. h i l (ltb-false 1 (elem states i) e) }
 
 -- ---- what stands where
-
-never : true ≡ false → ⊥
-never e = let z : ◌≡◌ {A = ℕ} 0 1 = cc in omega arith
 
 module _ (n : ℕ) (states b : List ℕ) (long : n ≤ length states) where
   pub length_lifted : length (lifted n states b) ≡ n
@@ -52,7 +50,7 @@ module _ (n : ℕ) (states b : List ℕ) (long : n ≤ length states) where
   lifted_held i h f = go (stands i h)
     where
       go : {y : ℕ} → Last (elem (free_of n states)) (elem b) (length (free_of n states)) i (elem states i) y → y ≡ elem states i
-      go (found j l e rest) = absurd (never (sym ((free_map n states).free j l) ∙ ap (is_free states) e ∙ f))
+      go (found j l e rest) = never (sym f ∙ sym (ap (is_free states) e) ∙ (free_map n states).free j l)
       go (none away) = refl
 
   -- the theorem: it keeps the held wagons
@@ -62,6 +60,9 @@ module _ (n : ℕ) (states b : List ℕ) (long : n ≤ length states) where
 pub part_at : (n : ℕ) (states b : List ℕ) (k : ℕ) → k < length (free_of n states) → elem (free_part n states b) k ≡ elem b (elem (free_of n states) k)
 unfolding free_part
 part_at n states b k h = get_d_tabulate (λ k. elem b (elem (free_of n states) k)) (length (free_of n states)) k 0 h
+
+pub part_choice : (n : ℕ) (states b : List ℕ) (k : ℕ) → k < length (free_of n states) → choice_at (free_part n states b) k ≡ choice_at b (elem (free_of n states) k)
+part_choice n states b k h = ap bit (part_at n states b k h)
 
 -- the theorem: a choice that keeps the held wagons is its free part, lifted
 pub keeping_lifted : (n : ℕ) (states b : List ℕ) → n ≤ length states → Keeps n states b → (i : ℕ) → i < n → choice_at b i ≡ choice_at (lifted n states (free_part n states b)) i

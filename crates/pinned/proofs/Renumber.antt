@@ -5,7 +5,7 @@
 use mathlib.Core.Path.{◌≡◌, refl, sym, ◌∙◌, ap, ap₂}
 use mathlib.Core.Logic.{◌⊎◌, inl, inr}
 use mathlib.Core.Bool.{Bool, true, false, cond}
-use mathlib.Core.List.{List, [], ◌∷◌, ◌++◌}
+use mathlib.Core.List.{List, [], ◌∷◌, ◌++◌, map}
 use Prim.Native.Nat.{ℕ, zero, suc, ◌+◌, ◌*◌, ◌<◌, ◌≤◌}
 use native.Mathlib.Decide.{ℕ_discrete}
 use native.Mathlib.Nat.{le_antisymm}
@@ -19,17 +19,15 @@ use Rattle.laws.specs.Lists.{elem, kept, only_if}
 use Rattle.laws.proofs.Any.{never}
 use Rattle.laws.proofs.Made.{below_or_not, tabulate_get_d, kept_lengths}
 use Rattle.tables.specs.Table.{Table, Before, InRange, Rising, value_at}
-use Rattle.tables.specs.Stored.{places, rows_of, cols_of, values_of, listed}
+use Rattle.tables.specs.Stored.{places, rows_of, cols_of, values_of, stored_table}
 use Rattle.tables.specs.Check.{place_key, Placed}
 use Rattle.tables.proofs.Checks.{placed}
-use Rattle.tables.proofs.Kept.{place_at, places_have, row_listed, col_listed, value_listed}
+use Rattle.tables.proofs.Kept.{place_at, places_have, row_listed, col_listed, value_listed, places_range, places_rising}
 use Rattle.tables.proofs.Mirrors.{rises, value_here, stored_true, stored_here}
 use Rattle.limits.specs.Limits.{most_wagons}
 use Rattle.reduced.specs.Submatrix.{kept_in, value_in, reduced_places}
-use Rattle.reduced.proofs.Entries.{places_rising}
 use Rattle.pinned.specs.Pinned.{is_free, free_of, place_of}
 use Rattle.pinned.proofs.Free.{Picked, picked, free_map, free_few, free_once, kept_picked}
-use Rattle.pinned.proofs.Halls.{places_range}
 
 -- ---- two climbing lists of the same numbers are one
 
@@ -149,7 +147,7 @@ module _ {n : ℕ} {h : Table} (small : n ≤ 65536) (r : InRange n h) (ri : Ris
   ps = places (kept_in h free) (length free) (length free)
 
   abbrev made : Table
-  made = listed (value_in h free) ps
+  made = stored_table (value_in h free) ps
 
   -- the numbers of the free entries, and the table of these
   abbrev ks : List ℕ
@@ -247,22 +245,24 @@ module _ {n : ℕ} {h : Table} (small : n ≤ 65536) (r : InRange n h) (ri : Ris
       ∙ ap₂ (value_at h) (ap (elem free) (sym (row_listed ps k) ∙ row_is k b) ∙ (row_in k b).1) (ap (elem free) (sym (col_listed ps k) ∙ column_is k b) ∙ (col_in k b).1)
       ∙ value_here ri (h.row (elem ks k)) (h.column (elem ks k)) (elem ks k) (them.below k b) refl refl
 
+  -- a list of the places is one of the free entries where they are alike place by place
+  listed_free : {A : Type 0} (part : ℕ × ℕ → A) (of : ℕ → A) (d : A) → ((k : ℕ) → k < sub.count → get_or (map part ps) k d ≡ of (elem ks k))
+      → map part ps ≡ kept (among_free h states) of h.count
+  listed_free part of d is =
+      tabulate_get_d (map part ps) (length ks) d (λ k. of (elem ks k)) (length-map ps part ∙ count_is) is ∙ sym (kept_picked (among_free h states) of h.count)
+
   -- the theorem
   pub rows_free : rows_of (reduced_places h free) ≡ kept (among_free h states) (λ l. place_of states (h.row l)) h.count
   unfolding reduced_places
-  rows_free =
-      tabulate_get_d (rows_of ps) (length ks) 0 sub.row (length-map ps (λ p. p.0) ∙ count_is) row_is ∙ sym (kept_picked (among_free h states) (λ l. place_of states (h.row l)) h.count)
+  rows_free = listed_free (λ p. p.0) (λ l. place_of states (h.row l)) 0 row_is
 
   pub cols_free : cols_of (reduced_places h free) ≡ kept (among_free h states) (λ l. place_of states (h.column l)) h.count
   unfolding reduced_places
-  cols_free =
-      tabulate_get_d (cols_of ps) (length ks) 0 sub.column (length-map ps (λ p. p.1) ∙ count_is) column_is ∙ sym (kept_picked (among_free h states) (λ l. place_of states (h.column l)) h.count)
+  cols_free = listed_free (λ p. p.1) (λ l. place_of states (h.column l)) 0 column_is
 
   pub values_free : values_of (value_in h free) (reduced_places h free) ≡ kept (among_free h states) h.value h.count
   unfolding reduced_places
-  values_free =
-      tabulate_get_d (values_of (value_in h free) ps) (length ks) (pos 0) sub.value (length-map ps (λ p. value_in h free p.0 p.1) ∙ count_is) value_is
-      ∙ sym (kept_picked (among_free h states) h.value h.count)
+  values_free = listed_free (λ p. value_in h free p.0 p.1) h.value (pos 0) value_is
 
   pub many_free : length (reduced_places h free) ≡ length (kept (among_free h states) h.value h.count)
   unfolding reduced_places

@@ -3,11 +3,10 @@
 use mathlib.Core.Path.{◌≡◌, refl, sym, ◌∙◌, ap, ap₂, subst}
 use mathlib.Core.Bool.{Bool, true, false, cond}
 use mathlib.Core.List.{List}
-use Prim.Native.Nat.{ℕ, zero, suc, ◌+◌, ◌*◌, ◌<◌, ◌≤◌}
+use Prim.Native.Nat.{ℕ, zero, suc, ◌+◌, ◌*◌, ◌^◌, ◌<◌, ◌≤◌}
 use native.Mathlib.Decide.{ℕ_discrete}
 use native.Mathlib.Nat.{le_refl}
 use native.Mathlib.Omega.{arith}
-use borrow.Author.Tests.{lt-ltb, le-ltb}
 use mir.Syntax.{w64}
 use mir.Val.{SFits, to_z, of_z}
 use mir.Facts.{to_z-of_z}
@@ -18,16 +17,18 @@ use lib.IntN.{ℤ, pos, nat_abs, ◌+ℤ◌, ◌*ℤ◌, *ℤ-zero, +ℤ_idr}
 use Rattle.laws.specs.Sum.{sum, sum₂, only}
 use Rattle.laws.specs.Lists.{elem, elem_z, kept, over, fill, tabulate, put_if, next_if}
 use Rattle.laws.proofs.Integer.{parts, differences, ring, abs_add, abs_mul, fits_abs, times_one, mul_left_comm}
-use Rattle.laws.proofs.Sums.{Held, sum_more, sum_ext, sum_add, sum_scale, sum_only, sum₂_ext, sum_bounded, total_at, only_yes, only_no}
+use Rattle.laws.proofs.Sums.{Held, sum_more, sum_ext, sum_add, sum_scale, sum₂_ext, sum_bounded, total_at, only_yes, only_no}
 use Rattle.laws.proofs.Made.{kept_next, kept_count, length_tabulate, get_d_tabulate, tabulate_ext, tabulate_next, tabulate_get_d, tabulate_replicate}
 use Rattle.laws.proofs.MapFirst.{get_d_map_first}
 use Rattle.tables.specs.Table.{Table, table_of, InRange, Symmetric, magnitude_of, value_at}
 use Rattle.tables.specs.Stored.{rows_of, cols_of, values_of, Wrote, Room}
 use Rattle.tables.specs.Cost.{bit, choice_at, cost_eighths}
 use Rattle.tables.specs.Check.{Hall, hall_magnitude}
-use Rattle.tables.proofs.Places.{only_sum, over_places}
-use Rattle.tables.proofs.Choices.{cost_ext}
-use Rattle.tables.proofs.Mirrors.{mirrored_symmetric}
+use Rattle.tables.proofs.Places.{over_places}
+use Rattle.tables.proofs.Flips.{one_row}
+use Rattle.tables.proofs.Choices.{cost_ext, four_fits, eight_fits}
+use Rattle.tables.proofs.Choices as Choices
+use Rattle.tables.proofs.Mirrors.{hall_symmetric}
 use Rattle.limits.specs.Limits.{most_wagons, most_entries, most_magnitude}
 use Rattle.reduced.specs.Submatrix.{value_in, reduced_places}
 use Rattle.pinned.specs.Pinned.{is_free, free_of, held_byte, held_at, free_table, beside_held, free_costs, held_cost, Shrinks, beside_term, held_term, BesideFits}
@@ -35,12 +36,6 @@ use Rattle.pinned.proofs.Free.{free_few, free_map}
 use Rattle.pinned.proofs.Halls.{reduce_magnitude}
 
 -- ---- the free wagons
-
-pub free_yes : (states : List ℕ) (i : ℕ) → 1 < elem states i → is_free states i ≡ true
-free_yes states i h = lt-ltb 1 (elem states i) h
-
-pub free_no : (states : List ℕ) (i : ℕ) → elem states i ≤ 1 → is_free states i ≡ false
-free_no states i h = le-ltb 1 (elem states i) h
 
 pub free_none : (states xs : List ℕ) → xs ≡ over (free_of 0 states) xs
 unfolding free_of kept
@@ -59,19 +54,15 @@ pub free_count_lem : (states : List ℕ) (i at : ℕ) {at' : ℕ} → at ≡ len
 unfolding free_of
 free_count_lem states i at a e = e ∙ kept_count (is_free states) (λ j. j) i at a
 
+-- fewer are free than wagons are passed
+pub free_before : (states : List ℕ) {i at m : ℕ} → at ≡ length (free_of i states) → i < m → at < m
+free_before states {i} a l = omega (arith, free_few i states)
+
 -- the free wagons, cut from the front of the slice
 pub free_cut : (n f : ℕ) (states xs ys : List ℕ) → ys ≡ over (free_of n states) xs → f ≡ length (free_of n states) → take f ys ≡ free_of n states
 free_cut n f states xs ys e l = rw e (take_at (free_of n states) _ f (sym l))
 
 -- ---- the choice of the held wagons
-
-pub held_free_lem : (states : List ℕ) (i : ℕ) → 1 < elem states i → 0 ≡ held_byte states i
-unfolding held_byte
-held_free_lem states i h = rw (free_yes states i h)
-
-pub held_stays : (states : List ℕ) (i : ℕ) → elem states i ≤ 1 → elem states i ≡ held_byte states i
-unfolding held_byte
-held_stays states i h = rw (free_no states i h)
 
 pub held_at_lem : (n : ℕ) (states : List ℕ) {held : List ℕ} → held ≡ fill (held_byte states) n (replicate most_wagons 0) → n ≤ most_wagons → (i : ℕ) → i < n → choice_at held i ≡ held_at states i
 held_at_lem n states e small i h =
@@ -143,10 +134,6 @@ only_right i a q w = go (eqb i a)
     go true = refl
     go false = sym (*ℤ-zero q)
 
-one_row : (m i : ℕ) (f : ℕ → ℕ → ℤ) → i < m → sum₂ m (λ a b. only i a (f a b)) ≡ sum m (f i)
-unfolding sum₂
-one_row m i f h = sum_ext m _ _ (λ a k. only_sum m i a (f a)) ∙ sum_only m i (λ a. sum m (f a)) h
-
 beside_dense : {n : ℕ} {h : Table} → InRange n h → (y : ℕ → ℤ) (i : ℕ) → i < n → sum h.count (beside_term h y i) ≡ sum n (λ j. value_at h i j *ℤ y j)
 beside_dense {n} {h} r y i l =
     sum_ext h.count _ _ (λ k b. only_right i (h.row k) (h.value k) (y (h.column k)))
@@ -193,6 +180,17 @@ cost_rows n H c y =
     row : (i : ℕ) → sum n (λ j. H i j *ℤ (y i *ℤ y j)) ≡ y i *ℤ sum n (λ j. H i j *ℤ y j)
     row i = sum_ext n _ _ (λ j b. mul_left_comm (H i j) (y i) (y j)) ∙ sum_scale n (y i) (λ j. H i j *ℤ y j)
 
+-- an i64 holds what a wagon's share is computed from
+pub record OwnFits (s a : ℤ) : Type 0 where
+  pub sums_fit : SFits w64 (pos 4 *ℤ s)
+  pub cost_fits : SFits w64 (pos 8 *ℤ a)
+  pub both_fit : SFits w64 (pos 4 *ℤ s +ℤ pos 8 *ℤ a)
+
+pub own_fits : (s a : ℤ) → nat_abs s + 2 * nat_abs a ≤ most_magnitude → OwnFits s a
+own_fits s a h =
+    let small : nat_abs s + 2 * nat_abs a ≤ 2 ^ 58 = omega (arith, h) in
+    record { sums_fit = four_fits s a small; cost_fits = eight_fits s a small; both_fit = Choices.cost_fits s a small }
+
 -- a sum of k summands of at most m each
 sum_small : (n m : ℕ) (f : ℕ → ℤ) → ((i : ℕ) → i < n → nat_abs (f i) ≤ m) → (k : ℕ) → k ≤ n → nat_abs (sum k f) ≤ k * m
 unfolding sum
@@ -222,7 +220,7 @@ module _ {n : ℕ} {h : Table} {c : ℕ → ℤ} (ok : Hall most_wagons most_ent
   sum_at i l = rw summed (get_d_tabulate (λ j. sum h.count (beside_term (turned h) (choice_at held) j)) most_wagons i (pos 0) (omega (arith, ok.wagons)))
 
   row_at : (i : ℕ) → i < n → elem_z sums i ≡ sum n (λ j. value_at h i j *ℤ choice_at held j)
-  row_at i l = sum_at i l ∙ turned_dense ok.in_range (mirrored_symmetric ok.rising ok.mirrored n) (choice_at held) i l
+  row_at i l = sum_at i l ∙ turned_dense ok.in_range (hall_symmetric ok) (choice_at held) i l
 
   beside_is : (i : ℕ) → i < n → c i +ℤ elem_z sums i ≡ beside_held n h c states i
   unfolding beside_held
@@ -281,7 +279,7 @@ cost_next f k xs ys h e g = rw g (tabulate_next f k xs ys (pos 0) h e)
 
 pub constant_held : {most capacity limit n : ℕ} {h : Table} {c : ℕ → ℤ} → Hall most capacity limit n h c → limit ≤ most_magnitude → (states : List ℕ) {constant : ℤ} → constant ≡ held_cost n h c states → to_z w64 (of_z w64 constant) ≡ constant
 constant_held {n = n} {h = h} {c = c} ok small states {constant} e =
-    to_z-of_z (fits_abs constant (rw e (omega (arith, reduce_magnitude n h c states ok.in_range (mirrored_symmetric ok.rising ok.mirrored n), ok.magnitude))))
+    to_z-of_z (fits_abs constant (rw e (omega (arith, reduce_magnitude n h c states ok.in_range (hall_symmetric ok), ok.magnitude))))
 
 -- ---- the fronts of the slices are the reduced (H, c)
 

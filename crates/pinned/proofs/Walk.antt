@@ -27,12 +27,6 @@ use Rattle.pinned.proofs.Renumber.{among_free, place_test, rows_free, cols_free,
 
 -- ---- the places
 
-pub place_yes : (states : List ℕ) (i before : ℕ) → 1 < elem states i → before ≡ cond (is_free states i) before most_wagons
-place_yes states i before h = rw (lt-ltb 1 (elem states i) h)
-
-pub place_no : (states : List ℕ) (i before : ℕ) → elem states i ≤ 1 → most_wagons ≡ cond (is_free states i) before most_wagons
-place_no states i before h = rw (le-ltb 1 (elem states i) h)
-
 pub place_so : (states : List ℕ) (i before : ℕ) {place : ℕ} → before ≡ length (free_of i states) → place ≡ cond (is_free states i) before most_wagons → place ≡ place_of states i
 unfolding place_of
 place_so states i before e p = p ∙ ap (λ x. cond (is_free states i) x most_wagons) e

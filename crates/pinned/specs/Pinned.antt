@@ -6,7 +6,7 @@ use Rattle.std.proofs.Common.{SFits}
 use Rattle.laws.specs.Sum.{sum, only}
 use Rattle.laws.specs.Lists.{elem, elem_z, tabulate, kept, over}
 use Rattle.tables.specs.Table.{Table, table_of, Lent, value_at}
-use Rattle.tables.specs.Stored.{listed, Wrote}
+use Rattle.tables.specs.Stored.{stored_table, Wrote}
 use Rattle.tables.specs.Cost.{bit, choice_at, cost_eighths}
 use Rattle.tables.specs.Check.{Hall}
 use Rattle.limits.specs.Limits.{most_wagons, most_entries, most_magnitude}
@@ -29,7 +29,7 @@ held_at states i = bit (held_byte states i)
 
 -- the quadratic costs among the free wagons, as the table stores them
 unfoldable pub free_table : ℕ → Table → List ℕ → Table
-free_table n h states = listed (value_in h (free_of n states)) (reduced_places h (free_of n states))
+free_table n h states = stored_table (value_in h (free_of n states)) (reduced_places h (free_of n states))
 
 -- the linear cost of wagon i beside those held in 1: its own, and H_ij for each j of these
 unfoldable pub beside_held : ℕ → Table → (ℕ → ℤ) → List ℕ → ℕ → ℤ
@@ -58,7 +58,7 @@ free_part n states b = tabulate (λ k. elem b (elem (free_of n states) k)) (leng
 pub record Keeps (n : ℕ) (states b : List ℕ) : Type 0 where
   pub same : (i : ℕ) → i < n → is_free states i ≡ false → choice_at b i ≡ bit (elem states i)
 
--- ---- the code: (H, c) in slices, and what it is reduced to, in slices too
+-- ---- the code: (H, c) as it is lent, and what it is reduced to, in slices
 
 -- what is asked
 pub record Reducing (n count : ℕ) (rows cols : List ℕ) (values c : List ℤ) (states : List ℕ) : Type 0 where

@@ -4,20 +4,24 @@ ghost use Rattle.std.specs.Prelude.{◌≡◌, ℕ, ◌+◌, ◌*◌, ◌<◌, �
 ghost use Rattle.std.specs.Int.{w64};
 ghost use Rattle.std.proofs.Common.{SFits};
 ghost use Rattle.laws.specs.Sum.{sum};
-ghost use Rattle.laws.specs.Lists.{elem, elem_z, fill, tabulate, over, put_if, next_if};
-ghost use Rattle.tables.specs.Table.{table_of, Lent, InRange, magnitude_of};
+ghost use Rattle.laws.specs.Lists.{elem, elem_z, fill, tabulate, over};
+ghost use Rattle.tables.specs.Table.{InRange, magnitude_of};
 ghost use Rattle.tables.specs.Stored.{Room};
-ghost use Rattle.tables.specs.Cost.{bit, choice_at};
+ghost use Rattle.tables.specs.Cost.{choice_at};
 ghost use Rattle.limits.specs.Limits.{most_wagons, most_magnitude};
-ghost use Rattle.pinned.specs.Pinned.{is_free, free_of, held_byte, Reducing, Shrinks, beside_term, held_term, BesideFits};
+ghost use Rattle.pinned.specs.Pinned.{free_of, held_byte, Shrinks, beside_term, held_term, BesideFits};
 ghost use Rattle.tables.specs.Entries.{listed};
 
-use crate::entries::{free_entries, free_places};
+use crate::entries::{Placed, free_entries, free_places};
 use limits::MOST_WAGONS;
-use tables::check::wide;
 use tables::entries::Entries;
+use tables::judged::JudgedHall;
+use tables::objective::chosen_once;
+use tables::staying::put_kept;
 
-// The states are bytes that a job has as they stand: 0 and 1 are stores, any other is free. They stay bytes and become no enum.
+// A state is a byte: 0 and 1 are stores, any other is free. They stay bytes and become no enum: the definitions and the theorems speak of any byte, and a held
+// one is copied into a choice as it stands. `n` stays beside them: it is the hall's, more states than it may be lent, and of a slice that is cut to n each
+// definition would speak through `take n`.
 
 // How many wagons are free, how many entries they have, and what the held ones cost.
 #[derive(Drop)]
@@ -27,24 +31,6 @@ pub struct Shrunk {
     pub constant: i64,
 }
 
-#[derive(Drop)]
-pub struct Costs {
-    pub count: usize,
-    pub constant: i64,
-}
-
-// Wagon i, if it is free, at place `at`; the next place.
-fn put_free(states: &[u8], i: usize, at: usize, free: &mut [u16]) -> usize
-    requires { (i < length states.now) × (i < 65536) × (at < length free.old) }
-    ensures { (free.new ≡ put_if (is_free states.now i) at i free.old) × (result ≡ next_if (is_free states.now i) at) }
-{
-    if 1 < states[i] {
-        free[at] = i as u16;
-        return at + 1;
-    }
-    at
-}
-
 // The free wagons, in rising order; how many they are.
 pub fn free_wagons(n: usize, states: &[u8], free: &mut [u16]) -> usize
     requires { (n ≤ most_wagons) × (n ≤ length states.now) × (n ≤ length free.old) }
@@ -52,12 +38,13 @@ pub fn free_wagons(n: usize, states: &[u8], free: &mut [u16]) -> usize
 {
     let mut at = 0;
     for i in 0..n {
-        at = put_free(states, i, at, free);
+        at = put_kept(free, at, i as u16, 1 < states[i]);
     }
     at
 }
 
 // The store of a held wagon, 0 of a free one.
+#[tactic(auto, unfolding(crate::specs::Pinned::held_byte))]
 fn held_byte(states: &[u8], i: usize) -> u8
     requires { i < length states.now }
     ensures { result ≡ held_byte states.now i }
@@ -80,23 +67,13 @@ fn held_choice(n: usize, states: &[u8]) -> [u8; MOST_WAGONS]
     held
 }
 
-// The value where the choice is 1, else 0.
-fn value_if(value: i64, x: u8) -> i64
-    ensures { result ≡ value *ℤ bit x }
-{
-    if x == 0 {
-        return 0;
-    }
-    value
-}
-
 // What entry l adds to the linear cost of its row's wagon: its value where the wagon of its column is in 1.
-fn entry_term(cols: &[u16], values: &[i64], held: &[u8; MOST_WAGONS], l: usize) -> i64
-    requires { (l < length cols.now) × (l < length values.now) × (elem cols.now l < most_wagons) }
-    ensures { result ≡ elem_z values.now l *ℤ choice_at held.now (elem cols.now l) }
+fn entry_term(table: Entries, held: &[u8; MOST_WAGONS], l: usize) -> i64
+    requires { InRange most_wagons (listed table) × (l < table.count) }
+    ensures { let t = listed table.entry in result ≡ t.value l *ℤ choice_at held.now (t.column l) }
 {
-    let j = wide(cols[l]);
-    value_if(values[l], held[j])
+    let j = usize::from(table.cols[l]);
+    chosen_once(table.values[l], held[j])
 }
 
 // What the held wagons add to the linear cost of each wagon, by one walk over the entries.
@@ -106,8 +83,8 @@ fn beside_sums(table: Entries, held: &[u8; MOST_WAGONS]) -> [i64; MOST_WAGONS]
 {
     let mut sums = [0i64; MOST_WAGONS];
     for l in 0..table.count {
-        let i = wide(table.rows[l]);
-        sums[i] += entry_term(table.cols, table.values, held, l);
+        let i = usize::from(table.rows[l]);
+        sums[i] += entry_term(table, held, l);
     }
     sums
 }
@@ -128,7 +105,7 @@ fn put_costs(c: &[i64], sums: &[i64; MOST_WAGONS], free: &[u16], to_c: &mut [i64
         to_c.old }
 {
     for k in 0..free.len() {
-        let i = wide(free[k]);
+        let i = usize::from(free[k]);
         to_c[k] = beside_held(c, sums, i);
     }
 }
@@ -138,7 +115,7 @@ fn held_term(c: &[i64], sums: &[i64; MOST_WAGONS], held: &[u8; MOST_WAGONS], i: 
     requires { (i < length c.now) × (i < most_wagons) × (nat_abs (elem_z sums.now i) + 2 * nat_abs (elem_z c.now i) ≤ most_magnitude) }
     ensures { result ≡ held_term (elem_z c.now) (elem_z sums.now) (choice_at held.now) i }
 {
-    value_if(4 * sums[i] + 8 * c[i], held[i])
+    chosen_once(4 * sums[i] + 8 * c[i], held[i])
 }
 
 // The constant, by the sums of the held wagons.
@@ -156,58 +133,50 @@ fn held_cost(n: usize, c: &[i64], sums: &[i64; MOST_WAGONS], held: &[u8; MOST_WA
 
 // The costs of the free wagons, which are given.
 fn reduce_to(
-    n: usize,
-    count: usize,
-    rows: &[u16],
-    cols: &[u16],
-    values: &[i64],
-    c: &[i64],
+    hall: JudgedHall,
     states: &[u8],
     free: &[u16],
     to_rows: &mut [u16],
     to_cols: &mut [u16],
     to_values: &mut [i64],
     to_c: &mut [i64],
-) -> Costs
-    requires { Reducing n count rows.now cols.now values.now c.now states.now × (free.now ≡ free_of n states.now)
-        × Room 0 count to_rows.old to_cols.old to_values.old × (n ≤ length to_c.old) }
-    ensures { Shrinks n (table_of count rows.now cols.now values.now) (elem_z c.now) states.now
+) -> Shrunk
+    requires { (hall.n ≤ length states.now) × (free.now ≡ free_of hall.n states.now)
+        × Room 0 hall.table.count to_rows.old to_cols.old to_values.old × (hall.n ≤ length to_c.old) }
+    ensures { let h = hall.entry in (result.free ≡ length (free_of h.n states.now))
+        × Shrinks h.n (listed h.table) (elem_z h.c.now) states.now
         to_rows.old to_cols.old to_values.old to_c.old
         to_rows.new to_cols.new to_values.new to_c.new result.count result.constant }
 {
+    let n = hall.n;
+    let table = hall.table;
     let held = held_choice(n, states);
-    // H is its own mirror image. Read by columns, the entries of a row all ask for the store of one wagon, so that the branch is easily guessed.
+    // H is its own mirror image, and is read by columns: so the entries that follow each other ask for the store of one wagon.
     let turned = Entries {
-        count,
-        rows: cols,
-        cols: rows,
-        values,
+        count: table.count,
+        rows: table.cols,
+        cols: table.rows,
+        values: table.values,
     };
     let sums = beside_sums(turned, &held);
-    let constant = held_cost(n, c, &sums, &held);
-    put_costs(c, &sums, free, to_c);
+    let constant = held_cost(n, hall.c, &sums, &held);
+    put_costs(hall.c, &sums, free, to_c);
     let places = free_places(n, states);
-    let table = Entries {
-        count,
-        rows,
-        cols,
-        values,
+    let placed = Placed {
+        table,
+        places: &places,
     };
-    let entries = free_entries(table, &places, to_rows, to_cols, to_values);
-    Costs {
-        count: entries,
+    let count = free_entries(placed, to_rows, to_cols, to_values);
+    Shrunk {
+        free: free.len(),
+        count,
         constant,
     }
 }
 
 // (H, c) reduced by the held wagons.
 pub fn reduce(
-    n: usize,
-    count: usize,
-    rows: &[u16],
-    cols: &[u16],
-    values: &[i64],
-    c: &[i64],
+    hall: JudgedHall,
     states: &[u8],
     free: &mut [u16],
     to_rows: &mut [u16],
@@ -215,31 +184,21 @@ pub fn reduce(
     to_values: &mut [i64],
     to_c: &mut [i64],
 ) -> Shrunk
-    requires { Reducing n count rows.now cols.now values.now c.now states.now × (n ≤ length free.old)
-        × Room 0 count to_rows.old to_cols.old to_values.old × (n ≤ length to_c.old) }
-    ensures { (free.new ≡ over (free_of n states.now) free.old) × (result.free ≡ length (free_of n states.now))
-        × Shrinks n (table_of count rows.now cols.now values.now) (elem_z c.now) states.now
+    requires { (hall.n ≤ length states.now) × (hall.n ≤ length free.old)
+        × Room 0 hall.table.count to_rows.old to_cols.old to_values.old × (hall.n ≤ length to_c.old) }
+    ensures { let h = hall.entry in (free.new ≡ over (free_of h.n states.now) free.old) × (result.free ≡ length (free_of h.n states.now))
+        × Shrinks h.n (listed h.table) (elem_z h.c.now) states.now
         to_rows.old to_cols.old to_values.old to_c.old
         to_rows.new to_cols.new to_values.new to_c.new result.count result.constant }
 {
-    let wagons = free_wagons(n, states, free);
-    let costs = reduce_to(
-        n,
-        count,
-        rows,
-        cols,
-        values,
-        c,
+    let wagons = free_wagons(hall.n, states, free);
+    reduce_to(
+        hall,
         states,
         &free[..wagons],
         to_rows,
         to_cols,
         to_values,
         to_c,
-    );
-    Shrunk {
-        free: wagons,
-        count: costs.count,
-        constant: costs.constant,
-    }
+    )
 }

@@ -16,12 +16,13 @@ use lib.Seq.{take_at, get_or-take}
 use lib.Signed.{◌≤ℤ◌}
 use Rattle.laws.specs.Turns.{up_to}
 use Rattle.laws.specs.Lists.{elem, over}
+use Rattle.laws.proofs.Any.{never}
 use Rattle.laws.proofs.Integer.{parts, differences, ring, integers, add_parts}
-use Rattle.tables.specs.Table.{Table, Symmetric, value_at}
+use Rattle.tables.specs.Table.{Table, value_at}
 use Rattle.tables.specs.Cost.{bit, choice_at}
 use Rattle.tables.specs.Check.{Hall}
 use Rattle.tables.proofs.Choices.{cost_ext}
-use Rattle.tables.proofs.Mirrors.{mirrored_symmetric}
+use Rattle.tables.proofs.Mirrors.{hall_symmetric}
 use Rattle.reduced.specs.Indices.{put_each}
 use Rattle.finalize.specs.Finalize.{cost_of}
 use Rattle.finalize.specs.Demand3.{DifferInOne, Demand3}
@@ -29,13 +30,10 @@ use Rattle.finalize.specs.Clauses.{Finalizes}
 use Rattle.finalize.proofs.Demand3.{demand3}
 use Rattle.pinned.specs.Pinned.{is_free, free_of, free_table, free_cost, held_cost, lifted, free_part, Keeps}
 use Rattle.pinned.proofs.Free.{free_map, free_once}
-use Rattle.pinned.proofs.Lifting.{length_lifted, lifted_free, lifted_held, part_at, keeping_cost}
+use Rattle.pinned.proofs.Lifting.{length_lifted, lifted_free, lifted_held, part_choice, keeping_cost}
 use Rattle.pinned.proofs.Costs.{reduce_cost}
 use Rattle.pinned.proofs.Halls.{reduce_hall}
 use Rattle.pinned_demand.specs.PinnedDemand3.{DifferInFree, free_count, PinnedDemand3}
-
-never : true ≡ false → ⊥
-never e = let z : ◌≡◌ {A = ℕ} 0 1 = cc in omega arith
 
 -- ---- whatever differs in every wagon of a state above 1, and in no other, is meant
 
@@ -83,11 +81,8 @@ module _ {most capacity limit n : ℕ} {h : Table} {c : ℕ → ℤ} (hall : Hal
   abbrev K : ℤ
   K = held_cost n h c states
 
-  symmetric : Symmetric n (value_at h)
-  symmetric = mirrored_symmetric hall.rising hall.mirrored n
-
   lifted_cost : (b : List ℕ) → cost_of f H' c' b +ℤ K ≡ cost_of n h c (lifted n states b)
-  lifted_cost b = reduce_cost n h c states b long symmetric
+  lifted_cost b = reduce_cost n h c states b long (hall_symmetric hall)
 
   -- a choice that keeps the held wagons costs what its free part costs, and the constant
   pub part_cost : (b : List ℕ) → Keeps n states b → cost_of f H' c' (free_part n states b) +ℤ K ≡ cost_of n h c b
@@ -122,29 +117,26 @@ module _ {most capacity limit n : ℕ} {h : Table} {c : ℕ → ℤ} (hall : Hal
     beside : (b' : List ℕ) → Keeps n states b' → cost ≤ℤ cost_of f H' c' (free_part n states b') → (cost +ℤ K) ≤ℤ cost_of n h c b'
     beside b' k l = subst₂ ◌≤ℤ◌ refl (part_cost b' k) (add_le cost (cost_of f H' c' (free_part n states b')) K l)
 
-    -- free wagon k of b and of another choice
+    -- free wagon k of b
     this : (k : ℕ) → k < f → choice_at b₀ k ≡ choice_at b (elem (free_of n states) k)
     this k l = ap bit (sym (free_byte k l))
-
-    that : (b' : List ℕ) (k : ℕ) → k < f → choice_at (free_part n states b') k ≡ choice_at b' (elem (free_of n states) k)
-    that b' k l = ap bit (part_at n states b' k l)
 
     one : (b' : List ℕ) (d : DifferInOne n b b') → is_free states d.wagon ≡ true → (cost +ℤ K) ≤ℤ cost_of n h c b'
     one b' d free =
         let (k, l, q) = (free_map n states).has d.wagon d.is_one free in
-        beside b' (record { same = λ i a e. sym (d.others i a (λ s. never (sym free ∙ ap (is_free states) (sym s) ∙ e))) ∙ ap bit (held_byte_lem i a e) })
+        beside b' (record { same = λ i a e. sym (d.others i a (λ s. never (sym e ∙ ap (is_free states) s ∙ free))) ∙ ap bit (held_byte_lem i a e) })
         (d3.one_wagon (free_part n states b') (record {
           wagon = k;
           is_one = l;
-          differs = λ s. d.differs (rw q at (sym (this k l) ∙ s ∙ that b' k l));
-          others = λ j a ne. this j a ∙ d.others (elem (free_of n states) j) ((free_map n states).below j a) (λ s. ne ((free_once n states).same j k a l (s ∙ sym q))) ∙ sym (that b' j a);
+          differs = λ s. d.differs (rw q at (sym (this k l) ∙ s ∙ part_choice n states b' k l));
+          others = λ j a ne. this j a ∙ d.others (elem (free_of n states) j) ((free_map n states).below j a) (λ s. ne ((free_once n states).same j k a l (s ∙ sym q))) ∙ sym (part_choice n states b' j a);
         }))
 
     all : (b' : List ℕ) → DifferInFree n states b b' → (cost +ℤ K) ≤ℤ cost_of n h c b'
     all b' d =
         beside b' (record { same = λ i a e. sym (d.stay i a e) ∙ ap bit (held_byte_lem i a e) })
         (d3.all_wagons (free_part n states b') (record {
-          differ = λ j a s. d.differ (elem (free_of n states) j) ((free_map n states).below j a) ((free_map n states).free j a) (sym (this j a) ∙ s ∙ that b' j a);
+          differ = λ j a s. d.differ (elem (free_of n states) j) ((free_map n states).below j a) ((free_map n states).free j a) (sym (this j a) ∙ s ∙ part_choice n states b' j a);
         }))
 
     pub pinned_demand3 : PinnedDemand3 n h c states rank factor draws draw_count width b (floor +ℤ K) (rounded +ℤ K) (cost +ℤ K) rounds

@@ -2,3 +2,4 @@ pub mod Examples
 pub mod Preparing
 pub mod Starting
 pub mod Zero
+pub mod MadeTables

@@ -2,19 +2,22 @@
 --     start_le      it is at most the number of entries
 --     start_most    it is at most any entry whose row is at least i
 --     start_more    it is past any entry that it has reached and whose row is below i
+--     start_found   the first of those from an entry on, where it is not before that entry, whose row is at least i
 --     start_rise    it rises with i
 --     start_below   the entries before it lie in rows below i
 --     row_entries   the entries from row i's start up to the next row's are row i's, where rows rise
 -- Assumes nothing.
-use mathlib.Core.Path.{◌≡◌, refl}
+use mathlib.Core.Path.{◌≡◌, refl, ◌∙◌}
 use mathlib.Core.Bool.{Bool, true, false}
 use mathlib.Core.List.{List, [], ◌∷◌}
-use Prim.Native.Nat.{ℕ, zero, suc, ◌+◌, ◌≤◌, ◌<◌, zero-le, suc-le-suc}
+use Prim.Native.Nat.{ℕ, zero, suc, ◌+◌, ◌-◌, ◌≤◌, ◌<◌, zero-le, suc-le-suc}
 use native.Mathlib.Omega.{arith}
 use borrow.Author.Tests.{ltb-true, lt-ltb, le-ltb}
 use lib.Dec.{ltb}
 use mathlib.Core.Logic.{⊎_elim}
-use lib.ListN.{length, get_or}
+use lib.ListN.{length, get_or, take, drop, length-drop}
+use lib.Seq.{get_or-take, get_or-drop, length-take-le}
+use Rattle.laws.proofs.Any.{never}
 use Rattle.laws.proofs.Made.{below_or_not}
 use Rattle.prepared_table.specs.Work.{start_past, row_start}
 
@@ -45,9 +48,34 @@ start_more (r ∷ rows) i zero h l k = rw (lt-ltb r i l) (omega arith)
 start_more (r ∷ rows) i (suc e) h l k =
     more_past (ltb r i) (row_start rows i) e k (start_more rows i e (omega arith) l)
 
+-- looked for from an entry on that it is not before
+module _ (rows : List ℕ) (i from : ℕ) (reached : from ≤ row_start rows i) where
+  abbrev rest : List ℕ
+  rest = take (length rows - from) (drop from rows)
+
+  rest_length : length rest ≡ length rows - from
+  rest_length = length-take-le (length rows - from) (drop from rows) (omega (arith, length-drop from rows))
+
+  rest_at : (k : ℕ) → from + k < length rows → get_or rest k 0 ≡ get_or rows (from + k) 0
+  rest_at k l = get_or-take (length rows - from) (drop from rows) k 0 (omega arith) ∙ get_or-drop from rows k 0
+
+  start_passed : (k : ℕ) → from + k ≤ length rows → ((e : ℕ) → e < k → get_or rest e 0 < i) → from + k ≤ row_start rows i
+  start_passed zero l below = omega (arith, reached)
+  start_passed (suc k) l below =
+      omega (arith, start_more rows i (from + k) (omega arith) (omega (arith, rest_at k (omega arith), below k (omega arith))) (start_passed k (omega arith) (λ e h. below e (omega arith))))
+
+  pub start_found : (k : ℕ) → k < length rest → i ≤ get_or rest k 0 → ((e : ℕ) → e < k → get_or rest e 0 < i) → from + k ≡ row_start rows i
+  start_found k l here below =
+      let b : from + k < length rows = omega (arith, l, rest_length) in
+      omega (arith, start_passed k (omega arith) below, start_most rows i (from + k) b (omega (arith, rest_at k b, here)))
+
+  pub start_behind : ((e : ℕ) → e < length rest → get_or rest e 0 < i) → length rows ≡ row_start rows i
+  start_behind below =
+      omega (arith, start_le rows i, start_passed (length rows - from) (omega (arith, start_le rows i, reached)) (λ e h. below e (omega (arith, h, rest_length))), reached)
+
 past_rise : (a b : Bool) (n m : ℕ) → (a ≡ true → b ≡ true) → n ≤ m → start_past a n ≤ start_past b m
 past_rise true true n m k h = suc-le-suc h
-past_rise true false n m k h = let z : ◌≡◌ {A = Bool} false true = k refl in let o : ◌≡◌ {A = ℕ} 0 1 = cc in omega arith
+past_rise true false n m k h = never (k refl)
 past_rise false b n m k h = zero-le
 
 pub start_rise : (rows : List ℕ) (i : ℕ) → row_start rows i ≤ row_start rows (i + 1)

@@ -1,34 +1,33 @@
 // The table of a call, prepared for the float work (000, `separate_diagonal`).
 #![tactic(auto)]
 
+pub mod made; // made.rt: a prepared table in arrays of its own
+
 ghost use Rattle.std.specs.Prelude.{◌≡◌, ℕ, true, cond, ◌+◌, ◌≤◌, ◌<◌, eqb, nat_abs, length};
-ghost use Rattle.laws.specs.Lists.{elem, elem_z, over, put_if, next_if, kept};
+ghost use Rattle.laws.specs.Lists.{elem, elem_z, over, put_if, kept};
 ghost use Rattle.ieee.specs.Floats.{eighth_of};
-ghost use Rattle.tables.specs.Table.{table_of, Lent, InRange};
+ghost use Rattle.tables.specs.Table.{InRange};
 ghost use Rattle.prepared_table.specs.Work.{set_by, sets_aside, stays_by, stays, prepared_rows, prepared_cols, prepared_values, row_start, starts_of, work_starts, diagonal_of, diagonal_sum};
 ghost use Rattle.tables.specs.Entries.{listed};
 
 use factor::rows::clear;
 use factor::sums::sum;
-use tables::check::wide;
 use tables::entries::Entries;
+use tables::staying::put_kept;
 
-// Whether a diagonal value that isn't 0 is found by now, after one more entry.
-fn found_by(found: bool, i: u16, j: u16, value: i64) -> bool
-    ensures { result ≡ cond (set_by (eqb i j) (eqb (nat_abs value) 0)) true found }
+// Whether entry e is a diagonal value that isn't 0.
+fn sets_it_aside(table: Entries, e: usize) -> bool
+    requires { e < table.count }
+    ensures { let t = listed table.entry in result ≡ set_by (eqb (t.row e) (t.column e)) (eqb (nat_abs (t.value e)) 0) }
 {
-    (i == j && value != 0) || found
+    table.rows[e] == table.cols[e] && table.values[e] != 0
 }
 
 // Whether the diagonal is set aside: one of its values isn't 0.
 fn sets_aside(table: Entries) -> bool
     ensures { result ≡ sets_aside (listed table.entry) }
 {
-    let mut found = false;
-    for e in 0..table.count {
-        found = found_by(found, table.rows[e], table.cols[e], table.values[e]);
-    }
-    found
+    (0..table.count).any(|e| sets_it_aside(table, e))
 }
 
 // Whether an entry stays in the table.
@@ -38,20 +37,8 @@ fn stays(aside: bool, i: u16, j: u16) -> bool
     !(aside && i == j)
 }
 
-// `x` at place `at`, if it stays; the place after it.
-fn put_kept<T: Copy>(out: &mut [T], at: usize, x: T, stays: bool) -> usize
-    requires { at < length out.old }
-    ensures value { result ≡ next_if stays at }
-    ensures out_after { out.new ≡ put_if stays at x out.old }
-{
-    if stays {
-        out[at] = x;
-        return at + 1;
-    }
-    at
-}
-
-// What `of` makes of the entries that stay, and how many they are.
+// What `of` makes of the entries that stay, and how many they are. `count` stays beside the slices: those of a table may go on behind it, and of slices that are cut
+// the definitions would speak through `take`.
 fn keep<T: Copy, F: Fn(usize) -> T>(
     count: usize,
     rows: &[u16],
@@ -73,17 +60,16 @@ fn keep<T: Copy, F: Fn(usize) -> T>(
     at
 }
 
-// The first entry whose row is at least i, looked for from `from` on.
+// The first entry whose row is at least i, looked for from `from` on. Tried as `map_or`: what it ensures is one clause by cases on what was found, and the answer
+// would take them apart; the `match` gives two goals.
 fn next_start(rows: &[u16], from: usize, i: usize) -> usize
     requires { from ≤ row_start rows.now i }
     ensures { result ≡ row_start rows.now i }
 {
-    for e in from..rows.len() {
-        if wide(rows[e]) >= i {
-            return e;
-        }
+    match rows[from..].iter().position(|&row| i <= usize::from(row)) {
+        Some(k) => from + k,
+        None => rows.len(),
     }
-    rows.len()
 }
 
 // Where each of m rows starts, and where the last ends.
@@ -153,7 +139,7 @@ fn put_diagonal(diagonal: &mut [f64], i: u16, j: u16, value: i64)
     ensures { diagonal.new ≡ put_if (eqb i j) i (eighth_of value) diagonal.old }
 {
     if i == j {
-        let at = wide(i);
+        let at = usize::from(i);
         diagonal[at] = ieee::eighth(value);
     }
 }
@@ -170,6 +156,7 @@ fn set_diagonal(table: Entries, out: &mut [f64])
 }
 
 // The diagonal, as long as `out`, and its sum.
+#[tactic(auto, unfolding(crate::specs::Work::diagonal_sum))]
 fn sum_diagonal(table: Entries, out: &mut [f64]) -> f64
     requires in_range { InRange (length out.old) (listed table) }
     ensures value { result ≡ diagonal_sum (listed table.entry) (length out.old) }
@@ -181,7 +168,7 @@ fn sum_diagonal(table: Entries, out: &mut [f64]) -> f64
 
 // The diagonal of m values in the first places of `out`, and its sum.
 pub fn diagonal(table: Entries, m: usize, out: &mut [f64]) -> f64
-    requires lent { m ≤ length out.old }
+    requires long_enough { m ≤ length out.old }
     requires in_range { InRange m (listed table) }
     ensures value { result ≡ diagonal_sum (listed table.entry) m }
     ensures out_after { out.new ≡ over (diagonal_of (listed table.entry) m) out.old }

@@ -13,7 +13,7 @@ use Rattle.laws.specs.Lists.{elem}
 use Rattle.limits.specs.Limits.{most_wagons, most_entries, most_magnitude}
 use Rattle.tables.specs.Check.{bad_size, bad_order, unmirrored, hall_magnitude, hall_number, short_table}
 use Rattle.run_record.specs.declared.Run.{Run}
-use Rattle.run_record.specs.CostTable.{CostTable, quadratic, linear}
+use Rattle.tables.specs.CostTable.{CostTable, quadratic, linear}
 use Rattle.run_record.specs.Numbers.{is_stopped, record_refused, bad_momentum, width_refused, cost_table_number, table_short, finish_short, finish_number, FinishLengths}
 use Rattle.ranged_finish.specs.Ranged.{RangedTable, high_of}
 use Rattle.ranged_finish.specs.Numbers.{ranged_number, ranged_short, ranged_finish_short, ranged_finish_number}

@@ -18,7 +18,7 @@ use Rattle.limits.specs.Limits.{most_wagons, most_entries, most_magnitude}
 use Rattle.tables.specs.Table.{value_at}
 use Rattle.tables.specs.Check.{bad_size, bad_order, unmirrored}
 use Rattle.tables.proofs.Checks.{size_parts, order_range, order_rising, mirror_mirrored, hall_passes}
-use Rattle.run_record.specs.CostTable.{quadratic, linear}
+use Rattle.tables.specs.CostTable.{quadratic, linear}
 use Rattle.run_record.specs.Numbers.{cost_table_number}
 use Rattle.run_contract.proofs.Accepting.{HallOf}
 use Rattle.ranged_finish.specs.Ranged.{RangedTable, with_values, low_of, high_of}

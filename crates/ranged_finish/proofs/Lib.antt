@@ -1,4 +1,5 @@
 pub mod Mono
+mod Found
 pub mod Halls
 pub mod Deciding
 pub mod Ranging

@@ -14,7 +14,7 @@ use Rattle.laws.specs.Lists.{elem, elem_z}
 use Rattle.laws.proofs.Integer.{integers}
 use Rattle.tables.specs.Table.{value_at, stored_at}
 use Rattle.tables.proofs.Mirrors.{value_here, stored_true, stored_false, value_none}
-use Rattle.run_record.specs.CostTable.{quadratic, linear}
+use Rattle.tables.specs.CostTable.{quadratic, linear}
 use Rattle.ranged_finish.specs.Ranged.{RangedTable, with_values, low_of, high_of, Within, WithinEach}
 use Rattle.ranged_finish.specs.Numbers.{ranged_number}
 use Rattle.ranged_finish.proofs.Mono.{le_same, value_mono}

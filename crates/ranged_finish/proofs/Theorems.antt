@@ -20,18 +20,20 @@ use Rattle.tables.specs.Cost.{cost_eighths, choice_at}
 use Rattle.tables.proofs.Checks.{table_lent, long_enough}
 use Rattle.sign_table.proofs.Theorems.{floor_le_choice}
 use Rattle.run_record.specs.declared.Run.{Run}
-use Rattle.run_record.specs.CostTable.{quadratic, linear}
+use Rattle.run_record.specs.Numbers.{FinishLengths}
+use Rattle.tables.specs.CostTable.{quadratic, linear}
 use Rattle.finalize.specs.Finalize.{floor_eighths}
 use Rattle.run_contract.specs.Calls.{answer_number, finish_lengths, Finishes}
+use Rattle.run_contract.proofs.Accepting.{Finishable, finish_accepted}
 use Rattle.sdp_solver.specs.Usable.{Usable}
-use Rattle.ranged_finish.specs.Ranged.{RangedTable, ranged_table, low_of, high_of, Within}
+use Rattle.ranged_finish.specs.Ranged.{RangedTable, low_of, high_of, Within}
 use Rattle.ranged_finish.specs.Numbers.{ranged_number, ranged_short, ranged_finish_number}
 use Rattle.ranged_finish.specs.Call.{Figures, Ranges, RangedFinishes}
 use Rattle.ranged_finish.specs.declared.RangedResult.{RangedResult}
 use Rattle.ranged_finish.proofs.Mono.{cost_mono}
 use Rattle.ranged_finish.proofs.Halls.{low_hall, low_number, high_number}
 use Rattle.ranged_finish.proofs.Ranging.{low_in, high_in}
-use Rattle.ranged_finish.proofs.Deciding.{ranged_ok}
+use Rattle.ranged_finish.proofs.Deciding.{ranged_lent, ranged_ok, finish_ok}
 
 -- ---- the figures of any choice
 
@@ -90,18 +92,25 @@ module _ (run : Run) (t : RangedTable) (width draw_count : ℕ) (draws factor : 
 
 -- ---- where no slice of the ranged table is short
 
-pub slices_lent : (n count : ℕ) (rows cols : List ℕ) (low high low_c high_c : List ℤ) → ranged_short (ranged_table n count rows cols low high low_c high_c) ≡ false
-    → (count ≤ most_entries → Lent count rows cols low × (count ≤ length high)) × (n ≤ most_wagons → (n ≤ length low_c) × (n ≤ length high_c))
+pub slices_lent : (t : RangedTable) → ranged_short t ≡ false
+    → (t.count ≤ most_entries → Lent t.count t.rows t.cols t.low × (t.count ≤ length t.high)) × (t.n ≤ most_wagons → (t.n ≤ length t.low_c) × (t.n ≤ length t.high_c))
 unfolding ranged_short
-slices_lent n count rows cols low high low_c high_c e =
+slices_lent t e =
     let later = any_rest _ _ e in (
-      λ h. (table_lent (any_head _ _ e) h, long_enough (any_head _ _ later) (le-ltb most_entries count h)),
-      λ h. (long_enough (any_head _ _ (any_rest _ _ later)) (le-ltb most_wagons n h), long_enough (any_head _ _ (any_rest _ _ (any_rest _ _ later))) (le-ltb most_wagons n h)),
+      λ h. (table_lent (any_head _ _ e) h, long_enough (any_head _ _ later) (le-ltb most_entries t.count h)),
+      λ h. (long_enough (any_head _ _ (any_rest _ _ later)) (le-ltb most_wagons t.n h), long_enough (any_head _ _ (any_rest _ _ (any_rest _ _ later))) (le-ltb most_wagons t.n h)),
     )
 
--- the low table as an accepted call has it; the high one is the finish's
-pub low_usable : (t : RangedTable) → ranged_short t ≡ false → ranged_number t ≡ 0 → Usable (low_of t)
-low_usable t e ok =
-    let h = low_hall t ok in
-    let l = slices_lent t.n t.count t.rows t.cols t.low t.high t.low_c t.high_c e in
-    record { slices = (l.0 h.entries).0; costs = (l.1 h.wagons).0; hall = h }
+-- what an accepted call works on: the low table as a call may take it, the high one as a finish does
+pub record RangedFinishable (run : Run) (t : RangedTable) (width draw_count : ℕ) (lent : FinishLengths) : Type 0 where
+  pub low : Usable (low_of t)
+  pub high : Finishable run (high_of t) width draw_count lent
+
+pub ranged_finishable : (run : Run) (t : RangedTable) (width draw_count : ℕ) (lent : FinishLengths) → ranged_finish_number run t width draw_count lent ≡ 0 → RangedFinishable run t width draw_count lent
+ranged_finishable run t width draw_count lent ok =
+    let h = low_hall t (ranged_ok run t width draw_count lent ok) in
+    let l = slices_lent t (ranged_lent run t width draw_count lent ok) in
+    record {
+      low = record { slices = (l.0 h.entries).0; costs = (l.1 h.wagons).0; hall = h };
+      high = finish_accepted run (high_of t) width draw_count lent (finish_ok run t width draw_count lent ok);
+    }

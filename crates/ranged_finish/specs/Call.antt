@@ -4,7 +4,7 @@ use Rattle.std.specs.Prelude.{◌≡◌, List, ℕ, Float, ℤ, ◌≤ℤ◌, Re
 use Rattle.tables.specs.Table.{value_at}
 use Rattle.tables.specs.Cost.{cost_eighths, choice_at}
 use Rattle.run_record.specs.declared.Run.{Run}
-use Rattle.run_record.specs.CostTable.{CostTable, quadratic, linear}
+use Rattle.tables.specs.CostTable.{CostTable, quadratic, linear}
 use Rattle.run_record.specs.Numbers.{cost_table_number}
 use Rattle.finalize.specs.Finalize.{cost_of, floor_eighths}
 use Rattle.run_contract.specs.Calls.{answer_number, finish_lengths, Finishes}

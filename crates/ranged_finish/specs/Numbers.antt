@@ -7,7 +7,7 @@ use Rattle.laws.specs.Refusal.{◌if◌, first, any_of, short}
 use Rattle.limits.specs.Limits.{most_wagons, most_entries, most_magnitude, search_workspace}
 use Rattle.tables.specs.Check.{bad_size, bad_order, unmirrored, short_table}
 use Rattle.run_record.specs.declared.Run.{Run}
-use Rattle.run_record.specs.CostTable.{quadratic}
+use Rattle.tables.specs.CostTable.{quadratic}
 use Rattle.run_record.specs.Numbers.{is_stopped, record_refused, bad_momentum, width_refused, draws_short, factor_short, choice_short, FinishLengths}
 use Rattle.ranged_finish.specs.Ranged.{RangedTable, low_of, high_of}
 

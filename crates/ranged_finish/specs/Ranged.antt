@@ -2,7 +2,8 @@
 use Rattle.std.specs.Prelude.{◌≡◌, false, List, ℕ, ◌<◌, ℤ, pos, ◌≤ℤ◌}
 use Rattle.laws.specs.Lists.{elem, elem_z}
 use Rattle.tables.specs.Table.{value_at, stored_at}
-use Rattle.run_record.specs.CostTable.{CostTable, cost_table, quadratic, linear}
+use Rattle.tables.specs.CostTable.{CostTable, cost_table, quadratic, linear}
+use Rattle.ranged_finish.specs.declared.LentRanged.{LentRanged}
 
 -- a ranged table as a call is given it: numbers and lent slices, whose lengths may be any
 pub record RangedTable : Type 0 where
@@ -18,6 +19,10 @@ pub record RangedTable : Type 0 where
 abbrev pub ranged_table : ℕ → ℕ → List ℕ → List ℕ → List ℤ → List ℤ → List ℤ → List ℤ → RangedTable
 ranged_table n count rows cols low high low_c high_c =
     record { n = n; count = count; rows = rows; cols = cols; low = low; high = high; low_c = low_c; high_c = high_c }
+
+-- as the code is lent it
+abbrev pub ranged_of : LentRanged → RangedTable
+ranged_of t = ranged_table t.n t.count t.rows.now t.cols.now t.low.now t.high.now t.low_c.now t.high_c.now
 
 -- the table at these places with other values and other c
 abbrev pub with_values : RangedTable → List ℤ → List ℤ → CostTable

@@ -2,78 +2,70 @@
 ghost use Rattle.std.specs.Prelude.{◌≡◌, Ok};
 ghost use Rattle.refusal.specs.Number.{in_numbers};
 ghost use Rattle.run_contract.specs.Calls.{finish_lengths, Finishes};
-ghost use Rattle.ranged_finish.specs.Ranged.{ranged_table, high_of};
+ghost use Rattle.ranged_finish.specs.Ranged.{ranged_of, high_of};
 ghost use Rattle.ranged_finish.specs.Numbers.{ranged_finish_number};
 ghost use Rattle.ranged_finish.specs.Call.{Figures, RangedFinishes};
 
-use crate::RangedResult;
 use crate::figures::floor_of;
 use crate::number::ranged_finish_number;
+use crate::{LentRanged, RangedResult};
 use refusal::Refusal;
+use run_limits::Draws;
+use run_record::Run;
 use run_record::lengths::FinishSlices;
-use run_record::{LentTable, Run};
 use sdp_solver::finish::finish_accepted;
 use tables::entries::Entries;
+use tables::judged::JudgedHall;
 use tables::objective::eval_qubo_objective;
 
-// The finish that no number refuses.
+// The finish that no number refuses. The slices that are written are three `&mut`, for the reason at `finalize::finalize`.
 fn finish_ranged_accepted(
     run: Run,
-    n: usize,
-    count: usize,
-    rows: &[u16],
-    cols: &[u16],
-    low: &[i64],
-    high: &[i64],
-    low_c: &[i64],
-    high_c: &[i64],
+    ranged: LentRanged,
     width: usize,
-    draw_count: usize,
-    draws: &[f64],
+    draws: Draws,
     factor: &[f64],
     b: &mut [u8],
     dual_variables: &mut [f64],
     workspace: &mut [u64],
 ) -> RangedResult
-    requires { ranged_finish_number run (ranged_table n count rows.now cols.now low.now high.now low_c.now high_c.now) width draw_count (finish_lengths draws.now factor.now b.old dual_variables.old workspace.old) ≡ 0 }
-    ensures finished { Finishes run (high_of (ranged_table n count rows.now cols.now low.now high.now low_c.now high_c.now))
-        width draw_count draws.now factor.now b.old dual_variables.old workspace.old
+    requires { ranged_finish_number run (ranged_of ranged) width draws.count (finish_lengths draws.numbers.now factor.now b.old dual_variables.old workspace.old) ≡ 0 }
+    ensures finished { Finishes run (high_of (ranged_of ranged.entry))
+        width draws.entry.count draws.entry.numbers.now factor.now b.old dual_variables.old workspace.old
         (Ok result.result) b.new dual_variables.new workspace.new }
-    ensures figures { Figures (ranged_table n count rows.now cols.now low.now high.now low_c.now high_c.now) b.new result.low result.high result.low_floor }
+    ensures figures { Figures (ranged_of ranged.entry) b.new result.low result.high result.low_floor }
 {
     let result = finish_accepted(
         run,
-        LentTable {
-            n,
-            count,
-            rows,
-            cols,
-            values: high,
-            c: high_c,
-        },
+        ranged.high_hall(),
         width,
-        draw_count,
         draws,
         factor,
         b,
         dual_variables,
         workspace,
     );
+    let n = ranged.n;
     let low_table = Entries {
-        count,
-        rows,
-        cols,
-        values: low,
+        count: ranged.count,
+        rows: ranged.rows,
+        cols: ranged.cols,
+        values: ranged.low,
     };
-    let least = eval_qubo_objective(n, low_table, low_c, b);
+    let least = eval_qubo_objective(n, low_table, ranged.low_c, b);
     let high_table = Entries {
-        count,
-        rows,
-        cols,
-        values: high,
+        count: ranged.count,
+        rows: ranged.rows,
+        cols: ranged.cols,
+        values: ranged.high,
     };
-    let most = eval_qubo_objective(n, high_table, high_c, b);
-    let floor = floor_of(n, low_table, low_c);
+    let most = eval_qubo_objective(n, high_table, ranged.high_c, b);
+    let low_hall = JudgedHall {
+        n,
+        table: low_table,
+        c: ranged.low_c,
+    };
+    let floor = floor_of(low_hall);
     RangedResult {
         result,
         low: least,
@@ -85,48 +77,31 @@ fn finish_ranged_accepted(
 // Finishes a stopped run over a ranged table; it changes no run record and no factor, and may be repeated.
 pub fn finish_ranged(
     run: Run,
-    n: usize,
-    count: usize,
-    rows: &[u16],
-    cols: &[u16],
-    low: &[i64],
-    high: &[i64],
-    low_c: &[i64],
-    high_c: &[i64],
+    ranged: LentRanged,
     width: usize,
-    draw_count: usize,
-    draws: &[f64],
+    draws: Draws,
     factor: &[f64],
     b: &mut [u8],
     dual_variables: &mut [f64],
     workspace: &mut [u64],
 ) -> Result<RangedResult, Refusal>
-    ensures { RangedFinishes run (ranged_table n count rows.now cols.now low.now high.now low_c.now high_c.now)
-        width draw_count draws.now factor.now b.old dual_variables.old workspace.old
+    ensures { RangedFinishes run (ranged_of ranged.entry)
+        width draws.entry.count draws.entry.numbers.now factor.now b.old dual_variables.old workspace.old
         (in_numbers result) b.new dual_variables.new workspace.new }
 {
+    // This literal stands in sdp_solver too: a function with the five slices as parameters would be as long at both places.
     let lent = FinishSlices {
-        draws: draws.len(),
+        draws: draws.numbers.len(),
         factor: factor.len(),
         b: b.len(),
         dual: dual_variables.len(),
         workspace: workspace.len(),
     };
-    ranged_finish_number(
-        run, n, count, rows, cols, low, high, low_c, high_c, width, draw_count, lent,
-    )?;
+    ranged_finish_number(run, ranged, width, draws.count, lent)?;
     Ok(finish_ranged_accepted(
         run,
-        n,
-        count,
-        rows,
-        cols,
-        low,
-        high,
-        low_c,
-        high_c,
+        ranged,
         width,
-        draw_count,
         draws,
         factor,
         b,

@@ -1,39 +1,32 @@
-// What is refused of a ranged table, the first of: 13, 14, 23 of an entry, 15, 23 of a c, 16. Each is a pass of its own and writes nothing.
+// What is refused of a ranged table, the first of: 13, 14, 23 of an entry, 15, 23 of a c, 16. Each is a pass of its own and writes nothing. A count stays beside
+// the slices, uncut: the definitions speak of the first entries of a list, and each cut would be proved where it is made, eight times, and not here.
 ghost use Rattle.std.specs.Prelude.{◌≡◌, ◌||◌, ◌+◌, ◌*◌, ◌≤◌, ◌<◌, ◌^◌, min, length, ltb};
-ghost use Rattle.std.specs.Int.Signed.{lt_z};
 ghost use Rattle.laws.specs.Sum.{total};
 ghost use Rattle.laws.specs.Lists.{elem, elem_z};
 ghost use Rattle.limits.specs.Limits.{most_wagons, most_entries};
 ghost use Rattle.refusal.specs.Number.{numbered};
-ghost use Rattle.tables.specs.Table.{table_of, Lent};
+ghost use Rattle.tables.specs.Table.{Lent};
 ghost use Rattle.tables.specs.Check.{Placed, unmirrored};
-ghost use Rattle.ranged_finish.specs.Ranged.{ranged_table};
-ghost use Rattle.ranged_finish.specs.Numbers.{above, larger, ranged_number};
+ghost use Rattle.tables.specs.CostTable.{quadratic};
+ghost use Rattle.ranged_finish.specs.Ranged.{ranged_of, low_of, high_of};
+ghost use Rattle.ranged_finish.specs.Numbers.{above, larger, ranged_magnitude, ranged_number};
 
+use crate::LentRanged;
 use limits::{MOST_ENTRIES, MOST_MAGNITUDE, MOST_WAGONS};
 use refusal::Refusal;
 use tables::check::{bad_order, bad_size};
 use tables::entries::Entries;
 use tables::mirror::unmirrored;
 
-// Whether the low end is above the high one.
-fn turned(low: i64, high: i64) -> bool
-    ensures { result ≡ lt_z high low }
-{
-    high < low
-}
-
 // 23: some low end is above its high one.
 fn above(count: usize, low: &[i64], high: &[i64]) -> bool
     requires { (count ≤ length low.now) × (count ≤ length high.now) }
     ensures { result ≡ above count (elem_z low.now) (elem_z high.now) }
 {
-    for k in 0..count {
-        if turned(low[k], high[k]) {
-            return true;
-        }
-    }
-    false
+    low[..count]
+        .iter()
+        .zip(&high[..count])
+        .any(|(low, high)| high < low)
 }
 
 // The larger absolute value.
@@ -64,77 +57,60 @@ fn ranges_capped(cap: u64, count: usize, low: &[i64], high: &[i64]) -> u64
 }
 
 // 16: the magnitude is above the limit.
-fn ranges_too_large(
-    limit: u64,
-    n: usize,
-    count: usize,
-    low: &[i64],
-    high: &[i64],
-    low_c: &[i64],
-    high_c: &[i64],
-) -> bool
-    requires { (count ≤ length low.now) × (count ≤ length high.now) × (n ≤ length low_c.now) × (n ≤ length high_c.now) × (limit < 2 ^ 60) }
-    ensures { result ≡ ltb limit (total count (λ k. larger (elem_z low.now k) (elem_z high.now k)) + 2 * total n (λ i. larger (elem_z low_c.now i) (elem_z high_c.now i))) }
+fn ranges_too_large(limit: u64, ranged: LentRanged) -> bool
+    requires { (ranged.count ≤ length ranged.low.now) × (ranged.count ≤ length ranged.high.now) × (ranged.n ≤ length ranged.low_c.now) × (ranged.n ≤ length ranged.high_c.now) × (limit < 2 ^ 60) }
+    ensures { result ≡ ltb limit (ranged_magnitude (ranged_of ranged.entry)) }
 {
-    let entries = ranges_capped(limit + 1, count, low, high);
-    let costs = ranges_capped(limit + 1, n, low_c, high_c);
+    let entries = ranges_capped(limit + 1, ranged.count, ranged.low, ranged.high);
+    let costs = ranges_capped(limit + 1, ranged.n, ranged.low_c, ranged.high_c);
     limit < entries + 2 * costs
 }
 
 // 15: some entry's mirror is absent, or unequal at either end.
-fn ranges_unmirrored(count: usize, rows: &[u16], cols: &[u16], low: &[i64], high: &[i64]) -> bool
-    requires { Lent count rows.now cols.now low.now × Lent count rows.now cols.now high.now × Placed (elem rows.now) (elem cols.now) count }
-    ensures { result ≡ (unmirrored (table_of count rows.now cols.now low.now) || unmirrored (table_of count rows.now cols.now high.now)) }
+fn ranges_unmirrored(ranged: LentRanged) -> bool
+    requires { Lent ranged.count ranged.rows.now ranged.cols.now ranged.low.now × Lent ranged.count ranged.rows.now ranged.cols.now ranged.high.now × Placed (elem ranged.rows.now) (elem ranged.cols.now) ranged.count }
+    ensures { result ≡ (unmirrored (quadratic (low_of (ranged_of ranged.entry))) || unmirrored (quadratic (high_of (ranged_of ranged.entry)))) }
 {
     let low_table = Entries {
-        count,
-        rows,
-        cols,
-        values: low,
+        count: ranged.count,
+        rows: ranged.rows,
+        cols: ranged.cols,
+        values: ranged.low,
     };
     if unmirrored(low_table) {
         return true;
     }
     let high_table = Entries {
-        count,
-        rows,
-        cols,
-        values: high,
+        count: ranged.count,
+        rows: ranged.rows,
+        cols: ranged.cols,
+        values: ranged.high,
     };
     unmirrored(high_table)
 }
 
 // What is refused of a ranged table.
 #[tactic(auto, unfolding(crate::specs::Numbers::ranged_number, laws::specs::Refusal::first, laws::specs::Refusal::or_else))]
-pub fn ranged_number(
-    n: usize,
-    count: usize,
-    rows: &[u16],
-    cols: &[u16],
-    low: &[i64],
-    high: &[i64],
-    low_c: &[i64],
-    high_c: &[i64],
-) -> Result<(), Refusal>
-    requires { (count ≤ most_entries → Lent count rows.now cols.now low.now × (count ≤ length high.now)) × (n ≤ most_wagons → (n ≤ length low_c.now) × (n ≤ length high_c.now)) }
-    ensures { numbered result ≡ ranged_number (ranged_table n count rows.now cols.now low.now high.now low_c.now high_c.now) }
+pub fn ranged_number(ranged: LentRanged) -> Result<(), Refusal>
+    requires { (ranged.count ≤ most_entries → Lent ranged.count ranged.rows.now ranged.cols.now ranged.low.now × (ranged.count ≤ length ranged.high.now)) × (ranged.n ≤ most_wagons → (ranged.n ≤ length ranged.low_c.now) × (ranged.n ≤ length ranged.high_c.now)) }
+    ensures { numbered result ≡ ranged_number (ranged_of ranged.entry) }
 {
-    if bad_size(0, MOST_WAGONS, MOST_ENTRIES, n, count) {
+    if bad_size(0, MOST_WAGONS, MOST_ENTRIES, ranged.n, ranged.count) {
         return Err(Refusal::Size);
     }
-    if bad_order(n, count, rows, cols) {
+    if bad_order(ranged.n, ranged.count, ranged.rows, ranged.cols) {
         return Err(Refusal::Entry);
     }
-    if above(count, low, high) {
+    if above(ranged.count, ranged.low, ranged.high) {
         return Err(Refusal::Range);
     }
-    if ranges_unmirrored(count, rows, cols, low, high) {
+    if ranges_unmirrored(ranged) {
         return Err(Refusal::Mirror);
     }
-    if above(n, low_c, high_c) {
+    if above(ranged.n, ranged.low_c, ranged.high_c) {
         return Err(Refusal::Range);
     }
-    if ranges_too_large(MOST_MAGNITUDE, n, count, low, high, low_c, high_c) {
+    if ranges_too_large(MOST_MAGNITUDE, ranged) {
         return Err(Refusal::Magnitude);
     }
     Ok(())

@@ -12,7 +12,7 @@ use Rattle.float_bound.specs.Below.{AtMostEighths}
 use Rattle.finalize.specs.Finalize.{cost_of, float_bound}
 use Rattle.pinned.specs.Pinned.{free_table, free_part, Keeps}
 use Rattle.pinned_demand.proofs.Pinned.{part_cost}
-use Rattle.run_record.specs.CostTable.{CostTable, quadratic, linear}
+use Rattle.tables.specs.CostTable.{CostTable, quadratic, linear}
 use Rattle.run_contract.specs.Calls.{finish_result}
 use Rattle.run_contract.proofs.Bounded.{bounded}
 use Rattle.job_record.specs.Number.{job_number}

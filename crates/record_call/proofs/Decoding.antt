@@ -28,7 +28,7 @@ use Rattle.pinned.proofs.Free as Free
 use Rattle.pinned.proofs.Halls.{reduce_hall}
 use Rattle.pinned.proofs.Steps.{constant_held, rows_front, cols_front, values_front, costs_front}
 use Rattle.pinned_demand.proofs.Pinned.{lifted_same}
-use Rattle.run_record.specs.CostTable.{CostTable, cost_table, quadratic, linear}
+use Rattle.tables.specs.CostTable.{CostTable, cost_table, quadratic, linear}
 use Rattle.run_sweep.specs.Work.{call_work}
 use Rattle.run_sweep.specs.Sweep.{State, sweeps_up_to}
 use Rattle.run_sweep.proofs.Loop.{sweeps_none}
@@ -42,7 +42,8 @@ use Rattle.run_contract.specs.Calls.{Settings, open_number_of, open_size, open_r
 use Rattle.answer_record.specs.declared.answer.Answer.{Answer}
 use Rattle.job_record.specs.Fields.{wagons, entry_count, row, column, value}
 use Rattle.job_record.specs.Number.{job_number}
-use Rattle.job_record.specs.Values.{pin_count, free_wagons, job_states, job_by, job_of, job_cost, job_rank, job_start_count, job_start, job_drawn, job_draw, TableRoom, Stored}
+use Rattle.job_record.specs.Values.{pin_count, free_wagons, job_states, JobValues, values_in, job_by, job_of, job_cost, job_rank, job_start_count, job_start, job_drawn, job_draw, TableRoom, Stored}
+use Rattle.job_record.specs.Kinds.{rule_code, start_code}
 use Rattle.job_record.specs.declared.job.Job.{Job}
 use Rattle.job_record.proofs.Same.{filled}
 use Rattle.job_record.proofs.Products.{area}
@@ -98,10 +99,10 @@ module _ (s : List ℕ) (e : job_number s ≡ 0) where
       }
 
   -- and cut from there
-  pub cut : {rows cols : List ℕ} {values c : List ℤ} → AtFronts s rows cols values c → (j : Job) → j ≡ job_of s → OwnCosts s j (take j.count rows) (take j.count cols) (take j.count values) (take j.n c)
+  pub cut : {rows cols : List ℕ} {values c : List ℤ} → AtFronts s rows cols values c → (j : Job) → values_in j ≡ job_of s → OwnCosts s j (cost_table j.n j.count (take j.count rows) (take j.count cols) (take j.count values) (take j.n c))
   cut {rows} {cols} {values} {c} a j is =
-      let n : j.n ≡ wagons s = ap (λ (x : Job). x.n) is ∙ n_of in
-      let count : j.count ≡ entry_count s = ap (λ (x : Job). x.count) is ∙ count_of in
+      let n : j.n ≡ wagons s = ap (λ (x : JobValues). x.n) is ∙ n_of in
+      let count : j.count ≡ entry_count s = ap (λ (x : JobValues). x.count) is ∙ count_of in
       record {
         accepted = e;
         job_is = is;
@@ -116,11 +117,11 @@ module _ (s : List ℕ) (e : job_number s ≡ 0) where
   draws_read drawn draws₀ draws is stored fd = rw (is, stored) (front (job_draw s) draws₀ zero64 (job_drawn s) (omega (arith, drawn_fits s e)))
 
   -- what is lent on has room in the lists
-  pub fronts_fit : (j : Job) → j ≡ job_of s → (j.count ≤ most_entries) × (j.n ≤ most_wagons)
+  pub fronts_fit : (j : Job) → values_in j ≡ job_of s → (j.count ≤ most_entries) × (j.n ≤ most_wagons)
   fronts_fit j is =
       let f = fields s e in
-      let n : j.n ≡ wagons s = ap (λ (x : Job). x.n) is ∙ n_of in
-      let count : j.count ≡ entry_count s = ap (λ (x : Job). x.count) is ∙ count_of in
+      let n : j.n ≡ wagons s = ap (λ (x : JobValues). x.n) is ∙ n_of in
+      let count : j.count ≡ entry_count s = ap (λ (x : JobValues). x.count) is ∙ count_of in
       (omega (arith, f.short), omega (arith, f.few))
 
   draws_of : (job_of s).draw_count * job_rank s ≡ job_drawn s
@@ -130,9 +131,9 @@ module _ (s : List ℕ) (e : job_number s ≡ 0) where
   pub drawn_is : (count rank : ℕ) → count ≡ (job_of s).draw_count → rank ≡ job_rank s → (count * rank ≡ job_drawn s) × (count * rank ≤ most_drawn)
   drawn_is count rank c r = let is : count * rank ≡ job_drawn s = rw (c, r) draws_of in (is, rw is (drawn_fits s e))
 
-  pub job_n : (j : Job) → j ≡ job_of s → j.n ≡ (job_costs s).n
+  pub job_n : (j : Job) → values_in j ≡ job_of s → j.n ≡ (job_costs s).n
   unfolding job_costs
-  job_n j is = ap (λ (x : Job). x.n) is ∙ n_of
+  job_n j is = ap (λ (x : JobValues). x.n) is ∙ n_of
 
   -- the states, cut from the front of the slice
   pub states_cut : (n : ℕ) (states states₀ : List ℕ) → n ≡ (job_costs s).n → states ≡ over (job_states s) states₀ → take n states ≡ job_states s
@@ -148,8 +149,8 @@ module _ (s : List ℕ) (e : job_number s ≡ 0) where
   unfolding job_by
   pins_of = refl
 
-  pub job_free : (j : Job) → j ≡ job_of s → j.free ≡ length (free_of (job_costs s).n (job_states s))
-  job_free j is = ap (λ (x : Job). x.free) is ∙ free_of_lem ∙ sym (many_free s e)
+  pub job_free : (j : Job) → values_in j ≡ job_of s → j.free ≡ length (free_of (job_costs s).n (job_states s))
+  job_free j is = ap (λ (x : JobValues). x.free) is ∙ free_of_lem ∙ sym (many_free s e)
 
   job_reducing : Reducing (job_costs s).n (job_costs s).count (job_costs s).rows (job_costs s).cols (job_costs s).values (job_costs s).c (job_states s)
   job_reducing =
@@ -198,18 +199,16 @@ module _ (s : List ℕ) (e : job_number s ≡ 0) where
             constant_is = made.constant_is ∙ rw (same, is);
           }
 
-  none_pinned : (j : Job) → j ≡ job_of s → j.pins ≡ 0 → pin_count s ≡ 0
-  none_pinned j is none = sym pins_of ∙ sym (ap (λ (x : Job). x.pins) is) ∙ none
+  none_pinned : (j : Job) → values_in j ≡ job_of s → j.pins ≡ 0 → pin_count s ≡ 0
+  none_pinned j is none = sym pins_of ∙ sym (ap (λ (x : JobValues). x.pins) is) ∙ none
 
   -- as they are, where no wagon is pinned
-  module _ {j : Job} {rows cols : List ℕ} {values c : List ℤ} (o : OwnCosts s j rows cols values c) (none : j.pins ≡ 0) where
+  module _ {j : Job} {t : CostTable} (o : OwnCosts s j t) (none : j.pins ≡ 0) where
     no_pin_lem : pin_count s ≡ 0
     no_pin_lem = none_pinned j o.job_is none
 
-    pub unpinned_run : cost_table j.free j.count rows cols values c ≡ run_costs s
-    unpinned_run =
-        let n : j.free ≡ j.n = job_free j o.job_is ∙ many_free s e ∙ sym (run_n s e) ∙ ap (λ (t : CostTable). t.n) (no_pins s e no_pin_lem) ∙ sym (job_n j o.job_is) in
-        same_costs n refl refl refl refl refl ∙ o.costs_are ∙ sym (no_pins s e no_pin_lem)
+    pub unpinned_run : t ≡ run_costs s
+    unpinned_run = o.costs_are ∙ sym (no_pins s e no_pin_lem)
 
     pub unpinned_figures : {x : FinishResult} → x ≡ job_result (run_costs s) s → (j.n < 256) × (x.rank < 256) × FiguresFit (pos 0) x
     unpinned_figures q =
@@ -226,19 +225,16 @@ module _ (s : List ℕ) (e : job_number s ≡ 0) where
   -- ---- the answer
 
   -- the free wagons, cut from the front of the slice
-  pub free_fits : (j : Job) → j ≡ job_of s → j.free ≤ most_wagons
+  pub free_fits : (j : Job) → values_in j ≡ job_of s → j.free ≤ most_wagons
   free_fits j is = omega (arith, job_free j is, Free.free_few (job_costs s).n (job_states s), (job_hall s e).wagons)
 
-  pub free_cut : (j : Job) → j ≡ job_of s → (free free' : List ℕ) → free' ≡ over (free_of (job_costs s).n (job_states s)) free → take j.free free' ≡ free_of (job_costs s).n (job_states s)
+  pub free_cut : (j : Job) → values_in j ≡ job_of s → (free free' : List ℕ) → free' ≡ over (free_of (job_costs s).n (job_states s)) free → take j.free free' ≡ free_of (job_costs s).n (job_states s)
   free_cut j is free free' made = rw made (take_at (free_of (job_costs s).n (job_states s)) _ j.free (sym (job_free j is)))
 
   module _ {rows cols : List ℕ} {values c : List ℤ} {most : ℕ} {t : Shrunk} (r : ReducedRun s most t rows cols values c) where
     pub run_few : t.free ≤ most_wagons
     unfolding run_costs reduced_costs
     run_few = omega (arith, r.many, (run_hall s e).wagons)
-
-    pub run_table : (j : Job) → j ≡ job_of s → cost_table j.free t.count (take t.count rows) (take t.count cols) (take t.count values) (take t.free c) ≡ run_costs s
-    run_table j is = same_costs (job_free j is ∙ sym r.many) refl refl refl refl refl ∙ r.costs_are
 
     -- an i64 holds the constant
     run_held : to_z w64 (of_z w64 t.constant) ≡ t.constant
@@ -272,9 +268,25 @@ module _ (s : List ℕ) (e : job_number s ≡ 0) where
       let front : take k chosen ≡ choice = rw q (take_at choice (drop (length choice) chosen₀) k size) in
       f ∙ rw (p, is, lifted_same (job_costs s).n (job_states s) chosen, front)
 
+-- of a job with H and c as it has them
+module _ {s : List ℕ} {j : Job} {t : CostTable} (o : OwnCosts s j t) where
+  pub own_n : j.n ≡ (job_costs s).n
+  own_n = job_n s o.accepted j o.job_is
+
+  pub own_few : j.n ≤ most_wagons
+  own_few = (fronts_fit s o.accepted j o.job_is).1
+
+  -- reduced into slices, by what `reduce` says of the count and of the slices
+  pub own_reduced : {states : List ℕ} → states ≡ job_states s → {rows cols : List ℕ} {values c : List ℤ} {rows' cols' : List ℕ} {values' c' : List ℤ} {t' : Shrunk} → t'.free ≡ length (free_of t.n states)
+      → Shrinks t.n (quadratic t) (linear t) states rows cols values c rows' cols' values' c' t'.count t'.constant → Room 0 t.count rows cols values → ReducedRun s t.count t' rows' cols' values' c'
+  own_reduced is {rows} {cols} {values} {c} {rows'} {cols'} {values'} {c'} {t'} = reduced_run s o.accepted o.costs_are is t'
+
+  pub own_states : (states states₀ : List ℕ) → states ≡ over (job_states s) states₀ → take j.n states ≡ job_states s
+  own_states states states₀ = states_cut s o.accepted j.n states states₀ own_n
+
 -- ---- the calls of a decoded job
 
-same_settings : {t t' : CostTable} {j j' : Job} {start start' : List Float} → t ≡ t' → j ≡ j' → start ≡ start'
+same_settings : {t t' : CostTable} {j j' : JobValues} {start start' : List Float} → t ≡ t' → j ≡ j' → start ≡ start'
     → Calls.settings_of t j.rank j.rule j.rule_number j.most j.minimum j.objective_tolerance j.stationarity_tolerance j.start start
     ≡ Calls.settings_of t' j'.rank j'.rule j'.rule_number j'.most j'.minimum j'.objective_tolerance j'.stationarity_tolerance j'.start start'
 same_settings p q r = rw (p, q, r)
@@ -284,26 +296,24 @@ all_same : {run run' : Run} {t t' : CostTable} {width width' draw_count drawCoun
     → Finishes run t width draw_count draws factor b dual workspace answer b' dual' workspace' → Finishes run' t' width' drawCount' draws' factor' b dual workspace answer b' dual' workspace'
 all_same p q r k l m f = rw (← p, ← q, ← r, ← k, ← l, ← m) f
 
-module _ {s : List ℕ} {j : Job} {count : ℕ} {rows cols : List ℕ} {values c : List ℤ} {start : List Float} (d : Decoded s j count rows cols values c start) where
-  abbrev costs : CostTable
-  costs = cost_table j.free count rows cols values c
+module _ {s : List ℕ} {j : Job} {costs : CostTable} {start : List Float} (d : Decoded s j costs start) where
+  -- what an open is asked for, by the codes that it is handed
+  abbrev asked : ℕ → ℕ → Settings
+  asked rule kind = Calls.settings_of costs j.rank rule j.rule_number j.most j.minimum j.objective_tolerance j.stationarity_tolerance kind start
 
-  abbrev asked : Settings
-  asked = Calls.settings_of costs j.rank j.rule j.rule_number j.most j.minimum j.objective_tolerance j.stationarity_tolerance j.start start
-
-  asked_is : asked ≡ job_settings (run_costs s) s
+  asked_is : {rule kind : ℕ} → rule ≡ rule_code j.rule → kind ≡ start_code j.start → asked rule kind ≡ job_settings (run_costs s) s
   unfolding job_settings
-  asked_is = same_settings d.costs_are d.job_is d.start_is
+  asked_is p q = rw (p, q) (same_settings d.costs_are d.job_is d.start_is)
 
-  pub opened_run : {answer : Result Run ℕ} {factor factor' : List Float} → length factor ≡ open_size (job_settings (run_costs s) s) * open_rank (job_settings (run_costs s) s) → Opens asked factor answer factor'
+  pub opened_run : {rule kind : ℕ} → rule ≡ rule_code j.rule → kind ≡ start_code j.start → {answer : Result Run ℕ} {factor factor' : List Float} → length factor ≡ open_size (job_settings (run_costs s) s) * open_rank (job_settings (run_costs s) s) → Opens (asked rule kind) factor answer factor'
       → (answer ≡ Ok (open_run (job_settings (run_costs s) s))) × (factor' ≡ start_factor (job_settings (run_costs s) s))
-  opened_run {answer} {factor} {factor'} whole o =
-      let o' : Opens (job_settings (run_costs s) s) factor answer factor' = subst (λ (x : Settings). Opens x factor answer factor') asked_is o in
+  opened_run p q {answer} {factor} {factor'} whole o =
+      let o' : Opens (job_settings (run_costs s) s) factor answer factor' = subst (λ (x : Settings). Opens x factor answer factor') (asked_is p q) o in
       let (is, made) = o'.accepted (o'.numbered ∙ opens s d.accepted (length factor) (omega (arith, whole))) in
       (is, made ∙ over_all (start_factor (job_settings (run_costs s) s)) factor (whole ∙ sym (start_whole s d.accepted)))
 
   most_is : j.most ≡ (job_of s).most
-  most_is = ap (λ (x : Job). x.most) d.job_is
+  most_is = ap (λ (x : JobValues). x.most) d.job_is
 
   opened_used : used (open_run (job_settings (run_costs s) s)) ≡ length (start_factor (job_settings (run_costs s) s))
   unfolding open_run
@@ -325,8 +335,8 @@ module _ {s : List ℕ} {j : Job} {count : ℕ} {rows cols : List ℕ} {values c
       (sym (ap (λ (x : State). x.run) e), sym (ap (λ (x : State). x.factor) e))
 
   -- nothing refuses the open
-  pub opens_now : (factor : List Float) → length factor ≡ open_size (job_settings (run_costs s) s) * open_rank (job_settings (run_costs s) s) → open_number_of asked (length factor) ≡ 0
-  opens_now factor whole = subst (λ (x : Settings). open_number_of x (length factor) ≡ 0) (sym asked_is) (opens s d.accepted (length factor) (omega (arith, whole)))
+  pub opens_now : {rule kind : ℕ} → rule ≡ rule_code j.rule → kind ≡ start_code j.start → (factor : List Float) → length factor ≡ open_size (job_settings (run_costs s) s) * open_rank (job_settings (run_costs s) s) → open_number_of (asked rule kind) (length factor) ≡ 0
+  opens_now p q factor whole = subst (λ (x : Settings). open_number_of x (length factor) ≡ 0) (sym (asked_is p q)) (opens s d.accepted (length factor) (omega (arith, whole)))
 
   -- nor the sweep
   pub sweeps_now : {run : Run} {factor : List Float} → 0 < j.most → run ≡ open_run (job_settings (run_costs s) s) → factor ≡ start_factor (job_settings (run_costs s) s)
@@ -374,7 +384,7 @@ module _ {s : List ℕ} {j : Job} {count : ℕ} {rows cols : List ℕ} {values c
       let n = few s d.accepted in
       let lengths = Calls.finish_lengths (job_draws s) (stopped (run_costs s) s).factor b dual workspace in
       let none = finishes s d.accepted lengths (omega (arith, drawn_long)) (omega (arith, factor_whole s d.accepted)) (omega arith) (omega arith) wr in
-      rw (is, ds, made, d.costs_are, ap (λ (x : Job). x.width) d.job_is, ap (λ (x : Job). x.draw_count) d.job_is) none
+      rw (is, ds, made, d.costs_are, ap (λ (x : JobValues). x.width) d.job_is, ap (λ (x : JobValues). x.draw_count) d.job_is) none
 
   pub finished : {run : Run} {draws factor : List Float} {b b' : List ℕ} {dual dual' : List Float} {workspace workspace' : List ℕ} {answer : Result FinishResult ℕ} → run ≡ record_of (stopped (run_costs s) s) → draws ≡ job_draws s → factor ≡ (stopped (run_costs s) s).factor
       → most_wagons ≤ length b → most_signs ≤ length dual → search_workspace ≤ length workspace
@@ -386,7 +396,7 @@ module _ {s : List ℕ} {j : Job} {count : ℕ} {rows cols : List ℕ} {values c
       let width = (job_of s).width in
       let draw_count = (job_of s).draw_count in
       let g : Finishes run₀ (run_costs s) width draw_count (job_draws s) factor₀ b dual workspace answer b' dual' workspace' =
-      all_same is d.costs_are (ap (λ (x : Job). x.width) d.job_is) (ap (λ (x : Job). x.draw_count) d.job_is) ds made f in
+      all_same is d.costs_are (ap (λ (x : JobValues). x.width) d.job_is) (ap (λ (x : JobValues). x.draw_count) d.job_is) ds made f in
       let n = few s d.accepted in
       let lengths = Calls.finish_lengths (job_draws s) factor₀ b dual workspace in
       let none = finishes s d.accepted lengths (omega (arith, drawn_long)) (omega (arith, factor_whole s d.accepted)) (omega arith) (omega arith) wr in
@@ -399,19 +409,16 @@ module _ {s : List ℕ} {j : Job} {count : ℕ} {rows cols : List ℕ} {values c
   -- the size of the factor
   pub sizes : (rank : ℕ) → rank ≡ job_rank s → (j.free ≤ most_wagons) × ((j.free + 1) * rank ≤ most_factor) × ((j.free + 1) * rank ≡ open_size (job_settings (run_costs s) s) * open_rank (job_settings (run_costs s) s))
   sizes rank is =
-      let n : j.free ≡ (run_costs s).n = ap (λ (t : CostTable). t.n) d.costs_are in
+      let n : j.free ≡ (run_costs s).n = job_free s d.accepted j d.job_is ∙ many_free s d.accepted ∙ sym (run_n s d.accepted) in
       let low = few s d.accepted in
       let r : rank ≡ open_rank (job_settings (run_costs s) s) = is ∙ sym (rank_is s d.accepted) in
       let within : (j.free + 1) * rank ≤ most_factor = area (j.free + 1) rank most_signs most_rank (omega arith) (rw r (rank_few s d.accepted)) in
       (omega arith, omega (arith, within), rw (r, n, ← (size_is s d.accepted)))
 
--- ---- answers that are told apart
+-- ---- answers
 
-pub started : {opened : Result Run ℕ} {r x : Run} → opened ≡ Ok r → opened ≡ Ok x → r ≡ x
-started p q = cc
-
-pub resulted : {finished : Result FinishResult ℕ} {r x : FinishResult} → finished ≡ Ok r → finished ≡ Ok x → r ≡ x
-resulted p q = cc
+pub same_ok : {A : Type 0} {answer : Result A ℕ} {x y : A} → answer ≡ Ok x → answer ≡ Ok y → x ≡ y
+same_ok p q = cc
 
 pub positive : (n : ℕ) → (n ≡ 0 → ⊥) → 0 < n
 positive zero h = absurd (h refl)

@@ -31,7 +31,7 @@ use Rattle.finalize.proofs.Demand3.{demand3, unsearched}
 use Rattle.pinned.specs.Pinned.{free_table, free_cost}
 use Rattle.pinned_demand.specs.PinnedDemand3.{free_count}
 use Rattle.pinned_demand.proofs.Figures.{figures_within, fits_within}
-use Rattle.run_record.specs.CostTable.{quadratic, linear}
+use Rattle.tables.specs.CostTable.{quadratic, linear}
 use Rattle.run_contract.specs.Calls.{finish_result, finish_multipliers}
 use Rattle.run_contract.specs.PlainRun.{record_of}
 use Rattle.job_reader.specs.Bytes.{big_endian}

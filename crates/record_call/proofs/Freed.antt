@@ -20,7 +20,7 @@ use Rattle.reduced.specs.Submatrix.{value_in, reduced_places}
 use Rattle.pinned.specs.Pinned.{is_free, free_of, free_table, free_costs}
 use Rattle.pinned.proofs.Halls.{reduce_hall}
 use Rattle.pinned.proofs.AllFree.{many_all, count_all, rows_all, cols_all, values_all, costs_all, constant_all, lifted_all}
-use Rattle.run_record.specs.CostTable.{CostTable, cost_table, quadratic, linear}
+use Rattle.tables.specs.CostTable.{CostTable, cost_table, quadratic, linear}
 use Rattle.run_record.specs.Numbers.{table_short, cost_table_number}
 use Rattle.run_contract.specs.PlainRun.{record_of}
 use Rattle.run_contract.proofs.Lengths.{length_choice}

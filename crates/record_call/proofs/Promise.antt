@@ -19,7 +19,7 @@ use Rattle.pinned.specs.Pinned.{lifted}
 use Rattle.pinned.proofs.Lifting.{length_lifted}
 use Rattle.pinned_demand.specs.PinnedDemand3.{PinnedDemand3}
 use Rattle.pinned_demand.proofs.Pinned.{pinned_finish}
-use Rattle.run_record.specs.CostTable.{CostTable, quadratic, linear}
+use Rattle.tables.specs.CostTable.{CostTable, quadratic, linear}
 use Rattle.run_contract.specs.Calls.{finish_result}
 use Rattle.run_contract.specs.PlainRun.{record_of}
 use Rattle.job_record.specs.Number.{job_number}

@@ -12,12 +12,13 @@ use Rattle.laws.proofs.Refusal.{first_end, first_next, first_skip}
 use Rattle.laws.proofs.Any.{any_none, any_not, or_none, and_right}
 use Rattle.tables.specs.Check.{short_table}
 use Rattle.run_record.specs.declared.Run.{Run}
-use Rattle.run_record.specs.CostTable.{CostTable}
+use Rattle.tables.specs.CostTable.{CostTable}
 use Rattle.limits.specs.Limits.{most_rank, most_width, most_draws, search_workspace}
 use Rattle.run_limits.specs.Rank.{rank_meant}
 use Rattle.run_limits.specs.Momentum.{is_momentum}
 use Rattle.run_limits.specs.Start.{start_length}
-use Rattle.run_record.specs.Numbers.{is_stopped, table_short, factor_short, record_refused, cost_table_number, bad_momentum, sweep_short, sweep_number, draws_refused, draws_short, choice_short, FinishLengths, finish_short, width_refused, finish_number, open_rank_refused, start_short, open_factor_short, open_short, rule_refused, open_number}
+use Rattle.run_limits.specs.Draws.{bad_draws}
+use Rattle.run_record.specs.Numbers.{is_stopped, table_short, factor_short, record_refused, cost_table_number, bad_momentum, sweep_short, sweep_number, draws_short, choice_short, FinishLengths, finish_short, width_refused, finish_number, open_rank_refused, start_short, open_factor_short, open_short, rule_refused, open_number}
 use Rattle.step_rules.specs.Rule.{rule_of}
 
 -- a slice that is long enough, whatever its length rests on
@@ -109,7 +110,7 @@ sweep_passes run t factor there fs stage sound table rule =
     ∙ first_skip 32 _ _ stage ∙ first_skip 33 _ _ sound ∙ first_next _ _ table ∙ first_skip 18 _ _ rule ∙ first_end
 
 pub width_passes : (width draw_count : ℕ) → width ≤ most_width → 1 ≤ draw_count → draw_count ≤ most_draws → width_refused width draw_count ≡ false
-unfolding width_refused draws_refused
+unfolding width_refused bad_draws
 width_passes width draw_count w some few =
     or_none (ltb most_width width) _ (le-ltb most_width width w) (or_none (eqb draw_count 0) _ (ne_eqb draw_count 0 (λ e. omega (arith, e))) (le-ltb most_draws draw_count few))
 

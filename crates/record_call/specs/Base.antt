@@ -2,7 +2,7 @@
 -- was, with the places of the settings and of the draws behind c; and what it answered before there were larger houses.
 use Rattle.std.specs.Prelude.{ℕ, zero, suc, ◌+◌, ◌*◌, cond, List, ltb, Float}
 use Rattle.laws.specs.Lists.{tabulate}
-use Rattle.run_record.specs.CostTable.{CostTable, quadratic, linear}
+use Rattle.tables.specs.CostTable.{CostTable, quadratic, linear}
 use Rattle.run_sweep.specs.Work.{call_work}
 use Rattle.run_contract.specs.declared.FinishResult.{FinishResult}
 use Rattle.run_contract.specs.Calls as Calls
@@ -15,8 +15,7 @@ use Rattle.job_record.specs.Number.{number_by}
 use Rattle.job_record.specs.Base.{base_number, base_settings, base_draws}
 use Rattle.answer_record.specs.Answer.{answer_bytes, refusal_bytes}
 use Rattle.answer_record.specs.declared.answer.Answer.{Answer}
-use Rattle.job_record.specs.Values.{draws_by, states_of, job_by}
-use Rattle.job_record.specs.declared.job.Job.{Job}
+use Rattle.job_record.specs.Values.{JobValues, draws_by, states_of, job_by}
 use Rattle.pinned.specs.Pinned.{held_cost, lifted}
 use Rattle.record_call.specs.Record.{job_costs, reduced_costs, fields_of, JobAnswer}
 
@@ -66,7 +65,7 @@ base_answer s = record { number = base_number s; bytes = base_bytes (base_number
 
 -- ---- before there were larger houses: the text of Record, all that it reads of a job by the table with versions 1 and 2
 
-abbrev pub two_job : List ℕ → Job
+abbrev pub two_job : List ℕ → JobValues
 two_job s = job_by two_versions s
 
 unfoldable pub two_states : List ℕ → List ℕ

@@ -4,19 +4,19 @@ use Rattle.std.specs.Int.{w64}
 use Rattle.std.proofs.Common.{SFits}
 use Rattle.laws.specs.Lists.{tabulate, over}
 use Rattle.pinned.specs.Pinned.{free_of}
-use Rattle.run_record.specs.CostTable.{cost_table}
+use Rattle.tables.specs.CostTable.{CostTable, cost_table}
 use Rattle.run_contract.specs.declared.FinishResult.{FinishResult}
 use Rattle.job_record.specs.Fields.{wagons, entry_count}
 use Rattle.job_record.specs.Number.{job_number}
-use Rattle.job_record.specs.Values.{job_states, job_of, job_start_count, job_start, TableRoom}
+use Rattle.job_record.specs.Values.{job_states, values_in, job_of, job_start_count, job_start, TableRoom}
 use Rattle.job_record.specs.declared.job.Job.{Job}
 use Rattle.answer_record.specs.declared.answer.Answer.{Answer}
 use Rattle.record_call.specs.Record.{job_costs, run_costs, job_choice, job_fields}
 
-pub record Decoded (s : List ℕ) (j : Job) (count : ℕ) (rows cols : List ℕ) (values c : List ℤ) (start : List Float) : Type 0 where
+pub record Decoded (s : List ℕ) (j : Job) (t : CostTable) (start : List Float) : Type 0 where
   pub accepted : job_number s ≡ 0
-  pub job_is : j ≡ job_of s
-  pub costs_are : cost_table j.free count rows cols values c ≡ run_costs s
+  pub job_is : values_in j ≡ job_of s
+  pub costs_are : t ≡ run_costs s
   pub start_is : start ≡ tabulate (job_start s) (job_start_count s)
 
 -- slices whose fronts hold an accepted job's H and c
@@ -25,11 +25,11 @@ pub record AtFronts (s rows cols : List ℕ) (values c : List ℤ) : Type 0 wher
   pub room : TableRoom rows cols values c
   pub costs_are : cost_table (wagons s) (entry_count s) (take (entry_count s) rows) (take (entry_count s) cols) (take (entry_count s) values) (take (wagons s) c) ≡ job_costs s
 
--- and lists that hold them and no more
-pub record OwnCosts (s : List ℕ) (j : Job) (rows cols : List ℕ) (values c : List ℤ) : Type 0 where
+-- and the H and c alone, cut from there
+pub record OwnCosts (s : List ℕ) (j : Job) (t : CostTable) : Type 0 where
   pub accepted : job_number s ≡ 0
-  pub job_is : j ≡ job_of s
-  pub costs_are : cost_table j.n j.count rows cols values c ≡ job_costs s
+  pub job_is : values_in j ≡ job_of s
+  pub costs_are : t ≡ job_costs s
 
 -- the run on the free wagons: the answer's fields, these wagons over the front of the one slice and their choice over that of the other
 pub record FreeRun (s free chosen : List ℕ) (r : Answer) (free' chosen' : List ℕ) : Type 0 where

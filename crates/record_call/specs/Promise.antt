@@ -1,7 +1,7 @@
 -- What the record call promises: of every accepted job the fields of the answer's bytes as a reader of answers finds them, and with W ≥ 1 demand 3's
 -- clauses for the job's H and c among the choices that keep its pins, said of what that reader finds; of any W, the float bound below every cost.
 use Rattle.std.specs.Prelude.{ℕ, ◌≤◌, ◌≡◌, List, length, drop, ◌-ℤ◌}
-use Rattle.run_record.specs.CostTable.{quadratic, linear}
+use Rattle.tables.specs.CostTable.{quadratic, linear}
 use Rattle.float_bound.specs.Below.{AtMostEighths}
 use Rattle.finalize.specs.Finalize.{cost_of}
 use Rattle.finalize.specs.Demand3.{Demand3}

@@ -6,7 +6,7 @@ use Rattle.limits.specs.Limits.{record_workspace, least_answer}
 use Rattle.tables.specs.Stored.{rows_of, cols_of, values_of}
 use Rattle.reduced.specs.Submatrix.{value_in, reduced_places}
 use Rattle.pinned.specs.Pinned.{free_of, free_costs, held_cost, lifted}
-use Rattle.run_record.specs.CostTable.{CostTable, cost_table, quadratic, linear}
+use Rattle.tables.specs.CostTable.{CostTable, cost_table, quadratic, linear}
 use Rattle.run_sweep.specs.Work.{call_work}
 use Rattle.run_contract.specs.declared.FinishResult.{FinishResult}
 use Rattle.run_contract.specs.Calls as Calls

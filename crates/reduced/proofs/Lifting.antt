@@ -88,10 +88,10 @@ pub record Judged (size : ℕ) (map fixed : List ℕ) (values solution lifted : 
   pub long : lift_short most_size size map fixed (length values) (length solution) (length lifted) ≡ false
   pub number : r ≡ 20 if index_refused most_size size map fixed
 
-pub judged : (size : ℕ) (map fixed : List ℕ) (values solution lifted : List Float) {b : Bool} {r : ℕ}
+pub judged : {size : ℕ} {map fixed : List ℕ} {values solution lifted : List Float} {b : Bool} {r : ℕ}
     → b ≡ lift_short most_size size map fixed (length values) (length solution) (length lifted) → b ≡ false → r ≡ 20 if index_refused most_size size map fixed
     → Judged size map fixed values solution lifted r
-judged size map fixed values solution lifted e f n = record { long = sym e ∙ f; number = n }
+judged e f n = record { long = sym e ∙ f; number = n }
 
 module _ {size : ℕ} {map fixed : List ℕ} {values solution lifted : List Float} {r : ℕ} (j : Judged size map fixed values solution lifted r) where
   is_number : r ≡ lift_number most_size size map fixed (length values) (length solution) (length lifted)

@@ -3,11 +3,12 @@
 use mathlib.Core.Path.{◌≡◌, refl, sym, ap, ◌∙◌}
 use mathlib.Core.Bool.{Bool, true, false}
 use mathlib.Core.List.{List, []}
-use Prim.Native.Nat.{ℕ, ◌<◌, ◌≤◌}
+use Prim.Native.Nat.{ℕ, ◌≤◌}
 use native.Mathlib.Omega.{arith}
 use lib.ListN.{length}
 use lib.Dec.{ltb}
-use borrow.Author.Tests.{ltb-false, lt-ltb, le-ltb}
+use lib.IntN.{ℤ}
+use borrow.Author.Tests.{ltb-false, le-ltb}
 use Rattle.laws.specs.Lists.{elem}
 use Rattle.laws.specs.Refusal.{◌if◌}
 use Rattle.laws.proofs.Refusal.{clear, first_here, first_skip, first_next, first_last, first_end, first_head, first_rest}
@@ -18,25 +19,9 @@ use Rattle.tables.proofs.Checks.{order_range, order_rising, order_passes, table_
 use Rattle.limits.specs.Limits.{most_sign_entries, most_size}
 use Rattle.reduced.specs.Indices.{index_refused}
 use Rattle.std.specs.Prelude.{Ok, Err}
-use Rattle.reduced.specs.Submatrix.{Slices, table_in, value_in, reduced_places, slices_short, input_number, submatrix_number, Reduces, Input, Acceptable}
+use Rattle.reduced.specs.Submatrix.{Slices, slices_of, table_in, value_in, reduced_places, slices_short, input_number, submatrix_number, Reduces, Input, Acceptable}
 use Rattle.reduced.specs.Scatter.{Reducible}
 use Rattle.reduced.proofs.Distinct.{index_mapped, mapped_index, within_up}
-
--- ---- 13, 14, 20
-
-module _ (most_size most_sign_entries size count : ℕ) (rows cols map fixed : List ℕ) where
-  pub input_count : most_sign_entries < count → 13 ≡ input_number most_size most_sign_entries size count rows cols map fixed
-  unfolding input_number
-  input_count h = sym (first_here 12 _ _ (lt-ltb _ _ h))
-
-  module _ (few : count ≤ most_sign_entries) {o : Bool} (is : o ≡ bad_order size (elem rows) (elem cols) count) where
-    pub input_order : o ≡ true → 14 ≡ input_number most_size most_sign_entries size count rows cols map fixed
-    unfolding input_number
-    input_order n = sym (first_skip 13 _ _ (le-ltb _ _ few) ∙ first_here 13 _ _ (sym is ∙ n))
-
-    pub input_index : {r : ℕ} → o ≡ false → r ≡ 20 if index_refused most_size size map fixed → r ≡ input_number most_size most_sign_entries size count rows cols map fixed
-    unfolding input_number
-    input_index z e = e ∙ sym (first_skip 13 _ _ (le-ltb _ _ few) ∙ first_skip 14 _ _ (sym is ∙ z) ∙ first_last _)
 
 -- ---- 31
 
@@ -71,10 +56,10 @@ pub record Judged (size count : ℕ) (from : Slices) (map fixed : List ℕ) (to 
   pub to_long : slices_short most_sign_entries count to ≡ false
   pub number : r ≡ input_number most_size most_sign_entries size count from.rows from.cols map fixed
 
-pub judged : (size count : ℕ) (from : Slices) (map fixed : List ℕ) (to : Slices) {b d : Bool} {r : ℕ}
-    → b ≡ slices_short most_sign_entries count from → b ≡ false → d ≡ slices_short most_sign_entries count to → d ≡ false
-    → r ≡ input_number most_size most_sign_entries size count from.rows from.cols map fixed → Judged size count from map fixed to r
-judged size count from map fixed to e f g h n = record { from_long = sym e ∙ f; to_long = sym g ∙ h; number = n }
+pub judged : {size count : ℕ} {rows cols map fixed to_rows to_cols : List ℕ} {values to_values : List ℤ} {b d : Bool} {r : ℕ}
+    → b ≡ slices_short most_sign_entries count (slices_of rows cols values) → b ≡ false → d ≡ slices_short most_sign_entries count (slices_of to_rows to_cols to_values) → d ≡ false
+    → r ≡ input_number most_size most_sign_entries size count rows cols map fixed → Judged size count (slices_of rows cols values) map fixed (slices_of to_rows to_cols to_values) r
+judged e f g h n = record { from_long = sym e ∙ f; to_long = sym g ∙ h; number = n }
 
 module _ {size count : ℕ} {from : Slices} {map fixed : List ℕ} {to : Slices} {r : ℕ} (j : Judged size count from map fixed to r) where
   is_number : r ≡ submatrix_number most_size most_sign_entries size count from map fixed to
@@ -125,11 +110,7 @@ module _ {most_size most_sign_entries size count : ℕ} {from : Slices} {map fix
         map_once = i.mapped.map_once;
       }
 
--- what the input's check asks of the slices, and the writing of them, the table and the map
-pub count_lent : {most_sign_entries count : ℕ} (s : Slices) {b : Bool} → b ≡ slices_short most_sign_entries count s → b ≡ false
-    → count ≤ most_sign_entries → (count ≤ length s.rows) × (count ≤ length s.cols)
-count_lent s e f h = let l = slices_lent {s = s} (sym e ∙ f) h in (l.rows_there, l.cols_there)
-
+-- what the writing asks of the slices, the table and the map
 pub judged_asks : {size count : ℕ} {from : Slices} {map fixed : List ℕ} {to : Slices} {r : ℕ} → Judged size count from map fixed to r → r ≡ 0
     → Lent count from.rows from.cols from.values × Reducible most_size most_sign_entries (table_in count from) map × Room 0 count to.rows to.cols to.values
 judged_asks {from = from} {to = to} j z =

@@ -11,13 +11,13 @@ use Rattle.laws.specs.Lists.{elem, elem_z}
 use Rattle.tables.specs.Table.{Table, InRange, Rising}
 use Rattle.tables.specs.Stored.{rows_of, cols_of, values_of}
 use Rattle.tables.proofs.Mirrors.{value_here, stored_true, stored_here}
-use Rattle.tables.proofs.Kept.{place_at, places_have, row_listed, col_listed, value_listed}
+use Rattle.tables.proofs.Kept.{place_at, places_have, row_listed, col_listed, value_listed, places_rising}
 use Rattle.tables.proofs.Slices.{Same, written_same}
 use Rattle.limits.specs.Limits.{most_sign_entries, most_size}
 use Rattle.std.specs.Prelude.{Result, Ok}
 use Rattle.reduced.specs.Submatrix.{Slices, table_in, kept_in, value_in, reduced_places, Reduces, Acceptable, Stands}
 use Rattle.reduced.proofs.Numbers.{submatrix_accepted, input_reducible}
-use Rattle.reduced.proofs.Entries.{places_rising, reduced_few}
+use Rattle.reduced.proofs.Entries.{reduced_few}
 
 counted : {n m : ℕ} → ◌≡◌ {A = Result ℕ ℕ} (Ok n) (Ok m) → n ≡ m
 counted e = cc

@@ -8,11 +8,11 @@ ghost use Rattle.reduced.specs.Indices.{Mapped};
 ghost use Rattle.reduced.specs.Lift.{lifted_of, lift_short, LiftLent, Lifts};
 
 use crate::at_indices::put_each;
-use crate::indices::index_refusal;
+use crate::indices::{Indices, index_refusal};
 use limits::MOST_SIZE;
 use refusal::Refusal;
 
-// 0.0 at the first places.
+// 0.0 at the first places: a function, so that `put_lifted` sees our `fill` and not what the library says of a part of a slice.
 fn clear(size: usize, lifted: &mut [f64])
     requires { size ≤ length lifted.old }
     ensures { lifted.new ≡ fill (λ _. zero64) size lifted.old }
@@ -21,71 +21,51 @@ fn clear(size: usize, lifted: &mut [f64])
 }
 
 // 0.0 everywhere, over it the fixed values, over them the reduced solution, each at its index.
-fn put_lifted(
-    size: usize,
-    variable_map: &[u16],
-    fixed_index: &[u16],
-    fixed_value: &[f64],
-    reduced_solution: &[f64],
-    lifted: &mut [f64],
-)
-    requires lift_lent { LiftLent most_size size variable_map.now fixed_index.now (length fixed_value.now) (length reduced_solution.now) (length lifted.old) }
-    requires mapped { Mapped most_size size variable_map.now fixed_index.now }
-    ensures { lifted.new ≡ lifted_of size variable_map.now fixed_index.now fixed_value.now
+fn put_lifted(indices: Indices, fixed_value: &[f64], reduced_solution: &[f64], lifted: &mut [f64])
+    requires lift_lent { let x = indices in LiftLent most_size x.size x.variable_map.now x.fixed_index.now (length fixed_value.now) (length reduced_solution.now) (length lifted.old) }
+    requires mapped { Mapped most_size indices.size indices.variable_map.now indices.fixed_index.now }
+    ensures { let x = indices.entry in lifted.new ≡ lifted_of x.size x.variable_map.now x.fixed_index.now fixed_value.now
         reduced_solution.now lifted.old }
 {
-    clear(size, lifted);
-    put_each(fixed_index, fixed_value, lifted);
-    put_each(variable_map, reduced_solution, lifted);
+    clear(indices.size, lifted);
+    put_each(indices.fixed_index, fixed_value, lifted);
+    put_each(indices.variable_map, reduced_solution, lifted);
 }
 
 // Whether a lent slice is too short, by its length.
 #[tactic(auto, unfolding(crate::specs::Lift::lift_short, laws::specs::Refusal::any_of, laws::specs::Refusal::short))]
-fn lift_short(
-    size: usize,
-    variable_map: &[u16],
-    fixed_index: &[u16],
-    values: usize,
-    solution: usize,
-    lifted: usize,
-) -> bool
-    ensures { result ≡ lift_short most_size size variable_map.now fixed_index.now values solution lifted }
+fn lift_short(indices: Indices, values: usize, solution: usize, lifted: usize) -> bool
+    ensures { let x = indices.entry in result ≡ lift_short most_size x.size x.variable_map.now x.fixed_index.now values solution lifted }
 {
-    values < fixed_index.len()
-        || solution < variable_map.len()
-        || size <= MOST_SIZE && lifted < size
+    values < indices.fixed_index.len()
+        || solution < indices.variable_map.len()
+        || indices.size <= MOST_SIZE && lifted < indices.size
 }
 
 // The reduced solution over the original indices, in the first places, the others as they were; a refusal writes nothing.
 pub fn lift_solution(
-    size: usize,
-    variable_map: &[u16],
-    fixed_index: &[u16],
+    indices: Indices,
     fixed_value: &[f64],
     reduced_solution: &[f64],
     lifted: &mut [f64],
 ) -> Result<(), Refusal>
-    ensures { Lifts size variable_map.now fixed_index.now fixed_value.now reduced_solution.now
+    ensures { let x = indices.entry in Lifts x.size x.variable_map.now x.fixed_index.now fixed_value.now reduced_solution.now
         lifted.old (numbered result) lifted.new }
 {
     if lift_short(
-        size,
-        variable_map,
-        fixed_index,
+        indices,
         fixed_value.len(),
         reduced_solution.len(),
         lifted.len(),
     ) {
         return Err(Refusal::Slice);
     }
-    index_refusal(size, variable_map, fixed_index)?;
+    index_refusal(indices)?;
     put_lifted(
-        size,
-        variable_map,
-        fixed_index,
+        indices,
         fixed_value,
         reduced_solution,
-        &mut lifted[..size],
+        &mut lifted[..indices.size],
     );
     Ok(())
 }

@@ -1,20 +1,23 @@
-// The rounding of draws: each draw's signs, and the first draw of least objective (002, `compute_rounded_sol`).
+// The rounding of draws: each draw's signs, and the first draw of least objective (002, `compute_rounded_sol`). The factor, its rank and m stay three
+// parameters: as one value, as tried in factor's `multiply`, each clause says `rows.entry.factor.now rows.entry.rank rows.entry.m` for `factor.now rank m`,
+// for one `m * rank ≤ length factor.now` less. The signs of a draw are written where they are cut (factor/src/rows.rt says why).
 #![tactic(auto)]
 
-ghost use Rattle.std.specs.Prelude.{◌≡◌, ◌++◌, ◌+◌, ◌*◌, ◌≤◌, ◌<◌, length, drop};
+ghost use Rattle.std.specs.Prelude.{◌≡◌, ◌++◌, ◌+◌, ◌*◌, ◌≤◌, length, drop};
 ghost use Rattle.std.specs.Float.Ieee as Ieee;
 ghost use Rattle.laws.specs.Rows.{set_row};
 ghost use Rattle.laws.specs.Lists.{tabulate};
 ghost use Rattle.ieee.specs.Floats.{zero64};
 ghost use Rattle.limits.specs.Limits.{most_sign_magnitude};
 ghost use Rattle.factor.specs.Vectors.{unit};
-ghost use Rattle.tables.specs.Table.{table_of, Lent, InRange, magnitude_of};
+ghost use Rattle.tables.specs.Table.{InRange, magnitude_of};
 ghost use Rattle.rounding.specs.Rounding.{plus_byte, rounded_sign, draw_signs, signs_of, rounded_sols, draw_objective, rounded_sol, rounded_objective};
 ghost use Rattle.tables.specs.Entries.{listed};
 
 use factor::rows::{copy, normalize, row};
 use factor::sums::dot;
 use local_search::least::keep_better;
+use run_limits::Draws;
 use tables::entries::Entries;
 use tables::objective::obj_rounded;
 
@@ -84,16 +87,15 @@ pub fn compute_rounded_sols(
     factor: &[f64],
     rank: usize,
     m: usize,
-    draw_count: usize,
-    draws: &[f64],
+    draws: Draws,
     direction: &mut [f64],
     sols: &mut [u8],
 )
-    requires { (m * rank ≤ length factor.now) × (draw_count * rank ≤ length draws.now) × (length direction.old ≡ rank) × (draw_count * m ≤ length sols.old) }
-    ensures { sols.new ≡ rounded_sols factor.now rank m draws.now draw_count ++ drop (draw_count * m) sols.old }
+    requires { (m * rank ≤ length factor.now) × (draws.count * rank ≤ length draws.numbers.now) × (length direction.old ≡ rank) × (draws.count * m ≤ length sols.old) }
+    ensures { sols.new ≡ rounded_sols factor.now rank m draws.entry.numbers.now draws.entry.count ++ drop (draws.entry.count * m) sols.old }
 {
-    for k in 0..draw_count {
-        round_at(factor, rank, m, draws, k, direction, sols);
+    for k in 0..draws.count {
+        round_at(factor, rank, m, draws.numbers, k, direction, sols);
     }
 }
 
@@ -108,7 +110,7 @@ fn evaluate_draw(
     direction: &mut [f64],
     signs: &mut [u8],
 ) -> i64
-    requires lent { InRange m (listed table) × (magnitude_of (listed table) ≤ most_sign_magnitude) }
+    requires table_in_bounds { InRange m (listed table) × (magnitude_of (listed table) ≤ most_sign_magnitude) }
     requires rank_in_bounds { (m * rank ≤ length factor.now) × (k * rank + rank ≤ length draws.now) × (length direction.old ≡ rank) × (length signs.old ≡ m) }
     ensures value { result ≡ draw_objective factor.now rank m draws.now (listed table.entry) k }
     ensures signs_after { signs.new ≡ signs_of factor.now rank m draws.now k }
@@ -123,21 +125,20 @@ pub fn compute_rounded_sol(
     factor: &[f64],
     rank: usize,
     m: usize,
-    draw_count: usize,
-    draws: &[f64],
+    draws: Draws,
     direction: &mut [f64],
     signs: &mut [u8],
     best: &mut [u8],
 ) -> i64
-    requires lent { InRange m (listed table) × (magnitude_of (listed table) ≤ most_sign_magnitude) }
-    requires rank_in_bounds { (m * rank ≤ length factor.now) × (draw_count * rank ≤ length draws.now) × (1 ≤ draw_count)
+    requires table_in_bounds { InRange m (listed table) × (magnitude_of (listed table) ≤ most_sign_magnitude) }
+    requires rank_in_bounds { (m * rank ≤ length factor.now) × (draws.count * rank ≤ length draws.numbers.now) × (1 ≤ draws.count)
         × (length direction.old ≡ rank) × (length signs.old ≡ m) × (length best.old ≡ m) }
-    ensures value { result ≡ rounded_objective factor.now rank m draws.now (listed table.entry) draw_count }
-    ensures best_after { best.new ≡ rounded_sol factor.now rank m draws.now (listed table.entry) draw_count }
+    ensures value { result ≡ rounded_objective factor.now rank m draws.entry.numbers.now (listed table.entry) draws.entry.count }
+    ensures best_after { best.new ≡ rounded_sol factor.now rank m draws.entry.numbers.now (listed table.entry) draws.entry.count }
 {
-    let mut least = evaluate_draw(table, factor, rank, m, draws, 0, direction, best);
-    for k in 1..draw_count {
-        let objective = evaluate_draw(table, factor, rank, m, draws, k, direction, signs);
+    let mut least = evaluate_draw(table, factor, rank, m, draws.numbers, 0, direction, best);
+    for k in 1..draws.count {
+        let objective = evaluate_draw(table, factor, rank, m, draws.numbers, k, direction, signs);
         least = keep_better(least, best, objective, signs);
     }
     least

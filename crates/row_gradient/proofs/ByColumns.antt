@@ -1,6 +1,4 @@
 -- The gradient of a row is one sum per column.
---     block_start, block_next    a block of columns before the first entry, and after one more
---     column_next                a column after one more entry
 --     gradient_columns           the definition of the sweep, column by column
 --     whole_block                all columns as one block
 --     at_rank                    what the columns ask, at the rank
@@ -8,74 +6,28 @@
 --     two_ends                   a row written as two blocks
 -- Assumes nothing.
 use mathlib.Core.Path.{◌≡◌, refl, sym, ◌∙◌}
-use mathlib.Core.Bool.{Bool, true, false}
 use mathlib.Core.List.{List}
-use Prim.Native.Nat.{ℕ, zero, suc, ◌+◌, ◌*◌, ◌≤◌}
-use native.Mathlib.Nat.{add_assoc, zero-add}
+use Prim.Native.Nat.{ℕ, ◌+◌, ◌≤◌}
+use native.Mathlib.Nat.{zero-add}
 use native.Mathlib.Omega.{arith}
-use native.Mathlib.Numerals.{add-one}
 use lib.Dec.{eqb}
 use lib.Ieee.{Float}
-use lib.ListN.{length, get_or, take, drop, replicate}
-use Rattle.laws.specs.Rows.{map_first, row_of}
+use lib.ListN.{length, take, drop}
+use Rattle.laws.specs.Rows.{map_first}
 use Rattle.laws.specs.Lists.{tabulate, over}
-use Rattle.laws.proofs.Made.{length_tabulate, tabulate_all, tabulate_ext, tabulate_replicate}
-use Rattle.ieee.specs.Floats.{◌-ᶠ◌, at, zero64}
+use Rattle.laws.proofs.Made.{tabulate_all, tabulate_ext}
+use Rattle.ieee.specs.Floats.{◌-ᶠ◌, at}
 use Rattle.factor.specs.Shapes.{ColumnsWithin}
-use Rattle.factor.specs.Vectors.{sub_scaled}
 use Rattle.factor.specs.Columns.{put_block}
-use Rattle.factor.proofs.Written.{entry_made, sums_put, block_next_put}
-use Rattle.row_gradient.specs.Gradient.{sub_entry, gradient_to, gradient_of}
-use Rattle.row_gradient.specs.Columns.{less_entry, column_to, column_of, block_to, block_entry}
-
--- an entry's share off sums that are made by index
-entry_tabulate : (b : Bool) (weight : Float) (factor : List Float) (start width : ℕ) (f : ℕ → Float)
-    → block_entry b width weight (take width (drop start factor)) (tabulate f width)
-    ≡ tabulate (λ j. less_entry b weight (at factor (start + j)) (f j)) width
-entry_tabulate true weight factor start width f = refl
-entry_tabulate false weight factor start width f = entry_made ◌-ᶠ◌ weight factor start width f
-
--- the sweep's entry is the block's, over all columns
-entry_block : (b : Bool) (weight : Float) (source : List Float) (width : ℕ) (f : ℕ → Float)
-    → sub_entry b weight source (tabulate f width) ≡ block_entry b width weight source (tabulate f width)
-unfolding sub_scaled
-entry_block true weight source width f = refl
-entry_block false weight source width f = rw (length_tabulate f width)
+use Rattle.factor.proofs.ByColumns.{sums_columns}
+use Rattle.factor.proofs.Written.{sums_put, block_next_put}
+use Rattle.row_gradient.specs.Gradient.{gradient_of}
+use Rattle.row_gradient.specs.Columns.{column_of, block_to}
 
 module _ (cols : List ℕ) (values factor : List Float) (vertex rank : ℕ) where
-  pub block_start_lem : (offset width : ℕ) → replicate width zero64 ≡ block_to cols values factor vertex rank offset width 0
-  unfolding column_to
-  block_start_lem offset width = tabulate_replicate zero64 width
-
-  pub block_next : (offset width n : ℕ) (sums : List Float) → sums ≡ block_to cols values factor vertex rank offset width n
-      → block_entry (eqb (get_or cols n 0) vertex) width (at values n) (take width (drop (get_or cols n 0 * rank + offset) factor)) sums
-      ≡ block_to cols values factor vertex rank offset width (n + 1)
-  unfolding column_to
-  block_next offset width n sums e =
-      rw (e, add-one n)
-      (entry_tabulate (eqb (get_or cols n 0) vertex) (at values n) factor (get_or cols n 0 * rank + offset) width
-      (λ j. column_to cols values factor vertex rank (offset + j) n)
-      ∙ tabulate_ext _ _ width (λ j h. rw (add_assoc (get_or cols n 0 * rank) offset j)))
-
-  pub column_next : (j n : ℕ) (sum : Float) → sum ≡ column_to cols values factor vertex rank j n
-      → less_entry (eqb (get_or cols n 0) vertex) (at values n) (at factor (get_or cols n 0 * rank + j)) sum ≡ column_to cols values factor vertex rank j (n + 1)
-  unfolding column_to
-  column_next j n sum e = rw (e, add-one n)
-
-  -- the sweep's sums, column by column
-  pub gradient_to_columns : (n : ℕ) → gradient_to cols values factor vertex rank n ≡ tabulate (λ j. column_to cols values factor vertex rank j n) rank
-  unfolding gradient_to column_to
-  gradient_to_columns zero = tabulate_replicate zero64 rank
-  gradient_to_columns (suc n) =
-      rw (gradient_to_columns n)
-      (entry_block (eqb (get_or cols n 0) vertex) (at values n) (row_of rank factor (get_or cols n 0)) rank
-      (λ j. column_to cols values factor vertex rank j n)
-      ∙ entry_tabulate (eqb (get_or cols n 0) vertex) (at values n) factor (get_or cols n 0 * rank) rank
-      (λ j. column_to cols values factor vertex rank j n))
-
   pub gradient_columns : gradient_of cols values factor vertex rank ≡ tabulate (column_of cols values factor vertex rank) rank
   unfolding gradient_of
-  gradient_columns = gradient_to_columns (length cols)
+  gradient_columns = sums_columns ◌-ᶠ◌ (λ k. eqb k vertex) cols values factor rank
 
   -- all columns as one block
   pub whole_block : block_to cols values factor vertex rank 0 rank (length cols) ≡ gradient_of cols values factor vertex rank

@@ -13,6 +13,7 @@ use native.Mathlib.Omega.{arith}
 use lib.Dec.{T, lit≤}
 use lib.Ieee.{Float, nan, of_bits, eq}
 use lib.ListN.{length, get_or}
+use Rattle.laws.specs.Turns.{up_to}
 use Rattle.limits.specs.Limits.{most_rank}
 use Rattle.laws.specs.Rows.{row_of, set_row, part}
 use Rattle.laws.proofs.Parts.{length_part, get_d_part, length_row_of, row_within}
@@ -165,11 +166,11 @@ module _ (cols : List ℕ) (values : List Float) (starts : List ℕ) (m rank : �
       after n = sweep_to cols values starts rank zero64 factor n
 
       after_next : (n : ℕ) → after (suc n) ≡ swept_row cols values starts rank zero64 (after n) n
-      unfolding sweep_to
+      unfolding sweep_to up_to
       after_next n = refl
 
       pub sweep_bounded : (n : ℕ) → n ≤ m → Bounded (after n)
-      unfolding sweep_to
+      unfolding sweep_to up_to
       sweep_bounded zero h = b
       sweep_bounded (suc n) h =
           let c = sweep_bounded n (omega arith) in
@@ -199,7 +200,7 @@ module _ (cols : List ℕ) (values : List Float) (starts : List ℕ) (m rank : �
 
       -- before its turn a row is as it was
       row_before : (i n : ℕ) → n ≤ i → i < m → row_of rank (after n) i ≡ row_of rank factor i
-      unfolding sweep_to
+      unfolding sweep_to up_to
       row_before i zero h l = refl
       row_before i (suc n) h l =
           let c = sweep_bounded n (omega arith) in

@@ -10,18 +10,20 @@ use lib.Ieee.{Float}
 use lib.ListN.{length}
 use Rattle.laws.proofs.Refusal.{clear, first_head, first_rest}
 use Rattle.laws.proofs.Any.{any_head, any_rest, any_not, any_none, or_left, or_right, and_left}
-use Rattle.limits.specs.Limits.{most_wagons, most_entries, most_magnitude, most_rank, most_width, most_draws}
+use Rattle.limits.specs.Limits.{most_wagons, most_entries, most_magnitude, most_rank, most_width}
 use Rattle.tables.specs.Table.{Lent}
 use Rattle.tables.specs.Check.{Hall}
 use Rattle.tables.proofs.Checks.{hall_accepted}
 use Rattle.run_record.specs.declared.Run.{Run}
-use Rattle.run_record.specs.CostTable.{CostTable, quadratic, linear}
+use Rattle.tables.specs.CostTable.{CostTable, quadratic, linear}
 use Rattle.run_limits.specs.Momentum.{is_momentum}
 use Rattle.run_limits.specs.Start.{is_signs, draws_follow, start_count, start_length}
-use Rattle.run_record.specs.Numbers.{table_short, factor_refused, factor_short, record_refused, cost_table_number, sweep_short, sweep_number, member_number, draws_refused, draws_short, choice_short, FinishLengths, finish_short, width_refused, finish_number, open_rank_refused, start_short, open_factor_short, open_short, open_number, rule_refused, exchange_number, bad_momentum}
+use Rattle.run_limits.specs.Draws.{bad_draws}
+use Rattle.run_record.specs.Numbers.{table_short, factor_refused, factor_short, record_refused, cost_table_number, sweep_short, sweep_number, member_number, draws_short, choice_short, FinishLengths, finish_short, width_refused, finish_number, open_rank_refused, start_short, open_factor_short, open_short, open_number, rule_refused, exchange_number, bad_momentum}
 use Rattle.run_record.proofs.Short.{tested}
 use Rattle.run_record.proofs.Holds.{table_lent, costs_lent}
 use Rattle.run_limits.proofs.Ranks.{meant_low, meant_some}
+use Rattle.run_limits.proofs.Counts.{draws_some, draws_few}
 use Rattle.run_record.proofs.Ranked.{taken_low}
 use Rattle.run_sweep.specs.Running.{Running}
 use Rattle.finalize.specs.Clauses.{Fits}
@@ -167,14 +169,6 @@ pub record Finishable (run : Run) (t : CostTable) (width draw_count : ℕ) (lent
   pub factor_room : used run ≤ lent.factor
   pub fits : Fits t.n run.rank width draw_count lent.draws lent.factor lent.b lent.dual lent.workspace
 
-draw_some : (k : ℕ) → draws_refused k ≡ false → 1 ≤ k
-unfolding draws_refused
-draw_some k e = some k (or_left (eqb k 0) (ltb most_draws k) e)
-
-draw_few : (k : ℕ) → draws_refused k ≡ false → k ≤ most_draws
-unfolding draws_refused
-draw_few k e = ltb-false most_draws k (or_right (eqb k 0) (ltb most_draws k) e)
-
 module _ (run : Run) (t : CostTable) (width draw_count : ℕ) (lent : FinishLengths) where
   pub finish_accepted : finish_number run t width draw_count lent ≡ 0 → Finishable run t width draw_count lent
   unfolding finish_number finish_short draws_short choice_short width_refused
@@ -184,7 +178,7 @@ module _ (run : Run) (t : CostTable) (width draw_count : ℕ) (lent : FinishLeng
       let a = agrees run t.n (clear (record_refused run t.n) 32 (first_head _ _ past)) in
       let hall : HallOf t = hall_accepted (first_head _ _ (first_rest _ _ past)) in
       let settings = clear (width_refused width draw_count) 18 (first_head _ _ (first_rest _ _ (first_rest _ _ (first_rest _ _ past)))) in
-      let draws : draws_refused draw_count ≡ false = or_right (ltb most_width width) (draws_refused draw_count) settings in
+      let draws : bad_draws draw_count ≡ false = or_right (ltb most_width width) (bad_draws draw_count) settings in
       let few = few_wagons t hall in
       let table : table_short t ≡ false = any_head _ _ s in
       let s₁ = any_rest _ _ s in
@@ -200,9 +194,9 @@ module _ (run : Run) (t : CostTable) (width draw_count : ℕ) (lent : FinishLeng
         fits = record {
           rank_some = some run.rank a.some_test;
           rank_few = ltb-false _ _ a.few_test;
-          width_few = ltb-false _ _ (or_left (ltb most_width width) (draws_refused draw_count) settings);
-          draws_some = draw_some draw_count draws;
-          draws_few = draw_few draw_count draws;
+          width_few = ltb-false _ _ (or_left (ltb most_width width) (bad_draws draw_count) settings);
+          draws_some = draws_some draw_count draws;
+          draws_few = draws_few draw_count draws;
           draws_room = tested _ _ _ (any_not _ _ draws (any_not _ _ a.some_test (any_not _ _ a.few_test any_none))) (any_head _ _ s₁);
           factor_room = rw (sym (add-one t.n), sym (size_of a)) room;
           b_room = tested _ _ _ few (any_head _ _ (any_head _ _ s₃));

@@ -7,7 +7,7 @@ use lib.Ieee.{Float}
 use lib.ListN.{length}
 use Rattle.std.specs.Prelude.{Result}
 use Rattle.run_record.specs.declared.Run.{Run}
-use Rattle.run_record.specs.CostTable.{CostTable}
+use Rattle.tables.specs.CostTable.{CostTable}
 use Rattle.run_record.specs.Conditions.{Clause, Answered, open_clauses, sweep_clauses, finish_clauses, exchange_clauses}
 use Rattle.run_record.proofs.Answered as Numbers
 use Rattle.run_contract.specs.declared.FinishResult.{FinishResult}

@@ -15,7 +15,6 @@ use mathlib.Core.Option.{Option, some, none}
 use native.Mathlib.Nat.{mul-suc}
 use native.Mathlib.Numerals.{add-one}
 use native.Mathlib.Omega.{arith}
-use lib.Dec.{eqb}
 use lib.Ieee.{Float, le}
 use lib.ListN.{length, get_or, take, length-append}
 use Rattle.std.specs.Prelude.{Ok}
@@ -25,19 +24,19 @@ use Rattle.ieee.specs.Floats.{tiny, zero64}
 use Rattle.coordinate_sweep.specs.Sweep.{standing_to}
 use Rattle.step_rules.specs.declared.StepRule.{StepRule}
 use Rattle.step_rules.specs.declared.StepRule.TheVariants.{Grad, GradAdv, Coord, CoordNoStep, CoordMomentum}
-use Rattle.step_rules.specs.Rule.{rule_of, standing_in}
+use Rattle.step_rules.specs.Rule.{standing_in}
 use Rattle.step_rules.proofs.Standing.{standing_in_few}
 use Rattle.run_record.specs.declared.Run.{Run}
-use Rattle.run_record.specs.declared.Stage.TheVariants.{Open, Stopped}
-use Rattle.run_sweep.specs.Work.{Work, call_work}
+use Rattle.run_sweep.specs.Work.{Work}
 use Rattle.run_sweep.specs.Sweep.{State, advanced, run_after}
 use Rattle.run_contract.specs.Calls.{Settings, Opens, used, finish_result}
 use Rattle.run_contract.specs.Schedule.{coordinate_momentum}
-use Rattle.run_contract.specs.PlainRun.{Plain, Call, sweep, finish, exchange, plain_open, with_rule, rows_left, plain_sweeps, if_open, acted, record_of, plain_number, plain_after, FinishCall, finish_of, Seen, plain_seen, plain_trace}
+use Rattle.run_contract.specs.PlainRun.{Plain, Call, plain_open, with_rule, rows_left, record_of, plain_after, FinishCall, finish_of, Seen, plain_seen, plain_trace}
 use Rattle.run_contract.specs.Chain.{Chain}
-use Rattle.run_contract.specs.Log.{Made, made_from, if_open_made, made, accepted, made_by, log, plain_end, Pair, pair, norm_in, is_left, stood_by, stood_in, pairs, Among, Once, Numbered, Coordinate, rule_3, rule_4, Stood}
+use Rattle.run_contract.specs.Log.{Made, made_from, log, plain_end, Pair, pair, norm_in, is_left, stood_by, stood_in, pairs, Among, Once, Numbered, Coordinate, rule_3, rule_4, Stood}
 use Rattle.run_contract.proofs.Follows.{state_of, turned, turns}
 use Rattle.run_contract.proofs.OnLists.{plain_run}
+use Rattle.run_contract.proofs.EachSweep.{of_list}
 
 -- ---- one sweep: its pairs are as many as the rows that it leaves
 
@@ -149,35 +148,14 @@ grown_one w p =
           (turned_sweeps w p) (left_few w p);
     }
 
--- the sweeps of a call, of a call with its number, of a list
-grown_sweeps : (k : ℕ) (w : Work) (p : Plain) → Grown p (plain_sweeps k w p) (made k w p)
-unfolding plain_sweeps made
-grown_sweeps zero w p = grown_none p
-grown_sweeps (suc k) w p =
-    let more = grown_join p (turned w p) (plain_sweeps k w (turned w p)) (made_from w p ∷ []) (made k w (turned w p)) (grown_one w p) (grown_sweeps k w (turned w p)) in
-    elim p.stage as (λ stage. Grown p (if_open stage (plain_sweeps k w (turned w p)) p) (if_open_made stage (made_from w p ∷ made k w (turned w p)))) [ Open ↦ more | Stopped ↦ grown_none p ]
-
 grown_rule : (p : Plain) (rule : StepRule) → Grown p (with_rule p rule) []
 unfolding with_rule
 grown_rule p rule =
     let g = grown_none p in
     record { total_is = g.total_is; sweeps_are = g.sweeps_are; size_is = refl; numbers_are = tt; few_stay = λ l. l }
 
-grown_accepted : (p : Plain) (call : Call) → Grown p (acted p call) (accepted p call)
-grown_accepted p (sweep s) = grown_sweeps s.k (call_work s.table) p
-grown_accepted p (finish f) = grown_none p
-grown_accepted p (exchange e) = grown_rule p (rule_of e.rule e.number)
-
-grown_call : (p : Plain) (call : Call) → Grown p (plain_after p call) (made_by p call)
-unfolding plain_after made_by
-grown_call p call =
-    elim (eqb (plain_number p call) 0) as (λ ok. Grown p (cond ok (acted p call) p) (cond ok (accepted p call) [])) [ true ↦ grown_accepted p call | false ↦ grown_none p ]
-
 grown_list : (p : Plain) (calls : List Call) → Grown p (plain_end p calls) (log p calls)
-unfolding plain_end log
-grown_list p [] = grown_none p
-grown_list p (call ∷ calls) =
-    grown_join p (plain_after p call) (plain_end (plain_after p call) calls) (made_by p call) (log (plain_after p call) calls) (grown_call p call) (grown_list (plain_after p call) calls)
+grown_list = of_list Grown grown_none grown_join grown_one grown_rule
 
 -- ---- from an open
 

@@ -38,8 +38,9 @@ use Rattle.row_gradient.specs.Gradient as Gradient
 use Rattle.coordinate_sweep.specs.Sweep as Sweep
 use Rattle.step_rules.specs.Steps as Steps
 use Rattle.step_rules.specs.Rule as Rule
+use Rattle.run_limits.specs.Draws as Draws
 use Rattle.run_limits.specs.Rank as Rank
-use Rattle.run_record.specs.CostTable.{CostTable, cost_table}
+use Rattle.tables.specs.CostTable.{CostTable, cost_table}
 use Rattle.run_record.specs.Numbers as Numbers
 use Rattle.run_record.specs.Numbers.{is_stopped}
 use Rattle.run_sweep.specs.Work as Work
@@ -101,7 +102,7 @@ pub run_computed :
 unfolding plain_open PlainRun.swept_factor PlainRun.rows_left PlainRun.swept PlainRun.checked PlainRun.at_most PlainRun.plain_sweeps PlainRun.record_of PlainRun.plain_number PlainRun.plain_after
     PlainRun.finish_of PlainRun.plain_seen Calls.start_factor Calls.finish_result Rank.rank_meant
     Refusal.or_else Refusal.first Refusal.any_of Refusal.short Numbers.table_short Numbers.factor_refused Numbers.factor_short Numbers.record_refused Numbers.sweep_short
-    Numbers.sweep_number Numbers.draws_refused Numbers.draws_short Numbers.choice_short Numbers.finish_short Numbers.width_refused Numbers.finish_number
+    Numbers.sweep_number Draws.bad_draws Numbers.draws_short Numbers.choice_short Numbers.finish_short Numbers.width_refused Numbers.finish_number
     Check.bad_size Check.before Check.bad_entry Check.bad_order Check.unmirrored Check.hall_number Check.short_table Sum.total
     Work.work_of Work.call_work Schedule.is_due Schedule.verdict PlainRun.objective_at PlainRun.look_at Rule.stepped Rule.standing_in Steps.grad_step
     Checking.residual_row Checking.residual_of Checking.frobenius Checking.threshold_of Objective.obj_of Oracle.work_objective Initialize.start_rows
@@ -138,7 +139,7 @@ unfolding plain_open PlainRun.swept_factor PlainRun.rows_left PlainRun.swept Pla
     Refusal.or_else Refusal.first Refusal.any_of Refusal.short Numbers.table_short Numbers.factor_refused Numbers.factor_short Numbers.record_refused Numbers.sweep_short Numbers.sweep_number
     Check.bad_size Check.before Check.bad_entry Check.bad_order Check.unmirrored Check.hall_number Check.short_table Sum.total
     Work.work_of Work.call_work Schedule.is_due Schedule.verdict PlainRun.objective_at PlainRun.look_at Rule.stepped Rule.standing_in
-    Sweep.exact_row Sweep.update_row Sweep.gradient_at Sweep.row_to Sweep.row_by Sweep.swept_row Sweep.sweep_to Sweep.standing_to Gradient.gradient_to Gradient.gradient_of
+    Sweep.exact_row Sweep.update_row Sweep.gradient_at Sweep.row_to Sweep.row_by Sweep.swept_row Sweep.sweep_to Sweep.standing_to Gradient.gradient_of
     Norms.lane_to Norms.add_squares_to Norms.squared_norm
     Checking.residual_row Checking.residual_of Checking.frobenius Checking.threshold_of Objective.obj_of Oracle.work_objective Initialize.start_rows
     Vectors.sub_scaled Vectors.multiplied Vectors.projected Multiply.grad_of

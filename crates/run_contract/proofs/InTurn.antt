@@ -17,7 +17,7 @@ use lib.Ieee.{Float}
 use lib.ListN.{length, get_or, take}
 use Rattle.std.specs.Prelude.{Ok}
 use Rattle.step_rules.specs.declared.StepRule.{StepRule}
-use Rattle.step_rules.specs.Rule.{rule_of, stepped}
+use Rattle.step_rules.specs.Rule.{stepped}
 use Rattle.run_record.specs.declared.Run.{Run}
 use Rattle.run_record.specs.declared.Stage.{Stage}
 use Rattle.run_record.specs.declared.Stage.TheVariants.{Open, Stopped}
@@ -30,6 +30,7 @@ use Rattle.run_contract.specs.Log.{Made, made_from, if_open_made, made, accepted
 use Rattle.run_contract.proofs.Follows.{state_of, turned, turns}
 use Rattle.run_contract.proofs.OnLists.{plain_run}
 use Rattle.run_contract.proofs.Counting.{turned_size, among_split}
+use Rattle.run_contract.proofs.EachSweep.{of_list}
 
 -- ---- what one sweep with its check does to factor, size, rank and rule
 
@@ -75,32 +76,12 @@ turned_one : (w : Work) (p : Plain) → Turned p (turned w p) (made_from w p ∷
 unfolding applied swept_factor
 turned_one w p = record { size_is = turned_size w p; rank_is = turned_rank w p; factor_is = turned_factor w p }
 
-turned_sweeps : (k : ℕ) (w : Work) (p : Plain) → Turned p (plain_sweeps k w p) (made k w p)
-unfolding plain_sweeps made
-turned_sweeps zero w p = turned_none p
-turned_sweeps (suc k) w p =
-    let more = turned_join p (turned w p) (plain_sweeps k w (turned w p)) (made_from w p ∷ []) (made k w (turned w p)) (turned_one w p) (turned_sweeps k w (turned w p)) in
-    elim p.stage as (λ stage. Turned p (if_open stage (plain_sweeps k w (turned w p)) p) (if_open_made stage (made_from w p ∷ made k w (turned w p)))) [ Open ↦ more | Stopped ↦ turned_none p ]
-
 turned_ruled : (p : Plain) (rule : StepRule) → Turned p (with_rule p rule) []
 unfolding applied with_rule
 turned_ruled p rule = record { size_is = refl; rank_is = refl; factor_is = refl }
 
-turned_accepted : (p : Plain) (call : Call) → Turned p (acted p call) (accepted p call)
-turned_accepted p (sweep s) = turned_sweeps s.k (call_work s.table) p
-turned_accepted p (finish f) = turned_none p
-turned_accepted p (exchange e) = turned_ruled p (rule_of e.rule e.number)
-
-turned_call : (p : Plain) (call : Call) → Turned p (plain_after p call) (made_by p call)
-unfolding plain_after made_by
-turned_call p call =
-    elim (eqb (plain_number p call) 0) as (λ ok. Turned p (cond ok (acted p call) p) (cond ok (accepted p call) [])) [ true ↦ turned_accepted p call | false ↦ turned_none p ]
-
 turned_list : (p : Plain) (calls : List Call) → Turned p (plain_end p calls) (log p calls)
-unfolding plain_end log
-turned_list p [] = turned_none p
-turned_list p (call ∷ calls) =
-    turned_join p (plain_after p call) (plain_end (plain_after p call) calls) (made_by p call) (log (plain_after p call) calls) (turned_call p call) (turned_list (plain_after p call) calls)
+turned_list = of_list Turned turned_none turned_join turned_one turned_ruled
 
 pub in_turn : (p : Plain) (calls : List Call) → (plain_end p calls).factor ≡ applied p.size p.rank (log p calls) p.factor
 in_turn p calls = (turned_list p calls).factor_is

@@ -77,17 +77,15 @@ length_row_by beta g rank factor i =
 module _ (cols : List ℕ) (values : List Float) (starts : List ℕ) (rank : ℕ) (by : Float) (factor : List Float) where
   length_coord_to : (i : ℕ) → length (coord_to cols values starts rank by factor i) ≡ length factor
   unfolding coord_to coord_row
-  length_coord_to zero = refl
-  length_coord_to (suc i) =
-      let before = coord_to cols values starts rank by factor i in
-      length_coord_by by (neighbours_at cols values starts rank before i) rank before i ∙ length_coord_to i
+  length_coord_to i =
+      up_to_keeps (λ (f : List Float). length f ≡ length factor) (λ k f. coord_row cols values starts rank by f k) i factor
+      (λ k f h. length_coord_by by (neighbours_at cols values starts rank f k) rank f k ∙ h) refl
 
   length_sweep_to : (i : ℕ) → length (sweep_to cols values starts rank by factor i) ≡ length factor
   unfolding sweep_to swept_row
-  length_sweep_to zero = refl
-  length_sweep_to (suc i) =
-      let before = sweep_to cols values starts rank by factor i in
-      length_row_by by (gradient_at cols values starts rank before i) rank before i ∙ length_sweep_to i
+  length_sweep_to i =
+      up_to_keeps (λ (f : List Float). length f ≡ length factor) (λ k f. swept_row cols values starts rank by f k) i factor
+      (λ k f h. length_row_by by (gradient_at cols values starts rank f k) rank f k ∙ h) refl
 
 pub length_stepped : (rule : StepRule) (rows cols : List ℕ) (values : List Float) (starts : List ℕ) (m rank : ℕ) (factor : List Float)
     → length (stepped rule rows cols values starts m rank factor) ≡ length factor

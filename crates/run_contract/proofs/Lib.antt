@@ -9,6 +9,7 @@ pub mod Scheduled
 pub mod Follows
 pub mod Opening
 pub mod OnLists
+mod EachSweep
 pub mod Counting
 pub mod InTurn
 pub mod Chains

@@ -16,7 +16,7 @@ use Rattle.std.specs.Prelude.{Result, Ok, Err}
 use Rattle.laws.specs.Lists.{over}
 use Rattle.run_record.specs.declared.Run.{Run}
 use Rattle.run_record.specs.declared.Stage.TheVariants.{Open, Stopped}
-use Rattle.run_record.specs.CostTable.{quadratic, linear}
+use Rattle.tables.specs.CostTable.{quadratic, linear}
 use Rattle.run_record.specs.Numbers.{sweep_number, finish_number}
 use Rattle.step_rules.specs.Rule.{rule_of}
 use Rattle.run_sweep.specs.Work.{Work, call_work}

@@ -7,7 +7,7 @@ use lib.Ieee.{Float}
 use lib.ListN.{length}
 use Rattle.std.specs.Prelude.{Result, Ok, Err}
 use Rattle.run_record.specs.declared.Run.{Run}
-use Rattle.run_record.specs.CostTable.{CostTable}
+use Rattle.tables.specs.CostTable.{CostTable}
 use Rattle.run_record.specs.Numbers.{sweep_number, finish_number, exchange_number}
 use Rattle.run_contract.specs.declared.FinishResult.{FinishResult}
 use Rattle.run_contract.specs.Calls.{Settings, open_number_of, Opens, Sweeps, answer_number, finish_lengths, Finishes, Exchanges}

@@ -13,7 +13,7 @@ use Rattle.limits.specs.Limits.{search_workspace}
 use Rattle.run_record.specs.declared.Run.{Run}
 use Rattle.run_record.specs.declared.Stage.{Stage}
 use Rattle.run_record.specs.declared.Stage.TheVariants.{Open, Stopped}
-use Rattle.run_record.specs.CostTable.{CostTable, quadratic, linear}
+use Rattle.tables.specs.CostTable.{CostTable, quadratic, linear}
 use Rattle.run_sweep.specs.Work.{Work, call_work}
 use Rattle.run_sweep.specs.Sweep.{State, run_after, while_open, swept_once, standing_once, sweeps_up_to}
 use Rattle.run_contract.specs.declared.FinishResult.{FinishResult}

@@ -10,7 +10,7 @@ use Rattle.run_record.specs.declared.Stage.{Stage}
 use Rattle.run_record.specs.declared.Stage.TheVariants.{Open, Stopped}
 use Rattle.run_record.specs.declared.Run.{Run}
 use Rattle.run_record.specs.declared.OpenSettings.{OpenSettings}
-use Rattle.run_record.specs.CostTable.{CostTable, quadratic, linear}
+use Rattle.tables.specs.CostTable.{CostTable, quadratic, linear}
 use Rattle.limits.specs.Limits.{search_workspace}
 use Rattle.run_limits.specs.Rank.{rank_meant}
 use Rattle.run_limits.specs.Start.{is_signs, draws_follow}

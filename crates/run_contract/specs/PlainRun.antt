@@ -16,7 +16,7 @@ use Rattle.step_rules.specs.Rule.{rule_of, stepped, standing_in}
 use Rattle.run_record.specs.declared.Stage.{Stage}
 use Rattle.run_record.specs.declared.Stage.TheVariants.{Open, Stopped}
 use Rattle.run_record.specs.declared.Run.{Run}
-use Rattle.run_record.specs.CostTable.{CostTable}
+use Rattle.tables.specs.CostTable.{CostTable}
 use Rattle.run_record.specs.Numbers.{sweep_number, FinishLengths, finish_number, exchange_number}
 use Rattle.run_sweep.specs.Work.{Work, sign_table_of, call_work}
 use Rattle.run_contract.specs.declared.FinishResult.{FinishResult}

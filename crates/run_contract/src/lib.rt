@@ -2,7 +2,8 @@
 // lists of calls in proofs/OnLists.antt. No code.
 #![tactic(auto)]
 
-// What a finish gives; the choice and the multipliers are in the slices lent for them. Floor and costs are in eighths; standing is the record's.
+// What a finish gives; the choice and the multipliers are in the slices lent for them. Floor and costs are in eighths; standing is the record's, and so is
+// status: its number, as the run record has it.
 #[derive(Drop)]
 pub struct FinishResult {
     pub status: u8,

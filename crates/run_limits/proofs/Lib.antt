@@ -1,3 +1,4 @@
 pub mod Ranks
 pub mod Starts
+pub mod Counts
 mod MomentumBits

@@ -1,3 +1,4 @@
 pub mod Rank
 pub mod Momentum
 pub mod Start
+pub mod Draws

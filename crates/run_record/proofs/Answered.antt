@@ -21,11 +21,12 @@ use Rattle.tables.proofs.Checks.{eq_z_true, eq_z_refl}
 use Rattle.run_limits.specs.Rank.{rank_meant}
 use Rattle.run_limits.specs.Momentum.{is_momentum}
 use Rattle.run_limits.specs.Start.{start_length}
+use Rattle.run_limits.specs.Draws.{bad_draws}
 use Rattle.run_record.specs.declared.Stage.{Stage}
 use Rattle.run_record.specs.declared.Stage.TheVariants.{Open, Stopped}
 use Rattle.run_record.specs.declared.Run.{Run}
-use Rattle.run_record.specs.CostTable.{CostTable, quadratic, linear}
-use Rattle.run_record.specs.Numbers.{is_stopped, table_short, factor_refused, factor_short, own_faults, own_refused, record_refused, cost_table_number, bad_momentum, sweep_short, sweep_number, member_number, draws_refused, draws_short, choice_short, FinishLengths, finish_short, width_refused, finish_number, open_rank_refused, start_short, open_factor_short, open_short, rule_refused, open_number, exchange_number}
+use Rattle.tables.specs.CostTable.{CostTable, quadratic, linear}
+use Rattle.run_record.specs.Numbers.{is_stopped, table_short, factor_refused, factor_short, own_faults, own_refused, record_refused, cost_table_number, bad_momentum, sweep_short, sweep_number, member_number, draws_short, choice_short, FinishLengths, finish_short, width_refused, finish_number, open_rank_refused, start_short, open_factor_short, open_short, rule_refused, open_number, exchange_number}
 use Rattle.run_record.specs.Conditions.{Clause, Answered, BadSize, wagons_above, entries_above, BadEntry, row_out, column_out, out_of_order, Unmirrored, TooLarge, table_clauses, BadRank, rank_high, rank_missing, Finite, Momentum, BadRule, rule_above, no_momentum, BadMomentum, BadDraws, width_above, draws_none, draws_above, OwnFault, rank_none, rank_above, sweeps_above, most_while_open, status_above, status_while_open, total_above, BadRecord, sizes_disagree, own_fault, TableTooShort, rows_short, cols_short, values_short, costs_short, FactorTooShort, DrawsTooShort, SweepTooShort, sweep_table, sweep_factor, FinishTooShort, finish_table, finish_draws, finish_factor, finish_b, finish_dual, finish_workspace, OpenTooShort, open_table, open_start, open_factor, open_clauses, sweep_clauses, member_clauses, finish_clauses, BadExchange, old_momentum, new_rule, exchange_clauses}
 use Rattle.run_record.proofs.Deciding.{Decides, reads, stable, less, at_most, equal, neither, both, either, or_else_lem, and_then, none_left, DecidesAny, reads_any, one_or, some_below, too_short_lem, Follows, ends, then_if, flat, answered, of_number}
 
@@ -170,8 +171,8 @@ record_momentum_decided (CoordMomentum beta) =
     (λ b m. b.no_momentum_there (subst Momentum (ap (number_in beta) b.rule_four) m))
     (neither (momentum_decided beta))
 
-draws_decided : (draw_count : ℕ) → Decides (draws_refused draw_count) ((draw_count ≡ 0) ⊎ (most_draws < draw_count))
-unfolding draws_refused
+draws_decided : (draw_count : ℕ) → Decides (bad_draws draw_count) ((draw_count ≡ 0) ⊎ (most_draws < draw_count))
+unfolding bad_draws
 draws_decided draw_count = either (equal draw_count 0) (less most_draws draw_count)
 
 pub width_decided : (width draw_count : ℕ) → Decides (width_refused width draw_count) (BadDraws width draw_count)

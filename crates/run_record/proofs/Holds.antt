@@ -9,7 +9,7 @@ use Rattle.run_record.proofs.Short.{tested}
 use Rattle.limits.specs.Limits.{most_wagons, most_entries}
 use Rattle.tables.specs.Table.{Lent}
 use Rattle.tables.specs.Check.{short_table}
-use Rattle.run_record.specs.CostTable.{CostTable}
+use Rattle.tables.specs.CostTable.{CostTable}
 use Rattle.run_record.specs.Numbers.{table_short}
 
 pub table_lent : (t : CostTable) → table_short t ≡ false → t.count ≤ most_entries → Lent t.count t.rows t.cols t.values

@@ -14,7 +14,7 @@ use Rattle.run_limits.specs.Rank.{rank_meant}
 use Rattle.run_limits.specs.Start.{start_length}
 use Rattle.run_record.specs.declared.Stage.TheVariants.{Open, Stopped}
 use Rattle.run_record.specs.declared.Run.{Run}
-use Rattle.run_record.specs.CostTable.{CostTable, quadratic, linear}
+use Rattle.tables.specs.CostTable.{CostTable, quadratic, linear}
 use Rattle.run_record.specs.Numbers.{FinishLengths}
 
 -- ---- numbers with their conditions, in the order in which they are judged

@@ -6,24 +6,18 @@ use Rattle.run_record.specs.declared.Stage.{Stage}
 use Rattle.run_record.specs.declared.Stage.TheVariants.{Open, Stopped}
 use Rattle.run_record.specs.declared.Run.{Run}
 use Rattle.laws.specs.Refusal.{first, ◌if◌, any_of, short}
-use Rattle.limits.specs.Limits.{most_wagons, most_entries, most_magnitude, most_rank, most_width, most_draws, search_workspace}
-use Rattle.tables.specs.Check.{hall_number, short_table}
+use Rattle.limits.specs.Limits.{most_wagons, most_entries, most_magnitude, most_rank, most_width, search_workspace}
+use Rattle.tables.specs.Check.{hall_number}
+unfoldable pub use Rattle.tables.specs.Check.{short_hall as table_short}
 use Rattle.run_limits.specs.Rank.{rank_meant}
 use Rattle.run_limits.specs.Momentum.{is_momentum}
 use Rattle.run_limits.specs.Start.{start_length}
-use Rattle.run_record.specs.CostTable.{CostTable, quadratic, linear}
+use Rattle.run_limits.specs.Draws.{bad_draws}
+use Rattle.tables.specs.CostTable.{CostTable, quadratic, linear}
 
 abbrev pub is_stopped : Stage → Bool
 is_stopped Open = false
 is_stopped Stopped = true
-
--- 31: the table's slices; entries rest on the count, c on n
-unfoldable pub table_short : CostTable → Bool
-table_short t =
-    any_of
-    (short_table most_entries t.count (length t.rows) (length t.cols) (length t.values)
-    ∷ short (ltb most_wagons t.n) t.n (length t.c)
-    ∷ [])
 
 -- the factor's length rests on n, and on the record's size and rank
 unfoldable pub factor_refused : ℕ → ℕ → ℕ → Bool
@@ -82,11 +76,8 @@ unfoldable pub member_number : Run → CostTable → ℕ → ℕ
 member_number run t factor = first (31 if sweep_short run t factor ∷ 33 if record_refused run t.n ∷ cost_table_number t ∷ 18 if bad_momentum run.rule ∷ [])
 
 -- the finish call: draws rest on their count and on the record's rank, b and the multipliers on n
-unfoldable pub draws_refused : ℕ → Bool
-draws_refused draws = eqb draws 0 || ltb most_draws draws
-
 unfoldable pub draws_short : ℕ → ℕ → ℕ → Bool
-draws_short rank draw_count draws = short (any_of (draws_refused draw_count ∷ eqb rank 0 ∷ ltb most_rank rank ∷ [])) (draw_count * rank) draws
+draws_short rank draw_count draws = short (any_of (bad_draws draw_count ∷ eqb rank 0 ∷ ltb most_rank rank ∷ [])) (draw_count * rank) draws
 
 unfoldable pub choice_short : ℕ → ℕ → ℕ → Bool
 choice_short n b dual = any_of (short (ltb most_wagons n) n b ∷ short (ltb most_wagons n) (n + 1) dual ∷ [])
@@ -111,7 +102,7 @@ finish_short run t draw_count lent =
 
 -- 19: the width or the draws
 unfoldable pub width_refused : ℕ → ℕ → Bool
-width_refused width draw_count = ltb most_width width || draws_refused draw_count
+width_refused width draw_count = ltb most_width width || bad_draws draw_count
 
 unfoldable pub finish_number : Run → CostTable → ℕ → ℕ → FinishLengths → ℕ
 finish_number run t width draw_count lent =

@@ -5,7 +5,7 @@
 pub mod lengths;
 pub mod numbers;
 
-ghost use Rattle.std.specs.Prelude.{◌≡◌, not, ◌&&◌};
+ghost use Rattle.std.specs.Prelude.{◌≡◌};
 ghost use Rattle.run_record.specs.Numbers.{is_stopped};
 
 use step_rules::StepRule;
@@ -35,17 +35,6 @@ pub struct Run {
     pub standing: u64,
 }
 
-// (H, c) as a call is lent it: numbers, and slices whose lengths may be any.
-#[derive(Clone, Copy)]
-pub struct LentTable<'a> {
-    pub n: usize,
-    pub count: usize,
-    pub rows: &'a [u16],
-    pub cols: &'a [u16],
-    pub values: &'a [i64],
-    pub c: &'a [i64],
-}
-
 // What an open is asked for: rank 0 is the default rank, `number` is the rule's. Rule and start are 01's numbers, since a caller may hand in any:
 // one that is none of them is refused by 18 and 19.
 #[derive(Clone, Copy)]
@@ -60,19 +49,15 @@ pub struct OpenSettings {
     pub start: u8,
 }
 
-// Whether a run takes no more sweeps.
+// 01's rule that has a momentum, alone of all.
+const MOMENTUM: u8 = 4;
+
+// 01's kind of start whose rank must be given.
+const RANKED: u8 = 1;
+
+// Whether a run takes no more sweeps. Contracts speak of this function: with a derived `PartialEq` each test would be turned into it first.
 pub fn is_stopped(stage: Stage) -> bool
     ensures { result ≡ is_stopped stage }
 {
-    match stage {
-        Stage::Open => false,
-        Stage::Stopped => true,
-    }
-}
-
-// The test, where the run is open.
-fn open_and(stage: Stage, test: bool) -> bool
-    ensures { result ≡ (not (is_stopped stage) && test) }
-{
-    if is_stopped(stage) { false } else { test }
+    matches!(stage, Stage::Stopped)
 }

@@ -2,18 +2,17 @@
 ghost use Rattle.std.specs.Prelude.{◌≡◌, false, ◌*◌, [], ◌∷◌, ltb};
 ghost use Rattle.laws.specs.Refusal.{◌if◌, first};
 ghost use Rattle.refusal.specs.Number.{numbered};
-ghost use Rattle.run_record.specs.CostTable.{cost_table};
 ghost use Rattle.run_record.specs.Lengths.{lengths_of};
-ghost use Rattle.run_record.specs.Numbers.{table_short, own_refused, record_refused, cost_table_number, bad_momentum, sweep_number, member_number, draws_refused, width_refused, finish_number, rule_refused, open_number, exchange_number};
-ghost use Rattle.run_record.specs.Lent.{costs_of};
+ghost use Rattle.run_record.specs.Numbers.{table_short, own_refused, record_refused, cost_table_number, bad_momentum, sweep_number, member_number, width_refused, finish_number, rule_refused, open_number, exchange_number};
+ghost use Rattle.tables.specs.Lent.{costs_of};
 
 use super::lengths::{FinishSlices, finish_short, open_rank_refused, open_short, sweep_short};
-use super::{OpenSettings, Run, is_stopped, open_and};
-use crate::LentTable;
-use limits::{MOST_DRAWS, MOST_RANK, MOST_WIDTH};
+use super::{MOMENTUM, OpenSettings, Run, is_stopped};
+use limits::{LAST_RULE, LAST_START, MOST_RANK, MOST_WIDTH};
 use refusal::Refusal;
-use run_limits::is_momentum;
+use run_limits::{bad_draws, is_momentum};
 use step_rules::StepRule;
+use tables::lent::LentHall;
 
 // Whether the rows left standing are more than the size times the sweeps done; that product isn't made, since a word may not hold it.
 fn standing_above(standing: u64, size: usize, sweeps: u32) -> bool
@@ -25,7 +24,7 @@ fn standing_above(standing: u64, size: usize, sweeps: u32) -> bool
     if sweeps == 0 {
         return true;
     }
-    size as u64 <= (standing - 1) / sweeps as u64
+    size as u64 <= (standing - 1) / u64::from(sweeps)
 }
 
 // Whether no run of any size can have this record.
@@ -42,13 +41,13 @@ fn own_refused(run: Run) -> bool
     if run.most < run.sweeps {
         return true;
     }
-    if open_and(run.stage, run.sweeps == run.most) {
+    if !is_stopped(run.stage) && run.sweeps == run.most {
         return true;
     }
     if 2 < run.status {
         return true;
     }
-    if open_and(run.stage, run.status != 0) {
+    if !is_stopped(run.stage) && run.status != 0 {
         return true;
     }
     standing_above(run.standing, run.size, run.sweeps)
@@ -70,21 +69,11 @@ fn record_refused(run: Run, n: usize) -> bool
 }
 
 // 13 to 16, of a table whose slices are long enough.
-fn table_number(table: LentTable) -> Result<(), Refusal>
-    requires { table_short (costs_of table) ≡ false }
-    ensures { numbered result ≡ cost_table_number (costs_of table.entry) }
+fn table_number(hall: LentHall) -> Result<(), Refusal>
+    requires { table_short (costs_of hall) ≡ false }
+    ensures { numbered result ≡ cost_table_number (costs_of hall.entry) }
 {
-    tables::check::hall_number(
-        limits::MOST_WAGONS,
-        limits::MOST_ENTRIES,
-        limits::MOST_MAGNITUDE,
-        table.n,
-        table.count,
-        table.rows,
-        table.cols,
-        table.values,
-        table.c,
-    )
+    tables::check::hall_number(hall)
 }
 
 // Whether 18 refuses a record's rule: only rule 4 has a momentum.
@@ -102,17 +91,17 @@ fn bad_momentum(rule: StepRule) -> bool
 
 // 33, 13 to 16 and 18: what sweep, turn and finish judge alike of a run and its table.
 #[tactic(auto, unfolding(laws::specs::Refusal::first, laws::specs::Refusal::or_else))]
-fn record_number(run: Run, table: LentTable) -> Result<(), Refusal>
-    requires { table_short (costs_of table) ≡ false }
-    ensures { numbered result ≡ first (33 if record_refused run table.entry.n
-        ∷ cost_table_number (costs_of table.entry)
+fn record_number(run: Run, hall: LentHall) -> Result<(), Refusal>
+    requires { table_short (costs_of hall) ≡ false }
+    ensures { numbered result ≡ first (33 if record_refused run hall.entry.table.size
+        ∷ cost_table_number (costs_of hall.entry)
         ∷ 18 if bad_momentum run.rule
         ∷ []) }
 {
-    if record_refused(run, table.n) {
+    if record_refused(run, hall.table.size) {
         return Err(Refusal::Record);
     }
-    table_number(table)?;
+    table_number(hall)?;
     if bad_momentum(run.rule) {
         return Err(Refusal::Rule);
     }
@@ -121,35 +110,27 @@ fn record_number(run: Run, table: LentTable) -> Result<(), Refusal>
 
 // What a sweep refuses.
 #[tactic(auto, unfolding(crate::specs::Numbers::sweep_number, crate::specs::Numbers::sweep_short, laws::specs::Refusal::first, laws::specs::Refusal::or_else))]
-pub fn sweep_number(run: Run, table: LentTable, factor: usize) -> Result<(), Refusal>
-    ensures { numbered result ≡ sweep_number run (costs_of table.entry) factor }
+pub fn sweep_number(run: Run, hall: LentHall, factor: usize) -> Result<(), Refusal>
+    ensures { numbered result ≡ sweep_number run (costs_of hall.entry) factor }
 {
-    if sweep_short(run, table, factor) {
+    if sweep_short(run, hall, factor) {
         return Err(Refusal::Slice);
     }
     if is_stopped(run.stage) {
         return Err(Refusal::Stage);
     }
-    record_number(run, table)
+    record_number(run, hall)
 }
 
 // What a turn refuses of a run among several, stopped or not.
 #[tactic(auto, unfolding(crate::specs::Numbers::member_number, crate::specs::Numbers::sweep_short, laws::specs::Refusal::first, laws::specs::Refusal::or_else))]
-pub fn member_number(run: Run, table: LentTable, factor: usize) -> Result<(), Refusal>
-    ensures { numbered result ≡ member_number run (costs_of table.entry) factor }
+pub fn member_number(run: Run, hall: LentHall, factor: usize) -> Result<(), Refusal>
+    ensures { numbered result ≡ member_number run (costs_of hall.entry) factor }
 {
-    if sweep_short(run, table, factor) {
+    if sweep_short(run, hall, factor) {
         return Err(Refusal::Slice);
     }
-    record_number(run, table)
-}
-
-// Whether 19 refuses the count of draws.
-#[tactic(auto, unfolding(crate::specs::Numbers::draws_refused))]
-fn draws_refused(draw_count: usize) -> bool
-    ensures { result ≡ draws_refused draw_count }
-{
-    draw_count == 0 || MOST_DRAWS < draw_count
+    record_number(run, hall)
 }
 
 // Whether 19 refuses the width or the count of draws.
@@ -157,27 +138,27 @@ fn draws_refused(draw_count: usize) -> bool
 fn width_refused(width: usize, draw_count: usize) -> bool
     ensures { result ≡ width_refused width draw_count }
 {
-    MOST_WIDTH < width || draws_refused(draw_count)
+    MOST_WIDTH < width || bad_draws(draw_count)
 }
 
 // What a finish refuses.
 #[tactic(auto, unfolding(crate::specs::Numbers::finish_number, laws::specs::Refusal::first, laws::specs::Refusal::or_else))]
 pub fn finish_number(
     run: Run,
-    table: LentTable,
+    hall: LentHall,
     width: usize,
     draw_count: usize,
     lent: FinishSlices,
 ) -> Result<(), Refusal>
-    ensures { numbered result ≡ finish_number run (costs_of table.entry) width draw_count (lengths_of lent) }
+    ensures { numbered result ≡ finish_number run (costs_of hall.entry) width draw_count (lengths_of lent) }
 {
-    if finish_short(run, table, draw_count, lent) {
+    if finish_short(run, hall, draw_count, lent) {
         return Err(Refusal::Slice);
     }
     if !is_stopped(run.stage) {
         return Err(Refusal::Stage);
     }
-    record_number(run, table)?;
+    record_number(run, hall)?;
     if width_refused(width, draw_count) {
         return Err(Refusal::Search);
     }
@@ -189,31 +170,31 @@ pub fn finish_number(
 fn rule_refused(rule: u8, number: f64) -> bool
     ensures { result ≡ rule_refused rule number }
 {
-    4 < rule || rule == 4 && !is_momentum(number)
+    LAST_RULE < usize::from(rule) || rule == MOMENTUM && !is_momentum(number)
 }
 
 // What an open refuses.
 #[tactic(auto, unfolding(crate::specs::Numbers::open_number, laws::specs::Refusal::first, laws::specs::Refusal::or_else))]
 pub fn open_number(
-    table: LentTable,
+    hall: LentHall,
     asked: OpenSettings,
     numbers: usize,
     factor: usize,
 ) -> Result<(), Refusal>
-    ensures { numbered result ≡ open_number (costs_of table.entry) asked.rank asked.rule
+    ensures { numbered result ≡ open_number (costs_of hall.entry) asked.rank asked.rule
         asked.number asked.most asked.start numbers factor }
 {
-    if open_short(table, asked.rank, asked.most, asked.start, numbers, factor) {
+    if open_short(hall, asked, numbers, factor) {
         return Err(Refusal::Slice);
     }
-    table_number(table)?;
+    table_number(hall)?;
     if open_rank_refused(asked.rank, asked.start) {
         return Err(Refusal::Rank);
     }
     if rule_refused(asked.rule, asked.number) {
         return Err(Refusal::Rule);
     }
-    if 2 < asked.start {
+    if LAST_START < usize::from(asked.start) {
         return Err(Refusal::Search);
     }
     Ok(())

@@ -14,6 +14,7 @@ use Rattle.run_record.specs.declared.Stage.{Stage}
 use Rattle.run_record.specs.declared.Stage.TheVariants.{Open, Stopped}
 use Rattle.run_record.specs.declared.Run.{Run}
 use Rattle.laws.specs.Refusal.{any_of}
+use Rattle.laws.proofs.Any.{never}
 use Rattle.factor.specs.Shapes.{Shaped}
 use Rattle.step_rules.proofs.Standing.{standing_in_few}
 use Rattle.run_record.specs.Numbers.{is_stopped}
@@ -22,12 +23,12 @@ use Rattle.run_sweep.specs.Sweep.{State, while_open, status_found, stage_after, 
 use Rattle.run_sweep.specs.Running.{Running, Sweepable}
 
 stays : (stage : Stage) (next last : State) → is_stopped stage ≡ true → while_open stage next last ≡ last
-stays Open next last e = absurd (let z : ◌≡◌ {A = ℕ} 0 1 = cc in omega arith)
+stays Open next last e = never e
 stays Stopped next last e = refl
 
 goes : (stage : Stage) (next last : State) → is_stopped stage ≡ false → while_open stage next last ≡ next
 goes Open next last e = refl
-goes Stopped next last e = absurd (let z : ◌≡◌ {A = ℕ} 0 1 = cc in omega arith)
+goes Stopped next last e = never (sym e)
 
 module _ (w : Work) (run : Run) (factor : List Float) where
   pub sweeps_none : sweeps_up_to 0 w run factor ≡ record { run = run; factor = factor }
@@ -49,8 +50,8 @@ module _ (w : Work) (run : Run) (factor : List Float) where
 -- the most stops the run
 at_most : (b : Bool) (stage : Stage) → is_stopped (cond (any_of (not b ∷ true ∷ [])) Stopped stage) ≡ false → ⊥
 unfolding any_of
-at_most true stage e = let z : ◌≡◌ {A = ℕ} 0 1 = cc in omega arith
-at_most false stage e = let z : ◌≡◌ {A = ℕ} 0 1 = cc in omega arith
+at_most true stage e = never (sym e)
+at_most false stage e = never (sym e)
 
 full_stops : (found : ℕ) (full : Bool) (stage : Stage) → is_stopped (stage_after found full stage) ≡ false → full ≡ false
 unfolding stage_after

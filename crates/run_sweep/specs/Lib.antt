@@ -1,3 +1,4 @@
 pub mod Work
 pub mod Sweep
 pub mod Running
+pub mod Found

@@ -1,9 +1,10 @@
 -- The table of a call as its sweeps take it: the sign table of (H, c), its diagonal set aside (000, `separate_diagonal`).
 use Rattle.std.specs.Prelude.{ℕ, ◌+◌, List, Float}
 use Rattle.tables.specs.Table.{Table}
+use Rattle.factor.specs.declared.table.Prepared.{Prepared}
 use Rattle.sign_table.specs.SignTable.{sign_table}
 use Rattle.prepared_table.specs.Work.{prepared_rows, prepared_cols, prepared_values, work_starts}
-use Rattle.run_record.specs.CostTable.{CostTable, quadratic, linear}
+use Rattle.tables.specs.CostTable.{CostTable, quadratic, linear}
 
 -- rows, columns and doubles of its entries, and where each row starts
 pub record Work : Type 0 where
@@ -14,6 +15,10 @@ pub record Work : Type 0 where
 
 abbrev pub work : List ℕ → List ℕ → List Float → List ℕ → Work
 work rows cols values starts = record { rows = rows; cols = cols; values = values; starts = starts }
+
+-- of a prepared table as it is lent
+abbrev pub work_in : Prepared → Work
+work_in t = work t.rows.now t.cols.now t.values.now t.starts.now
 
 -- of a sign table of m signs
 unfoldable pub work_of : Table → ℕ → Work

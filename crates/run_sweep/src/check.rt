@@ -2,11 +2,12 @@
 ghost use Rattle.std.specs.Prelude.{◌≡◌, ◌&&◌, ◌+◌, ◌*◌, ◌<◌, leb, length};
 ghost use Rattle.std.specs.Float.Ieee.{le};
 ghost use Rattle.factor.specs.Shapes.{Shaped};
-ghost use Rattle.step_rules.specs.Rule.{tests_objective};
-ghost use Rattle.run_sweep.specs.Work.{work};
+ghost use Rattle.run_sweep.specs.Work.{work_in};
 ghost use Rattle.run_sweep.specs.Running.{Countable};
+ghost use Rattle.run_sweep.specs.Found.{found_number};
 ghost use Rattle.run_sweep.specs.Sweep.{check_due, absolute, stop_status, stage_after, status_after, advanced, run_after};
 
+use factor::table::Prepared;
 use run_record::{Run, Stage};
 
 // A check is due at sweep 1, the minimum, the most and every 20th.
@@ -33,21 +34,32 @@ fn absolute(x: f64) -> f64
     if x < 0.0 { -x } else { x }
 }
 
-// The status with which a check stops the run, 0 where it goes on: the record's number, since a caller may hand in any (33).
+// Why a check stops the run: a small residual or a small change, or a rise of the objective. Each is its number in the run record.
+#[derive(Clone, Copy)]
+enum Stop {
+    Settled = 1,
+    Risen = 2,
+}
+
+// Why a check stops the run, if it does.
 #[tactic(auto, unfolding(crate::specs::Sweep::stop_status, laws::specs::Refusal::first, laws::specs::Refusal::or_else))]
-fn stop_status(tests: bool, tolerance: f64, settled: bool, previous: f64, new: f64) -> u8
-    ensures { result ≡ stop_status tests tolerance settled previous new }
+fn stop_found(tests: bool, tolerance: f64, settled: bool, previous: f64, new: f64) -> Option<Stop>
+    ensures { found_number result ≡ stop_status tests tolerance settled previous new }
 {
     if settled {
-        return 1;
+        return Some(Stop::Settled);
     }
     if tests {
         if absolute(new - previous) < tolerance {
-            return 1;
+            return Some(Stop::Settled);
         }
-        if previous < new { 2 } else { 0 }
+        if previous < new {
+            Some(Stop::Risen)
+        } else {
+            None
+        }
     } else {
-        0
+        None
     }
 }
 
@@ -60,26 +72,31 @@ fn settled(minimum: u32, sweeps: u32, residual: f64, threshold: f64) -> bool
 
 // The stage after a check.
 #[tactic(auto, unfolding(crate::specs::Sweep::stage_after, laws::specs::Refusal::any_of))]
-fn stage_after(found: u8, full: bool, stage: Stage) -> Stage
-    ensures { result ≡ stage_after found full stage }
+fn stage_after(found: Option<Stop>, full: bool, stage: Stage) -> Stage
+    ensures { result ≡ stage_after (found_number found) full stage }
 {
-    if found != 0 {
-        return Stage::Stopped;
+    match found {
+        Some(Stop::Settled) | Some(Stop::Risen) => Stage::Stopped,
+        None => if full { Stage::Stopped } else { stage },
     }
-    if full { Stage::Stopped } else { stage }
 }
 
-// The status after a check.
-fn status_after(found: u8, status: u8) -> u8
-    ensures { result ≡ status_after found status }
+// The status after a check, a number in the run record.
+#[tactic(auto, unfolding(crate::specs::Sweep::status_after))]
+fn status_after(found: Option<Stop>, status: u8) -> u8
+    ensures { result ≡ status_after (found_number found) status }
 {
-    if found == 0 { status } else { found }
+    match found {
+        Some(stop) => stop as u8,
+        None => status,
+    }
 }
 
 // The record after one more sweep, which left so many rows as they were.
-fn advanced(run: Run, last_objective: f64, found: u8, left: usize) -> Run
+#[tactic(auto, unfolding(crate::specs::Sweep::advanced))]
+fn advanced(run: Run, last_objective: f64, found: Option<Stop>, left: usize) -> Run
     requires { (run.sweeps < run.most) × Countable run left }
-    ensures { result ≡ advanced run last_objective found left }
+    ensures { result ≡ advanced run last_objective (found_number found) left }
 {
     let sweeps = run.sweeps + 1;
     let stage = stage_after(found, sweeps == run.most, run.stage);
@@ -94,36 +111,30 @@ fn advanced(run: Run, last_objective: f64, found: u8, left: usize) -> Run
     }
 }
 
-// The record after one more sweep, which left this factor and so many rows as they were; `tests` says whether the rule tests the objective.
+// The record after one more sweep, which left this factor and so many rows as they were.
 pub fn run_after(
     run: Run,
-    tests: bool,
     left: usize,
-    rows: &[u16],
-    cols: &[u16],
-    values: &[f64],
-    starts: &[usize],
+    table: Prepared,
     factor: &[f64],
     product: &mut [f64],
     dual: &mut [f64],
 ) -> Run
     requires countable { Countable run left }
-    requires sweeps_lt_most { (run.sweeps < run.most) × (tests ≡ tests_objective run.rule)
-        × Shaped cols.now values.now starts.now factor.now run.size run.rank
+    requires sweeps_lt_most { (run.sweeps < run.most)
+        × Shaped table.cols.now table.values.now table.starts.now factor.now run.size run.rank
         × (length product.old ≡ run.size * run.rank) × (length dual.old ≡ run.size) }
-    ensures { result ≡ run_after run (work rows.now cols.now values.now starts.now) factor.now left }
+    ensures { result ≡ run_after run (work_in table.entry) factor.now left }
 {
     let sweeps = run.sweeps + 1;
     if check_due(sweeps, run.minimum, run.most) {
         let m = run.size;
         let rank = run.rank;
         let tolerance = run.stationarity_tolerance;
-        let seen = maxcut_oracle::check::check(
-            cols, values, starts, m, rank, factor, tolerance, product, dual,
-        );
+        let seen = maxcut_oracle::check::check(table, m, rank, factor, tolerance, product, dual);
         let done = settled(run.minimum, sweeps, seen.residual, seen.threshold);
-        let found = stop_status(
-            tests,
+        let found = stop_found(
+            run.rule.tests_objective(),
             run.objective_tolerance,
             done,
             run.last_objective,
@@ -131,5 +142,5 @@ pub fn run_after(
         );
         return advanced(run, seen.objective, found, left);
     }
-    advanced(run, run.last_objective, 0, left)
+    advanced(run, run.last_objective, None, left)
 }

@@ -67,10 +67,10 @@ pub record Ready (m count : ℕ) (rows cols : List ℕ) (values : List ℤ) (wid
   pub out_there : m ≤ out
   pub workspace_there : search_workspace ≤ workspace
 
-pub call_ready : (m count : ℕ) (rows cols : List ℕ) (values : List ℤ) (width start out workspace : ℕ)
+pub call_ready : {m count : ℕ} {rows cols : List ℕ} {values : List ℤ} {width start out workspace : ℕ}
     → search_refusal base_limits m width (search_short base_limits m count (length rows) (length cols) (length values) start out workspace) (table_of count rows cols values) ≡ 0
     → Ready m count rows cols values width start out workspace
-call_ready m count rows cols values width start out workspace e =
+call_ready {m} {count} {rows} {cols} {values} {width} {start} {out} {workspace} e =
     let t = table_of count rows cols values in
     let too_short = search_short base_limits m count (length rows) (length cols) (length values) start out workspace in
     let ok = accepted_table base_limits m width too_short t e in

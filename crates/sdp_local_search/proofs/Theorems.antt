@@ -62,7 +62,7 @@ module _ {m count : ℕ} {rows cols : List ℕ} {values : List ℤ} {width : ℕ
   table = table_of count rows cols values
 
   mirrors : Mirrors m table
-  mirrors = (call_ready m count rows cols values width (length start) (length out) (length workspace) none).sound.mirrors
+  mirrors = (call_ready none).sound.mirrors
 
   abbrev found : Found (List ℕ)
   found = beam_search table width (sign_bytes m start)

@@ -1,67 +1,42 @@
 // What the call refuses: 31, 13 to 16, 19. Nothing is written.
 ghost use Rattle.std.specs.Prelude.{◌≡◌, length};
-ghost use Rattle.tables.specs.Table.{table_of};
+ghost use Rattle.tables.specs.Lent.{lent_table};
 ghost use Rattle.refusal.specs.Number.{numbered};
 ghost use Rattle.sdp_local_search.specs.BeamSearch.{base_limits, search_short, search_refusal};
 
-use limits::{MOST_SIGN_ENTRIES, MOST_SIGN_MAGNITUDE, MOST_SIGNS, MOST_WIDTH, SEARCH_WORKSPACE};
+use limits::{MOST_SIGN_ENTRIES, MOST_SIGNS, MOST_WIDTH, SEARCH_WORKSPACE};
 use refusal::Refusal;
 use tables::check::{short_table, table_number, too_short};
+use tables::lent::LentTable;
 
 // 31: a slice is too short; the lengths are those of the slices behind the table's.
-fn search_short(
-    m: usize,
-    count: usize,
-    rows: &[u16],
-    cols: &[u16],
-    values: &[i64],
-    start: usize,
-    out: usize,
-    workspace: usize,
-) -> bool
-    ensures { result ≡ search_short base_limits m count (length rows.now) (length cols.now) (length values.now) start out workspace }
+#[tactic(auto, unfolding(crate::specs::BeamSearch::search_short, laws::specs::Refusal::any_of))]
+fn search_short(table: LentTable, start: usize, out: usize, workspace: usize) -> bool
+    ensures { let t = table.entry in result ≡ search_short base_limits t.size t.count (length t.rows.now) (length t.cols.now) (length t.values.now) start out workspace }
 {
-    if short_table(MOST_SIGN_ENTRIES, count, rows, cols, values) {
-        return true;
-    }
-    if too_short(MOST_SIGNS < m, m, start) {
-        return true;
-    }
-    if too_short(MOST_SIGNS < m, m, out) {
-        return true;
-    }
-    too_short(false, SEARCH_WORKSPACE, workspace)
+    short_table(MOST_SIGN_ENTRIES, table)
+        || too_short(MOST_SIGNS < table.size, table.size, start)
+        || too_short(MOST_SIGNS < table.size, table.size, out)
+        || too_short(false, SEARCH_WORKSPACE, workspace)
 }
 
 // The first refusal that applies; the lengths are those of the other slices.
+#[tactic(auto, unfolding(crate::specs::BeamSearch::search_refusal, laws::specs::Refusal::first, laws::specs::Refusal::or_else), using(crate::proofs::Numbers::search_lent))]
 pub fn search_refusal(
-    m: usize,
-    count: usize,
-    rows: &[u16],
-    cols: &[u16],
-    values: &[i64],
+    table: LentTable,
     width: usize,
     start: usize,
     out: usize,
     workspace: usize,
 ) -> Result<(), Refusal>
-    ensures { numbered result ≡ search_refusal base_limits m width
-        (search_short base_limits m count (length rows.now) (length cols.now) (length values.now) start out workspace)
-        (table_of count rows.now cols.now values.now) }
+    ensures { let t = table.entry in numbered result ≡ search_refusal base_limits t.size width
+        (search_short base_limits t.size t.count (length t.rows.now) (length t.cols.now) (length t.values.now) start out workspace)
+        (lent_table t) }
 {
-    if search_short(m, count, rows, cols, values, start, out, workspace) {
+    if search_short(table, start, out, workspace) {
         return Err(Refusal::Slice);
     }
-    table_number(
-        MOST_SIGNS,
-        MOST_SIGN_ENTRIES,
-        MOST_SIGN_MAGNITUDE,
-        m,
-        count,
-        rows,
-        cols,
-        values,
-    )?;
+    table_number(table)?;
     if MOST_WIDTH < width {
         return Err(Refusal::Search);
     }

@@ -14,46 +14,33 @@ use limits::SEARCH_WORKSPACE;
 use refusal::Refusal;
 use sign_search::search::Searched;
 use tables::entries::Entries;
+use tables::lent::LentTable;
 
-// 01's local search from the first m signs of `start`, of which any byte but 0 is −. The signs of the answer go to `out`, as 0 and 1; its objective
-// in eighths and the rounds are answered.
+// 01's local search from the first signs of `start`, as many as the table has; any byte but 0 is −. The signs of the answer go to `out`, as 0 and 1;
+// its objective in eighths and the rounds are answered.
 // The workspace holds a level: 1,024 words at least; a longer one keeps its tail.
 pub fn beam_search(
-    m: usize,
-    count: usize,
-    rows: &[u16],
-    cols: &[u16],
-    values: &[i64],
+    table: LentTable,
     width: usize,
     start: &[u8],
     out: &mut [u8],
     workspace: &mut [u64],
 ) -> Result<Searched, Refusal>
-    ensures { BeamSearches base_limits m count rows.now cols.now values.now width start.now out.old
+    ensures { let t = table.entry in BeamSearches base_limits t.size t.count t.rows.now t.cols.now t.values.now width start.now out.old
         workspace.old out.new workspace.new (in_numbers result) }
 {
-    search_refusal(
-        m,
-        count,
-        rows,
-        cols,
-        values,
-        width,
-        start.len(),
-        out.len(),
-        workspace.len(),
-    )?;
-    let table = Entries {
-        count,
-        rows,
-        cols,
-        values,
+    search_refusal(table, width, start.len(), out.len(), workspace.len())?;
+    let entries = Entries {
+        count: table.count,
+        rows: table.rows,
+        cols: table.cols,
+        values: table.values,
     };
     let found = search_from(
-        table,
+        entries,
         width,
         start,
-        &mut out[0..m],
+        &mut out[0..table.size],
         &mut workspace[0..SEARCH_WORKSPACE],
     );
     Ok(found)

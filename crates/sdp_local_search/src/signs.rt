@@ -1,7 +1,6 @@
 // The search of an accepted call.
 ghost use Rattle.std.specs.Prelude.{◌≡◌, ◌≤◌, length};
 ghost use Rattle.limits.specs.Limits.{most_signs, most_words};
-ghost use Rattle.tables.specs.Table.{table_of, Lent};
 ghost use Rattle.sign_search.specs.Clauses.{Sound, LevelRoom, Found-by};
 ghost use Rattle.sdp_local_search.specs.BeamSearch.{sign_byte, sign_bytes};
 ghost use Rattle.tables.specs.Entries.{listed};

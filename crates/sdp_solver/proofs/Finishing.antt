@@ -12,7 +12,7 @@ use Rattle.std.specs.Result.{result_unwrap_or}
 use Rattle.ieee.specs.Floats.{◌+ᶠ◌}
 use Rattle.limits.specs.Limits.{search_workspace}
 use Rattle.run_record.specs.declared.Run.{Run}
-use Rattle.run_record.specs.CostTable.{CostTable, quadratic, linear}
+use Rattle.tables.specs.CostTable.{CostTable, quadratic, linear}
 use Rattle.run_record.specs.Numbers.{finish_number}
 use Rattle.float_bound.specs.Below.{AtMostEighths}
 use Rattle.finalize.specs.Finalize.{cost_of}

@@ -1,15 +1,16 @@
 -- An accepted open's record and factor, put together from what its parts gave. Assumes nothing.
-use Prim.Native.Nat.{ℕ, ◌*◌}
-use mathlib.Core.Bool.{Bool}
-use mathlib.Core.List.{List}
+use Prim.Native.Nat.{ℕ, ◌*◌, ◌≤◌}
+use mathlib.Core.Bool.{Bool, true, false}
+use mathlib.Core.List.{List, ◌++◌}
 use mathlib.Core.Path.{◌≡◌, refl, ap, ◌∙◌}
 use lib.Ieee.{Float}
-use lib.ListN.{length, take}
+use lib.ListN.{length, take, drop}
 use lib.Seq.{take_at}
 use Rattle.laws.specs.Lists.{over}
 use Rattle.step_rules.specs.declared.StepRule.{StepRule}
 use Rattle.step_rules.specs.Rule.{rule_of}
-use Rattle.run_limits.specs.Start.{is_signs, draws_follow}
+use Rattle.run_limits.specs.declared.Start.{Start}
+use Rattle.run_limits.specs.Start.{is_signs, draws_follow, start_of, signs_in, draws_in}
 use Rattle.initialize.specs.Initialize.{start_by, start_within}
 use Rattle.maxcut_oracle.specs.Table.{work_objective}
 use Rattle.run_record.specs.declared.Stage.{Stage}
@@ -42,6 +43,18 @@ start_is : (o : Settings) → start_by (is_signs o.start) (draws_follow o.most (
 unfolding start_factor
 start_is o = refl
 
+-- the factor of a start is that of the two truth values from which the start is
+by_start : {start : Start} (signs drawn : Bool) (rank m : ℕ) (numbers factor : List Float) → start ≡ start_of signs drawn
+    → start_within (signs_in start) (draws_in start) rank m numbers factor ≡ start_within signs drawn rank m numbers factor
+unfolding start_within
+by_start signs drawn rank m numbers factor e = rw e (go signs drawn)
+  where
+    go : (signs drawn : Bool)
+        → start_by (signs_in (start_of signs drawn)) (draws_in (start_of signs drawn)) rank m numbers ++ drop (m * rank) factor ≡ start_by signs drawn rank m numbers ++ drop (m * rank) factor
+    go false drawn = refl
+    go true false = refl
+    go true true = refl
+
 module _ (o : Settings) (factor : List Float) (ok : open_number_of o (length factor) ≡ 0) where
   start_long : length (start_factor o) ≡ open_size o * open_rank o
   unfolding start_factor
@@ -52,9 +65,13 @@ module _ (o : Settings) (factor : List Float) (ok : open_number_of o (length fac
   start_at_lem = written_over (start_factor o) factor (start_is o) (ap length (start_is o) ∙ start_long)
 
   module _ {meant : ℕ} (m : meant ≡ open_rank o) where
-    pub started : {drawn : Bool} {factor' : List Float} → drawn ≡ draws_follow o.most meant
-        → factor' ≡ start_within (is_signs o.start) drawn meant (open_size o) o.numbers factor → factor' ≡ over (start_factor o) factor
-    started d e = e ∙ rw (d, m) start_at_lem
+    -- a factor of that length has room for the rows of the rank that is meant
+    pub room : (factor' : List Float) → length factor' ≡ length factor → open_size o * meant ≤ length factor'
+    room factor' e = rw (e, m) (open_accepted o (length factor) ok).factor_room
+
+    pub started : {start : Start} {factor' : List Float} → start ≡ start_of (is_signs o.start) (draws_follow o.most meant)
+        → factor' ≡ start_within (signs_in start) (draws_in start) meant (open_size o) o.numbers factor → factor' ≡ over (start_factor o) factor
+    started s e = e ∙ by_start _ _ meant (open_size o) o.numbers factor s ∙ rw m start_at_lem
 
     pub opened : {rule : StepRule} {last : Float} {stage : Stage} (factor' : List Float) → factor' ≡ over (start_factor o) factor
         → rule ≡ rule_of o.rule o.number → stage ≡ first_stage o.most → last ≡ work_objective (sign_table_of o.table) meant (take (open_size o * meant) factor')

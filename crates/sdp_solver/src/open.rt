@@ -2,21 +2,22 @@
 ghost use Rattle.std.specs.Prelude.{◌≡◌, ◌+◌, ◌*◌, length, Ok};
 ghost use Rattle.refusal.specs.Number.{in_numbers};
 ghost use Rattle.maxcut_oracle.specs.Table.{work_objective};
-ghost use Rattle.run_record.specs.CostTable.{cost_table};
 ghost use Rattle.run_sweep.specs.Work.{sign_table_of};
 ghost use Rattle.run_contract.specs.Calls.{first_stage, asked_of, open_number_of, Opens};
-ghost use Rattle.sdp_solver.specs.Usable.{Usable};
-ghost use Rattle.run_record.specs.Lent.{costs_of};
+ghost use Rattle.sdp_solver.specs.Usable.{costs_in};
+ghost use Rattle.tables.specs.Lent.{costs_of};
 
-use super::work::call_work;
-use finalize::room;
+use super::work::{call_work, judged_hall};
 use initialize::prepare_initial_factor;
 use maxcut_oracle::objective::obj;
+use prepared_table::made::PreparedTable;
 use refusal::Refusal;
-use run_limits::{draws_follow, rank_meant};
+use run_limits::{rank_meant, start_of};
 use run_record::numbers::open_number;
-use run_record::{LentTable, OpenSettings, Run, Stage};
+use run_record::{OpenSettings, Run, Stage};
 use step_rules::rule_of;
+use tables::judged::JudgedHall;
+use tables::lent::LentHall;
 
 // The stage of a new run: stopped where no sweep is allowed.
 #[tactic(auto, unfolding(run_contract::specs::Calls::first_stage))]
@@ -31,53 +32,38 @@ fn first_stage(most: u32) -> Stage
 }
 
 // The objective of the start, its diagonal left out.
-fn first_objective(table: LentTable, rank: usize, factor: &[f64]) -> f64
-    requires { Usable (costs_of table) × (length factor.now ≡ (table.n + 1) * rank) }
-    ensures { result ≡ work_objective (sign_table_of (costs_of table.entry)) rank factor.now }
+fn first_objective(hall: JudgedHall, rank: usize, factor: &[f64]) -> f64
+    requires { length factor.now ≡ (hall.n + 1) * rank }
+    ensures { result ≡ work_objective (sign_table_of (costs_in hall.entry)) rank factor.now }
 {
-    let mut work_rows = room::indices();
-    let mut work_cols = room::indices();
-    let mut work_values = room::units();
-    let mut starts = room::row_starts();
-    let stay = call_work(
-        table,
-        &mut work_rows,
-        &mut work_cols,
-        &mut work_values,
-        &mut starts,
-    );
-    obj(
-        &work_rows[..stay],
-        &work_cols[..stay],
-        &work_values[..stay],
-        factor,
-        rank,
-    )
+    let mut work = PreparedTable::new();
+    call_work(hall, &mut work);
+    obj(work.table(), factor, rank)
 }
 
 // Opens a run that nothing refuses; the factor takes m rows of the rank that is meant.
 pub fn open_accepted(
-    table: LentTable,
+    hall: LentHall,
     asked: OpenSettings,
     numbers: &[f64],
     factor: &mut [f64],
 ) -> Run
-    requires { open_number_of (asked_of (costs_of table) asked numbers.now) (length factor.old) ≡ 0 }
-    ensures { Opens (asked_of (costs_of table.entry) asked numbers.now)
+    requires { open_number_of (asked_of (costs_of hall) asked numbers.now) (length factor.old) ≡ 0 }
+    ensures { Opens (asked_of (costs_of hall.entry) asked numbers.now)
         factor.old (Ok result) factor.new }
 {
-    let size = table.n + 1;
+    let size = hall.table.size + 1;
     let meant = rank_meant(size, asked.rank);
     let used = size * meant;
     prepare_initial_factor(
-        asked.start == 2,
-        draws_follow(asked.most, meant),
+        start_of(asked.start, asked.most, meant),
         numbers,
         meant,
         size,
         factor,
     );
-    let last_objective = first_objective(table, meant, &factor[..used]);
+    let judged = judged_hall(hall);
+    let last_objective = first_objective(judged, meant, &factor[..used]);
     let step = rule_of(asked.rule, asked.number);
     let stage = first_stage(asked.most);
     Run {
@@ -98,14 +84,14 @@ pub fn open_accepted(
 
 // Opens a run; `numbers` are the start's.
 pub fn open(
-    table: LentTable,
+    hall: LentHall,
     asked: OpenSettings,
     numbers: &[f64],
     factor: &mut [f64],
 ) -> Result<Run, Refusal>
-    ensures { Opens (asked_of (costs_of table.entry) asked numbers.now)
+    ensures { Opens (asked_of (costs_of hall.entry) asked numbers.now)
         factor.old (in_numbers result) factor.new }
 {
-    open_number(table, asked, numbers.len(), factor.len())?;
-    Ok(open_accepted(table, asked, numbers, factor))
+    open_number(hall, asked, numbers.len(), factor.len())?;
+    Ok(open_accepted(hall, asked, numbers, factor))
 }

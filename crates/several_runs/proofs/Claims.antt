@@ -13,7 +13,7 @@ use Rattle.laws.specs.Refusal.{first, or_else}
 use Rattle.run_record.specs.declared.Stage.{Stage}
 use Rattle.run_record.specs.declared.Stage.TheVariants.{Open, Stopped}
 use Rattle.run_record.specs.declared.Run.{Run}
-use Rattle.run_record.specs.CostTable.{CostTable}
+use Rattle.tables.specs.CostTable.{CostTable}
 use Rattle.run_record.specs.Numbers.{is_stopped, sweep_number, member_number}
 use Rattle.run_sweep.specs.Work.{call_work}
 use Rattle.run_contract.specs.Calls.{Settings}

@@ -1,10 +1,13 @@
 -- How many of the runs are open, counted run by run. Assumes nothing.
 use Prim.Native.Nat.{ℕ, zero, suc, ◌+◌, ◌≤◌, ◌<◌}
-use mathlib.Core.Bool.{false}
-use mathlib.Core.Path.{◌≡◌, refl, subst}
+use mathlib.Core.Bool.{Bool, false, not, cond}
+use mathlib.Core.List.{List, [], ◌∷◌}
+use mathlib.Core.Path.{◌≡◌, refl, sym, ap, ◌∙◌, subst}
 use native.Mathlib.Numerals.{add-one}
 use native.Mathlib.Omega.{arith}
 use borrow.Author.Tests.{ltb-false}
+use lib.ListN.{length, take}
+use Rattle.std.specs.Prelude.{filter}
 use Rattle.limits.specs.Limits.{most_runs, least_turn, most_turn}
 use Rattle.laws.specs.Sum.{total}
 use Rattle.laws.proofs.Sums.{total_at}
@@ -12,7 +15,8 @@ use Rattle.laws.proofs.Any.{any_head, any_rest}
 use Rattle.run_record.specs.declared.Stage.{Stage}
 use Rattle.run_record.specs.declared.Stage.TheVariants.{Open, Stopped}
 use Rattle.run_record.specs.declared.Run.{Run}
-use Rattle.several_runs.specs.Turn.{bad_turn, bad_count, only_open, open_below}
+use Rattle.run_record.specs.Numbers.{is_stopped}
+use Rattle.several_runs.specs.Turn.{bad_turn, bad_count, run_at, only_open, open_below}
 
 pub open_below_le : (at : ℕ → Run) (n : ℕ) → open_below at n ≤ n
 unfolding open_below total
@@ -63,3 +67,24 @@ open_counts at n i l = total_at n i (λ j. only_open (at j).stage 1) l
 
 pub open_below_some : (at : ℕ → Run) (n i : ℕ) → i < n → (at i).stage ≡ Open → 1 ≤ open_below at n
 open_below_some at n i l e = open_some e (open_counts at n i l)
+
+-- ---- by the library's `filter` and `count`
+
+total_front : (n : ℕ) (f : ℕ → ℕ) → total (suc n) f ≡ f 0 + total n (λ k. f (suc k))
+unfolding total
+total_front zero f = omega arith
+total_front (suc n) f = let h = total_front n f in omega (arith, h)
+
+abbrev pub is_open : Run → Bool
+is_open run = not (is_stopped run.stage)
+
+pub open_counted : (n : ℕ) (runs : List Run) → n ≤ length runs → length (filter is_open (take n runs)) ≡ open_below (run_at runs) n
+unfolding open_below
+open_counted zero runs h = open_below_none (run_at runs)
+open_counted (suc n) [] h = absurd (omega arith)
+open_counted (suc n) (run ∷ runs) h =
+    one run.stage ∙ ap (λ (k : ℕ). only_open run.stage 1 + k) (open_counted n runs (omega arith)) ∙ sym (total_front n (λ j. only_open (run_at (run ∷ runs) j).stage 1))
+  where
+    one : (stage : Stage) → length (cond (not (is_stopped stage)) (run ∷ filter is_open (take n runs)) (filter is_open (take n runs))) ≡ only_open stage 1 + length (filter is_open (take n runs))
+    one Open = let k : length (run ∷ filter is_open (take n runs)) ≡ 1 + length (filter is_open (take n runs)) = omega arith in k
+    one Stopped = let k : length (filter is_open (take n runs)) ≡ 0 + length (filter is_open (take n runs)) = omega arith in k

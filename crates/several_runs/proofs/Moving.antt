@@ -11,42 +11,15 @@ use Rattle.laws.specs.Lists.{over}
 use Rattle.laws.specs.Sum.{total}
 use Rattle.laws.proofs.Totals.{total_ext}
 use Rattle.run_record.specs.declared.Run.{Run}
+use Rattle.tables.specs.CostTable.{CostTable}
 use Rattle.run_sweep.specs.Work.{Work, call_work}
 use Rattle.run_sweep.specs.Sweep.{State, sweeps_up_to}
 use Rattle.run_contract.specs.Calls.{used}
-use Rattle.run_contract.specs.PlainRun.{Plain, record_of}
-use Rattle.run_contract.proofs.Follows.{state_of, sweeps_follow}
-use Rattle.run_contract.proofs.OnLists.{keeps_sweeps}
+use Rattle.run_contract.proofs.Tails.{length_sweeps}
 use Rattle.several_runs.specs.Turn.{Tables, table_at, factor_at, turn_number, only_open, open_below, share, share_of, turned_at, joined}
 use Rattle.several_runs.proofs.Joined.{length_joined}
 use Rattle.several_runs.proofs.Cursors.{Cursor, table_from, cursor_table}
 use Rattle.several_runs.proofs.OnTurns.{factors_room}
-
--- ---- sweeps keep the factor's length, whatever the record
-
-plain_of : Run → List Float → Plain
-plain_of run factor =
-    record {
-      factor = factor;
-      size = run.size;
-      rank = run.rank;
-      rule = run.rule;
-      objective_tolerance = run.objective_tolerance;
-      stationarity_tolerance = run.stationarity_tolerance;
-      most = run.most;
-      minimum = run.minimum;
-      sweeps = run.sweeps;
-      last = run.last_objective;
-      stage = run.stage;
-      status = run.status;
-      standing = run.standing;
-    }
-
-length_swept : (k : ℕ) (w : Work) (run : Run) (factor : List Float) → length (sweeps_up_to k w run factor).factor ≡ length factor
-unfolding record_of state_of plain_of
-length_swept k w run factor = ap (λ (s : State). length s.factor) (sweeps_follow k w (plain_of run factor)) ∙ (keeps_sweeps k w (plain_of run factor)).0
-
--- ---- a turn
 
 module _ (sweeps count : ℕ) (at : ℕ → Run) (t : Tables) (factors₀ : List Float) (ok : turn_number sweeps count at t (length factors₀) ≡ 0) where
   abbrev made : ℕ → State
@@ -59,7 +32,7 @@ module _ (sweeps count : ℕ) (at : ℕ → Run) (t : Tables) (factors₀ : List
   unfolding turned_at factor_at total
   length_made i l =
       let room = factors_room sweeps count at t (length factors₀) ok (i + 1) (omega arith) in
-      length_swept (share_of sweeps count at i) (call_work (table_at t i)) (at i) (take (used (at i)) (drop (total i (λ j. used (at j))) factors₀))
+      length_sweeps (share_of sweeps count at i) (call_work (table_at t i)) (at i) (take (used (at i)) (drop (total i (λ j. used (at j))) factors₀))
       ∙ length-take-le (used (at i)) (drop (total i (λ j. used (at j))) factors₀) (rw (length-drop (total i (λ j. used (at j))) factors₀) (left _ _ _ (rw (add-one i) at room)))
     where
       left : (a b c : ℕ) → a + b ≤ c → b ≤ c - a
@@ -94,20 +67,24 @@ module _ (sweeps count : ℕ) (at : ℕ → Run) (t : Tables) (factors₀ : List
         ap (λ (x : List Float). sweeps_up_to k (call_work (table_from t i entries costs)) (at i) (take (used (at i)) x)) (rest_is ∙ ap (λ (x : ℕ). drop x factors₀) c.place_is)
         ∙ ap₂ (λ (x : ℕ) (w : Work). sweeps_up_to x w (at i) (take (used (at i)) (drop (factor_at at i) factors₀))) share_is (ap call_work (cursor_table at t (length factors₀) c))
 
-    pub step : {run' : Run} {factors' : List Float}
-        → (run' ≡ (sweeps_up_to k (call_work (table_from t i entries costs)) (at i) (take (used (at i)) (drop place factors))).run)
-        × (factors' ≡ take place factors ++ ((sweeps_up_to k (call_work (table_from t i entries costs)) (at i) (take (used (at i)) (drop place factors))).factor ++ drop (used (at i)) (drop place factors)))
+    -- of the hall that is cut there
+    pub step : {hall : CostTable} {run' : Run} {factors' : List Float} → hall ≡ table_from t i entries costs
+        → (run' ≡ (sweeps_up_to k (call_work hall) (at i) (take (used (at i)) (drop place factors))).run)
+        × (factors' ≡ take place factors ++ ((sweeps_up_to k (call_work hall) (at i) (take (used (at i)) (drop place factors))).factor ++ drop (used (at i)) (drop place factors)))
         → (run' ≡ (made i).run) × (factors' ≡ over (front (i + 1)) factors₀)
     unfolding joined
-    step e = (
-      e.0 ∙ ap (λ (x : State). x.run) made_is,
+    step {hall} h e = (
+      e.0 ∙ ap (λ (x : State). x.run) hall_made,
       e.1
-          ∙ ap₂ (λ (x : List Float) (y : State). x ++ (y.factor ++ drop (used (at i)) (drop place factors))) (ap (take place) f ∙ take_at (front i) _ place front_long) made_is
+          ∙ ap₂ (λ (x : List Float) (y : State). x ++ (y.factor ++ drop (used (at i)) (drop place factors))) (ap (take place) f ∙ take_at (front i) _ place front_long) hall_made
           ∙ ap (λ (x : List Float). front i ++ ((made i).factor ++ x)) (ap (drop (used (at i))) rest_is ∙ drop-drop (used (at i)) place factors₀)
           ∙ sym (append_assoc (front i) (made i).factor (drop (place + used (at i)) factors₀))
           ∙ ap (λ (x : ℕ). (front i ++ (made i).factor) ++ drop x factors₀) (sym both_long)
           ∙ ap (λ (x : ℕ). over (front x) factors₀) (sym (add-one i)),
     )
       where
+        hall_made : sweeps_up_to k (call_work hall) (at i) (take (used (at i)) (drop place factors)) ≡ made i
+        hall_made = ap (λ (x : CostTable). sweeps_up_to k (call_work x) (at i) (take (used (at i)) (drop place factors))) h ∙ made_is
+
         both_long : length (front i ++ (made i).factor) ≡ place + used (at i)
         both_long = length-append (front i) (made i).factor ∙ ap₂ (λ (x y : ℕ). x + y) front_long (length_made i l)

@@ -6,6 +6,7 @@ use mathlib.Core.List.{[], ◌∷◌}
 use native.Mathlib.Omega.{arith}
 use lib.Dec.{ltb, eqb}
 use borrow.Author.Tests.{ltb-true, eqb-true, eqb-false}
+use Rattle.std.proofs.lemmas.Bool.{false_from_ne_true, true_from_ne_false}
 use Rattle.laws.specs.Refusal.{or_else, first_of, any_of}
 use Rattle.laws.proofs.Refusal.{first_here, first_skip, first_last, each, found, none_of}
 use Rattle.limits.specs.Limits.{most_runs, least_turn, most_turn}
@@ -13,14 +14,6 @@ use Rattle.run_record.specs.declared.Run.{Run}
 use Rattle.several_runs.specs.Turn.{Tables, bad_turn, bad_count, number_at, turn_number}
 use Rattle.several_runs.specs.TurnedDown.{InRange, SomeRuns, TurnedDown, by_sweeps, by_runs, by_a_run}
 use Rattle.several_runs.proofs.Counted.{turn_many, turn_few, count_few}
-
-not_false : (b : Bool) → (b ≡ false → ⊥) → b ≡ true
-not_false true n = refl
-not_false false n = absurd (n refl)
-
-not_true : (b : Bool) → (b ≡ true → ⊥) → b ≡ false
-not_true true n = absurd (n refl)
-not_true false n = refl
 
 -- ---- 25, 26
 
@@ -93,9 +86,9 @@ module _ (sweeps count : ℕ) (at : ℕ → Run) (t : Tables) (lent : ℕ) where
 
   pub only_so : (number : ℕ) → TurnedDown sweeps count at t lent number → turn_number sweeps count at t lent ≡ number
   unfolding turn_number
-  only_so number (by_sweeps bad e) = first_here 24 _ _ (not_false (bad_turn sweeps) (λ z. bad (in_range sweeps z))) ∙ sym e
+  only_so number (by_sweeps bad e) = first_here 24 _ _ (true_from_ne_false (bad_turn sweeps) (λ z. bad (in_range sweeps z))) ∙ sym e
   only_so number (by_runs good bad e) =
-      first_skip 25 _ _ (not_true (bad_turn sweeps) (λ z. out_of_range sweeps z good)) ∙ first_here 25 _ _ (not_false (bad_count count) (λ z. bad (some_runs count z))) ∙ sym e
+      first_skip 25 _ _ (false_from_ne_true (bad_turn sweeps) (λ z. out_of_range sweeps z good)) ∙ first_here 25 _ _ (true_from_ne_false (bad_count count) (λ z. bad (some_runs count z))) ∙ sym e
   only_so number (by_a_run good some i l before nonzero e) =
-      of_runs (not_true (bad_turn sweeps) (λ z. out_of_range sweeps z good)) (not_true (bad_count count) (λ z. not_some count z some))
+      of_runs (false_from_ne_true (bad_turn sweeps) (λ z. out_of_range sweeps z good)) (false_from_ne_true (bad_count count) (λ z. not_some count z some))
       ∙ sym (found (number_at at t lent) i count (none_of (number_at at t lent) i before) l e nonzero)

@@ -1,3 +1,4 @@
 pub mod Turn
 pub mod Shared
 pub mod TurnedDown
+pub mod Lent

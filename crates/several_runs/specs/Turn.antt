@@ -10,7 +10,7 @@ use Rattle.step_rules.specs.declared.StepRule.TheVariants.{Grad}
 use Rattle.run_record.specs.declared.Stage.{Stage}
 use Rattle.run_record.specs.declared.Stage.TheVariants.{Open, Stopped}
 use Rattle.run_record.specs.declared.Run.{Run}
-use Rattle.run_record.specs.CostTable.{CostTable, cost_table}
+use Rattle.tables.specs.CostTable.{CostTable, cost_table}
 use Rattle.run_record.specs.Numbers.{member_number}
 use Rattle.run_sweep.specs.Work.{call_work}
 use Rattle.run_sweep.specs.Sweep.{State, sweeps_up_to}

@@ -3,13 +3,15 @@ ghost use Rattle.std.specs.Prelude.{◌≡◌, ◌≤◌};
 ghost use Rattle.limits.specs.Limits.{most_runs};
 ghost use Rattle.refusal.specs.Number.{numbered};
 ghost use Rattle.laws.specs.Refusal.{first_of};
-ghost use Rattle.several_runs.specs.Turn.{run_at, tables_of, bad_turn, bad_count, number_at, turn_number};
+ghost use Rattle.several_runs.specs.Lent.{lent_tables};
+ghost use Rattle.several_runs.specs.Turn.{run_at, bad_turn, bad_count, number_at, turn_number};
 
-use super::HallSize;
-use super::member::number_at;
+use super::member::Starts;
+use super::{HallSize, LentRuns};
 use limits::{LEAST_TURN, MOST_RUNS, MOST_TURN};
 use refusal::Refusal;
 use run_record::Run;
+use run_record::numbers::member_number;
 
 // 25.
 #[tactic(auto, unfolding(crate::specs::Turn::bad_turn, laws::specs::Refusal::any_of))]
@@ -38,27 +40,19 @@ fn members_number(
     run_count: usize,
     runs: [Run; MOST_RUNS],
     halls: [HallSize; MOST_RUNS],
-    rows: &[u16],
-    cols: &[u16],
-    values: &[i64],
-    c: &[i64],
+    lent: LentRuns,
     factors: usize,
 ) -> Result<(), Refusal>
     requires { run_count ≤ most_runs }
-    ensures { numbered result ≡ first_of (number_at (run_at runs) (tables_of halls rows.now cols.now values.now c.now) factors) run_count }
+    ensures { numbered result ≡ first_of (number_at (run_at runs) (lent_tables halls lent.entry) factors) run_count }
 {
-    let mut entries: usize = 0;
-    let mut costs: usize = 0;
-    let mut at: usize = 0;
+    let mut at = Starts::default();
     for i in 0usize..run_count {
         let run = runs[i];
         let hall = halls[i];
-        number_at(
-            run, hall, entries, costs, at, rows, cols, values, c, factors,
-        )?;
-        entries += hall.count;
-        costs += hall.n;
-        at += run.size * run.rank;
+        let table = lent.hall_from(hall, at);
+        member_number(run, table, factors - at.factor)?;
+        at = at.behind(hall, run);
     }
     Ok(())
 }
@@ -70,13 +64,10 @@ pub fn turn_number(
     runs: [Run; MOST_RUNS],
     halls: [HallSize; MOST_RUNS],
     sweeps: u32,
-    rows: &[u16],
-    cols: &[u16],
-    values: &[i64],
-    c: &[i64],
+    lent: LentRuns,
     factors: usize,
 ) -> Result<(), Refusal>
-    ensures { numbered result ≡ turn_number sweeps run_count (run_at runs) (tables_of halls rows.now cols.now values.now c.now) factors }
+    ensures { numbered result ≡ turn_number sweeps run_count (run_at runs) (lent_tables halls lent.entry) factors }
 {
     if bad_turn(sweeps) {
         return Err(Refusal::TurnSweeps);
@@ -84,5 +75,5 @@ pub fn turn_number(
     if bad_count(run_count) {
         return Err(Refusal::TurnRuns);
     }
-    members_number(run_count, runs, halls, rows, cols, values, c, factors)
+    members_number(run_count, runs, halls, lent, factors)
 }

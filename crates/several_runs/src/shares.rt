@@ -4,16 +4,13 @@ ghost use Rattle.limits.specs.Limits.{most_runs, most_turn};
 ghost use Rattle.several_runs.specs.Turn.{run_at, only_open, open_below, share};
 
 use limits::MOST_RUNS;
-use run_record::{Run, Stage};
+use run_record::{Run, Stage, is_stopped};
 
 // 1 for an open run.
 pub fn open_one(stage: Stage) -> u32
     ensures { result ≡ only_open stage 1 }
 {
-    match stage {
-        Stage::Open => 1,
-        Stage::Stopped => 0,
-    }
+    u32::from(!is_stopped(stage))
 }
 
 // How many of the runs before `end` are open.
@@ -21,13 +18,10 @@ pub fn open_below(runs: [Run; MOST_RUNS], end: usize) -> u32
     requires { end ≤ most_runs }
     ensures { result ≡ open_below (run_at runs) end }
 {
-    let mut found: u32 = 0;
-    for i in 0usize..end {
-        let run = runs[i];
-        let stage = run.stage;
-        found += open_one(stage);
-    }
-    found
+    runs[..end]
+        .iter()
+        .filter(|run| !is_stopped(run.stage))
+        .count() as u32
 }
 
 // The share of the open run that has so many open ones before it.

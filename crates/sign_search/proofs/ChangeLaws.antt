@@ -1,7 +1,7 @@
 -- The changes of all signs, summed entry by entry into a list. Assumes nothing.
 use Prim.Native.Nat.{ℕ, zero, suc, ◌+◌, ◌*◌, ◌≤◌, ◌<◌}
 use native.Mathlib.Decide.{ℕ_discrete}
-use native.Mathlib.Nat.{lt_of_le_of_lt}
+use native.Mathlib.Nat.{lt_of_le_of_lt, mul-le-mul}
 use native.Mathlib.Numerals.{add-one}
 use native.Mathlib.Omega.{arith}
 use borrow.Author.Tests.{eq-eqb, ne_eqb}
@@ -60,6 +60,11 @@ minus (suc x) v d = rw (parts v) (simp differences (omega ring))
 
 pub signed_small : (x : ℕ) (v : ℤ) → nat_abs v ≤ most_sign_magnitude → nat_abs (v *ℤ sign x) ≤ most_sign_magnitude
 signed_small x v h = simp (abs_mul, abs_sign) (omega arith)
+
+pub weighed_fits : (w v : ℤ) (x y : ℕ) → nat_abs w ≤ 8 → nat_abs v ≤ most_sign_magnitude → SFits w64 (w *ℤ (v *ℤ sign x *ℤ sign y))
+weighed_fits w v x y few h =
+    fits_abs (w *ℤ (v *ℤ sign x *ℤ sign y)) (rw (abs_mul w (v *ℤ sign x *ℤ sign y))
+    (lt_of_le_of_lt (mul-le-mul few (signed_small y (v *ℤ sign x) (signed_small x v h))) (omega arith)))
 
 pub off_diagonal : (i j x y : ℕ) (v : ℤ) → (i ≡ j → ⊥) → negsuc 3 *ℤ (v *ℤ sign x *ℤ sign y) ≡ flip_share i i j (sign x) (sign y) v
 off_diagonal i j x y v d = regroup v (sign x) (sign y) ∙ sym (flip_other i i j (sign x) (sign y) v refl d)

@@ -23,7 +23,7 @@ use Rattle.local_search.proofs.SignLaws.{improving_ext}
 use Rattle.local_search.proofs.All.{all_append, all_take}
 use Rattle.local_search.proofs.SearchLaws.{all_insert, next_level_is}
 use Rattle.local_search.proofs.ExpandLaws.{part_long, parent_is}
-use Rattle.local_search.proofs.Decoded.{kept_decoded, all_sign_choices, children_of_decoded}
+use Rattle.local_search.proofs.Decoded.{kept_decoded, kept_tidy, tidy_children, all_sign_choices, children_of_decoded}
 use Rattle.tables.specs.Table.{Table}
 use Rattle.sign_search.specs.Search.{change_in}
 use Rattle.sign_search.specs.Within.{Bounds, near, stays_near}
@@ -44,11 +44,6 @@ map_improving {X} {Y} f exists flip exists' flip' x y (suc n) h =
     map-append f (improving exists flip n x) (cond (exists x n) (flip n x ∷ []) [])
     ∙ ap₂ ◌++◌ (map_improving f exists flip exists' flip' x y n (λ i q. h i (omega arith)))
     (cond_map f (exists x n) (flip n x) ∙ ap₂ (λ (b : Bool) (z : Y). cond b (z ∷ []) []) (h n (omega arith)).0 (h n (omega arith)).1)
-
-all_kept : (P : Choice → Type 0) (w : ℕ) (l ys : List Choice) → All P l → All P ys → All P (keep_best below w l ys)
-unfolding keep_best
-all_kept P w l [] a b = a
-all_kept P w l (y ∷ ys) a b = all_kept P w (take w (insert below y l)) ys (all_take P w (insert below y l) (all_insert below P y l b.0 a)) b.1
 
 -- a parent w in words, with m signs, and the bounds
 module _ (t : Table) (m : ℕ) (o : ℤ) (w : List ℕ) (changes : List ℤ) (is : Changes t (unpacked m w) changes) (b : Bounds) (few : b.flips ≤ m) where
@@ -77,16 +72,6 @@ module _ (t : Table) (m : ℕ) (o : ℤ) (w : List ℕ) (changes : List ℤ) (is
       map_improving (decoded m) exists (flip_w changes) (exists_in t b) (flip_c (change_in t)) parent (parent_of o (unpacked m w)) b.flips (λ i h. (same_test i h, same_child held i h))
       ∙ sym (improving_cut (exists_in t b) (flip_c (change_in t)) (parent_of o (unpacked m w)) b.flips m few
       (λ i p q. ap (λ (c : Bool). cond (lt_z (change_in t (unpacked m w) i) (pos 0)) c false) (within_behind b (unpacked m w) i p) ∙ never (lt_z (change_in t (unpacked m w) i) (pos 0))))
-
-  children_tidy : (k : ℕ) → k ≤ m → m ≤ 64 * length w → Tidy m w → All (TidyChoice m) (improving exists (flip_w changes) k parent)
-  unfolding improving flip_w word_child
-  children_tidy zero h held s = tt
-  children_tidy (suc k) h held s =
-      all_append (TidyChoice m) (improving exists (flip_w changes) k parent) (cond (exists parent k) (flip_w changes k parent ∷ []) []) (children_tidy k (omega arith) held s) (go (exists parent k))
-    where
-      go : (c : Bool) → All (TidyChoice m) (cond c (flip_w changes k parent ∷ []) [])
-      go true = (tidy_flip k w (omega arith) m (omega arith) s, tt)
-      go false = tt
 
   listed_safe : TableSafe t (parent_of o (unpacked m w)) → ListedSafe changes b.flips o
   listed_safe safe i h =
@@ -117,7 +102,7 @@ module _ (t : Table) (m : ℕ) (o : ℤ) (w : List ℕ) (changes : List ℤ) (is
       → Kept width (level_of (length w) c₁ o₁ s₁) near_children (level_of (length w) c₂ o₂ s₂) c₂
       → Tidy m w → TidyLevel (length w) m c₁ o₁ s₁ → TidyLevel (length w) m c₂ o₂ s₂
   row_tidy width c₁ c₂ o₁ o₂ s₁ s₂ held k s a =
-      subst (All (TidyChoice m)) (sym k.level) (all_kept (TidyChoice m) width (level_of (length w) c₁ o₁ s₁) near_children a (children_tidy b.flips few held s))
+      kept_tidy exists changes m parent held s b.flips width (level_of (length w) c₁ o₁ s₁) (level_of (length w) c₂ o₂ s₂) c₂ few k a
 
   -- ---- level 1, of which each sign may flip, or none
 
@@ -166,7 +151,7 @@ module _ (t : Table) (m : ℕ) (o : ℤ) (w : List ℕ) (changes : List ℤ) (is
   pub row_first_tidy : (first c : ℕ) (os : List ℤ) (s : List ℕ) → b.from ≡ unpacked m w → first ≡ cond (eqb b.most 0) 0 b.flips → m ≤ 64 * length w
       → Appended [] (listed_children changes first parent) (level_of (length w) c os s) c first → Tidy m w → TidyLevel (length w) m c os s
   row_first_tidy first c os s e f held k tidy =
-      subst (All (TidyChoice m)) (sym (k.level ∙ first_children first e f)) (children_tidy b.flips few held tidy)
+      subst (All (TidyChoice m)) (sym (k.level ∙ first_children first e f)) (tidy_children exists changes m parent held tidy b.flips few)
 
 -- the first m of a slice, as a part that is lent
 pub part_size : (m : ℕ) (l : List ℕ) → m ≤ length l → length (take (m - 0) (drop 0 l)) ≡ m

@@ -6,8 +6,7 @@ use mathlib.Core.Path.{◌≡◌, sym, ap, ◌∙◌}
 use lib.IntN.{ℤ}
 use lib.ListN.{length}
 use Rattle.sign_words.specs.Signs.{flip_sign}
-use Rattle.sign_words.specs.Packed.{unpacked, flip_in}
-use Rattle.sign_words.specs.Distance.{SignApart}
+use Rattle.sign_words.specs.Packed.{sign_in, unpacked, flip_in}
 use Rattle.sign_words.proofs.PackedLaws.{unpacked_flip, same_signs}
 use Rattle.local_search.proofs.LevelLaws.{flipped_length}
 use Rattle.tables.specs.Table.{Table}
@@ -25,6 +24,6 @@ hand_flipped t x x' row row' after i h held is e f changes =
     }
 
 -- no sign is left in which it differs from the target
-pub hand_moved : (t : Table) (x row target : List ℕ) (changes : List ℤ) (m i : ℕ) → length x ≡ m → m ≤ i → AtHand t x row changes → SignApart row target 0 i → x ≡ unpacked m target
-hand_moved t x row target changes m i long h hand apart =
-    sym hand.row_is ∙ ap (λ (k : ℕ). unpacked k row) long ∙ same_signs m row target (λ j l. apart.same j (omega arith) (omega arith))
+pub hand_moved : (t : Table) (x row target : List ℕ) (changes : List ℤ) (m : ℕ) → length x ≡ m → AtHand t x row changes
+    → ((j : ℕ) → j < m → sign_in row j ≡ sign_in target j) → x ≡ unpacked m target
+hand_moved t x row target changes m long hand same = sym hand.row_is ∙ ap (λ (k : ℕ). unpacked k row) long ∙ same_signs m row target same

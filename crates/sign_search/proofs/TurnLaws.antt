@@ -29,6 +29,11 @@ use Rattle.sign_search.specs.Clauses.{SumsFit, Sound, Changes, RowStart, Turned,
 use Rattle.sign_search.proofs.Lawful.{signs_flip}
 use Rattle.sign_search.proofs.ChangeLaws.{abs_flip}
 
+-- ---- one entry
+
+pub eight_times : (v a b : ℤ) → pos 8 *ℤ (v *ℤ a *ℤ b) ≡ pos 8 *ℤ (a *ℤ b) *ℤ v
+eight_times v a b = rw (parts v, parts a, parts b) (simp differences (omega ring))
+
 -- ---- over a square
 
 module _ (m : ℕ) (q : ℕ → ℕ → ℤ) (x : ℕ → ℤ) (i : ℕ) (h : i < m) (sv : SignVector x) where

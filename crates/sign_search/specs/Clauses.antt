@@ -2,12 +2,13 @@
 use Rattle.std.specs.Prelude.{ℕ, suc, ◌*◌, ◌≤◌, ◌<◌, Bool, cond, List, ◌≡◌, eqb, ℤ, pos, nat_abs, ◌+ℤ◌, ◌*ℤ◌, length, get_or, set}
 use Rattle.laws.specs.Lists.{fill}
 use Rattle.laws.specs.Sum.{sum, total, only}
-use Rattle.limits.specs.Limits.{most_sign_magnitude}
+use Rattle.limits.specs.Limits.{most_sign_magnitude, most_signs, most_words}
 use Rattle.tables.specs.Table.{Table, InRange, magnitude_of, sign_at}
 use Rattle.tables.specs.Flip.{flip_term}
 use Rattle.sign_words.specs.Packed.{unpacked, Tidy}
 use Rattle.local_search.specs.LocalSearch.{All, Found, next_level}
 use Rattle.local_search.specs.Level.{Choice, below, sign_level}
+use Rattle.local_search.specs.Children.{parent_of}
 use Rattle.local_search.specs.SignSearch.{keeping, children_c, Safe, searched_from}
 use Rattle.sign_search.specs.Within.{Bounds, within}
 use Rattle.sign_search.specs.Search.{objective_in, change_in, height_in, Mirrors, beam_search, limited_search}
@@ -191,6 +192,19 @@ pub record LevelRoom (most n m width level : ℕ) : Type 0 where
   pub signs_few : m ≤ most
   pub width_few : width ≤ most
   pub level_room : most * n ≤ level
+
+-- what it takes to search on a table from the signs x, of this objective, at least one choice wide, in the room of `level` words
+pub record Searchable (t : Table) (width : ℕ) (objective : ℤ) (flips : ℕ) (x : List ℕ) (level : ℕ) : Type 0 where
+  pub room : LevelRoom most_signs most_words (length x) width level
+  pub some : 1 ≤ width
+  pub sound : Sound (length x) t
+  pub start_is : objective ≡ objective_in t x
+  pub flips_few : flips ≤ length x
+
+-- what a search leaves: its answer's objective and signs, and the rounds
+pub record Leaves (found : Found Choice) (least : ℤ) (rounds : ℕ) (signs : List ℕ) : Type 0 where
+  pub answer_is : parent_of least signs ≡ found.answer
+  pub rounds_are : rounds ≡ found.rounds
 
 -- what the search leaves: the definition's answer with its objective, and the rounds
 pub record Found-by (t : Table) (width : ℕ) (start : List ℕ) (least : ℤ) (rounds : ℕ) (answer : List ℕ) : Type 0 where

@@ -4,16 +4,16 @@ ghost use Rattle.std.specs.Int.{w64};
 ghost use Rattle.std.proofs.Common.{SFits};
 ghost use Rattle.laws.specs.Lists.{fill};
 ghost use Rattle.limits.specs.Limits.{most_sign_magnitude};
-ghost use Rattle.tables.specs.Table.{table_of, Lent, sign, sign_at};
+ghost use Rattle.tables.specs.Table.{sign, sign_at};
 ghost use Rattle.tables.specs.Flip.{flip_share, flip_term};
 ghost use Rattle.sign_search.specs.Clauses.{SumsFit, Cleared, RowTurned, changes_over};
 ghost use Rattle.tables.specs.Entries.{listed};
 
 use local_search::rows::sign_at;
-use tables::check::wide;
 use tables::entries::Entries;
 
-// Sets the first m changes to 0; those behind them stay.
+// Sets the first m changes to 0; those behind them stay. Not the caller's cut and `fill`: what `changes_of` proves three times would each time speak of
+// a front and the rest, and here it is the one list of the clause.
 pub fn clear(changes: &mut [i64], m: usize)
     requires { m ≤ length changes.old }
     ensures { changes.new ≡ fill (λ i. pos 0) m changes.old }
@@ -22,6 +22,7 @@ pub fn clear(changes: &mut [i64], m: usize)
 }
 
 // A value times a sign's byte.
+#[tactic(auto, using(crate::proofs::ChangeLaws::plus, crate::proofs::ChangeLaws::minus))]
 pub fn signed(value: i64, x: u8) -> i64
     requires { nat_abs value ≤ most_sign_magnitude }
     ensures { result ≡ value *ℤ sign x }
@@ -29,7 +30,17 @@ pub fn signed(value: i64, x: u8) -> i64
     if x == 0 { value } else { -value }
 }
 
+// A weight times a value times both signs.
+#[tactic(auto, using(crate::proofs::ChangeLaws::weighed_fits, crate::proofs::ChangeLaws::signed_small))]
+pub fn weighed(weight: i64, value: i64, x: u8, y: u8) -> i64
+    requires { (nat_abs weight ≤ 8) × (nat_abs value ≤ most_sign_magnitude) }
+    ensures { result ≡ weight *ℤ (value *ℤ sign x *ℤ sign y) }
+{
+    weight * signed(signed(value, x), y)
+}
+
 // What an entry at (i, j), whose signs are x and y, adds to the change by flipping sign i.
+#[tactic(auto, using(crate::proofs::ChangeLaws::flip_diagonal))]
 fn entry_change(i: u16, j: u16, value: i64, x: u8, y: u8) -> i64
     requires { nat_abs value ≤ most_sign_magnitude }
     ensures { result ≡ flip_share i i j (sign x) (sign y) value }
@@ -37,7 +48,7 @@ fn entry_change(i: u16, j: u16, value: i64, x: u8, y: u8) -> i64
     if i == j {
         return 0;
     }
-    -4 * signed(signed(value, x), y)
+    weighed(-4, value, x, y)
 }
 
 // What entry k adds to the change by flipping the sign of its row.
@@ -51,8 +62,8 @@ fn change_term(table: Entries, signs: &[u8], k: usize) -> i64
         i,
         j,
         table.values[k],
-        sign_at(signs, wide(i)),
-        sign_at(signs, wide(j)),
+        sign_at(signs, usize::from(i)),
+        sign_at(signs, usize::from(j)),
     )
 }
 
@@ -73,10 +84,10 @@ fn sum_rows(table: Entries, signs: &[u8], changes: &mut [i64])
     requires { SumsFit (length signs.now) (listed table) × (length signs.now ≤ length changes.old) × (0 < table.count) × Cleared (length signs.now) changes.old }
     ensures { changes.new ≡ changes_over (listed table.entry) signs.now changes.old }
 {
-    let mut row = wide(table.rows[0]);
+    let mut row = usize::from(table.rows[0]);
     let mut held: i64 = 0;
     for k in 0..table.count {
-        let i = wide(table.rows[k]);
+        let i = usize::from(table.rows[k]);
         held = turn_row(changes, row, i, held);
         row = i;
         held += change_term(table, signs, k);

@@ -1,6 +1,8 @@
 // Level by level: level 1 has all children of the start, level k + 1 the first `width` of those of level k.
+// `current, current_row, changes` stay apart: as a struct of three `&mut` (tried on `flip_at_hand`, where no goal is left) a function that takes it
+// promises besides that three references keep their names, and each length is `hand.old.signs.now`'s. No plainer.
+// `from_objectives, from_signs, from_count` stay apart: `expand_level` alone reads them, of a level that is its caller's to write.
 ghost use Rattle.std.specs.Prelude.{◌≡◌, [], ◌≤◌, length, take};
-ghost use Rattle.tables.specs.Table.{table_of, Lent};
 ghost use Rattle.sign_words.specs.Packed.{unpacked, Tidy};
 ghost use Rattle.local_search.specs.Level.{sign_level, TidyLevel, Ascending};
 ghost use Rattle.local_search.specs.Children.{parent_of, Appended, Kept};
@@ -10,8 +12,8 @@ ghost use Rattle.tables.specs.Entries.{listed};
 
 use crate::changes::changes_of;
 use crate::moves::move_to;
-use crate::within::{expand_near, first_flips};
-use local_search::children::first_level;
+use crate::within::{Leeway, Reach, expand_near};
+use local_search::children::{Parent, first_level};
 use local_search::level::copy_objectives;
 use sign_words::words::copy;
 use tables::entries::Entries;
@@ -28,15 +30,13 @@ pub fn expand_row(
     signs: &mut [u64],
     count: usize,
     width: usize,
-    origin: &[u64],
-    flips: usize,
-    most: usize,
+    reach: Reach,
 ) -> usize
     requires { RowExpands (listed table) (length parent.now) (parent_of objective (unpacked (length current.old) parent.now))
         count width (length changes.old) (length objectives.old) (length signs.old) × (length current_row.old ≡ length parent.now) × AtHand (listed table) current.old current_row.old changes.old × Ascending (take count objectives.old)
-        × BoundsFit flips origin.now (length parent.now) (length current.old) × Tidy (length current.old) parent.now }
+        × BoundsFit reach.leeway.flips reach.origin.now (length parent.now) (length current.old) × Tidy (length current.old) parent.now }
     ensures kept { Kept width (sign_level (length parent.now) (length current.old) count objectives.old signs.old)
-        (table_children (listed table.entry) (bounds flips most (unpacked (length current.old) origin.now)) (length current.old)
+        (table_children (listed table.entry) (bounds reach.entry.leeway.flips reach.entry.leeway.most (unpacked (length current.old) reach.entry.origin.now)) (length current.old)
         (parent_of objective (unpacked (length current.old) parent.now)))
         (sign_level (length parent.now) (length current.old) result objectives.new signs.new) result }
     ensures at_hand { AtHand (listed table.entry) current.new current_row.new changes.new }
@@ -45,9 +45,12 @@ pub fn expand_row(
         → TidyLevel (length parent.now) (length current.old) result objectives.new signs.new }
 {
     move_to(table, current, current_row, changes, parent);
-    expand_near(
-        changes, objective, parent, flips, objectives, signs, count, width, current, origin, most,
-    )
+    let at_hand = Parent {
+        objective,
+        changes,
+        row: parent,
+    };
+    expand_near(at_hand, objectives, signs, count, width, current, reach)
 }
 
 // Level 1: all children of the start that are within the bounds, by index.
@@ -59,12 +62,11 @@ pub fn append_row(
     changes: &mut [i64],
     objectives: &mut [i64],
     signs: &mut [u64],
-    flips: usize,
-    most: usize,
+    leeway: Leeway,
 ) -> usize
     requires { RowAppends (listed table) (length start_row.now) (parent_of objective start.now) (length changes.old)
-        (length objectives.old) (length signs.old) × (unpacked (length start.now) start_row.now ≡ start.now) × (flips ≤ length start.now) }
-    ensures appended { Appended [] (table_children (listed table.entry) (bounds flips most start.now)
+        (length objectives.old) (length signs.old) × (unpacked (length start.now) start_row.now ≡ start.now) × (leeway.flips ≤ length start.now) }
+    ensures appended { Appended [] (table_children (listed table.entry) (bounds leeway.flips leeway.most start.now)
         (length start.now)
         (parent_of objective start.now))
         (sign_level (length start_row.now) (length start.now) result objectives.new signs.new) result (length start.now) }
@@ -73,8 +75,13 @@ pub fn append_row(
         → TidyLevel (length start_row.now) (length start.now) result objectives.new signs.new }
 {
     changes_of(table, start, changes);
-    let first = first_flips(flips, most);
-    first_level(changes, objective, start_row, first, objectives, signs)
+    let first = leeway.first_flips();
+    let parent = Parent {
+        objective,
+        changes,
+        row: start_row,
+    };
+    first_level(parent, first, objectives, signs)
 }
 
 // Level k + 1 from level k: the children by parent, then index, the first `width` of them in order.
@@ -90,14 +97,12 @@ pub fn expand_level(
     objectives: &mut [i64],
     signs: &mut [u64],
     width: usize,
-    origin: &[u64],
-    flips: usize,
-    most: usize,
+    reach: Reach,
 ) -> usize
     requires { LevelExpands (listed table) words (length current.old) from_count width from_objectives.now
         from_signs.now (length changes.old) (length objectives.old) (length signs.old) × (length current_row.old ≡ words) × AtHand (listed table) current.old current_row.old changes.old
-        × BoundsFit flips origin.now words (length current.old) × TidyLevel words (length current.old) from_count from_objectives.now from_signs.now }
-    ensures next_level { NextLevel (listed table.entry) (bounds flips most (unpacked (length current.old) origin.now)) (length current.old) width
+        × BoundsFit reach.leeway.flips reach.origin.now words (length current.old) × TidyLevel words (length current.old) from_count from_objectives.now from_signs.now }
+    ensures next_level { NextLevel (listed table.entry) (bounds reach.entry.leeway.flips reach.entry.leeway.most (unpacked (length current.old) reach.entry.origin.now)) (length current.old) width
         (sign_level words (length current.old) from_count from_objectives.now from_signs.now)
         (sign_level words (length current.old) result objectives.new signs.new) result }
     ensures at_hand { AtHand (listed table.entry) current.new current_row.new changes.new }
@@ -120,9 +125,7 @@ pub fn expand_level(
             signs,
             kept,
             width,
-            origin,
-            flips,
-            most,
+            reach,
         );
     }
     kept
@@ -141,14 +144,12 @@ pub fn advance(
     next_objectives: &mut [i64],
     next_signs: &mut [u64],
     width: usize,
-    origin: &[u64],
-    flips: usize,
-    most: usize,
+    reach: Reach,
 ) -> usize
     requires { AdvanceFits (listed table) words (length current.old) count width objectives.old signs.old
-        (length changes.old) (length next_objectives.old) (length next_signs.old) × (length current_row.old ≡ words) × AtHand (listed table) current.old current_row.old changes.old × BoundsFit flips origin.now words (length current.old)
+        (length changes.old) (length next_objectives.old) (length next_signs.old) × (length current_row.old ≡ words) × AtHand (listed table) current.old current_row.old changes.old × BoundsFit reach.leeway.flips reach.origin.now words (length current.old)
         × TidyLevel words (length current.old) count objectives.old signs.old }
-    ensures next_level { NextLevel (listed table.entry) (bounds flips most (unpacked (length current.old) origin.now)) (length current.old) width
+    ensures next_level { NextLevel (listed table.entry) (bounds reach.entry.leeway.flips reach.entry.leeway.most (unpacked (length current.old) reach.entry.origin.now)) (length current.old) width
         (sign_level words (length current.old) count objectives.old signs.old)
         (sign_level words (length current.old) result objectives.new signs.new) result }
     ensures at_hand { AtHand (listed table.entry) current.new current_row.new changes.new }
@@ -167,9 +168,7 @@ pub fn advance(
         next_objectives,
         next_signs,
         width,
-        origin,
-        flips,
-        most,
+        reach,
     );
     let taken = kept * words;
     copy_objectives(objectives, next_objectives, kept);

@@ -1,34 +1,24 @@
 // The changes of one choice from those of another: for each sign in which they differ, the entries of its row.
-ghost use Rattle.std.specs.Prelude.{◌≡◌, ◌*◌, ◌≤◌, ◌<◌, length, pos, nat_abs, ◌*ℤ◌};
+// `current, current_row, changes` stay apart, for the reason at the head of levels.rt.
+ghost use Rattle.std.specs.Prelude.{◌≡◌, ◌*◌, ◌≤◌, ◌<◌, length};
 ghost use Rattle.laws.specs.Lists.{elem};
-ghost use Rattle.limits.specs.Limits.{most_sign_magnitude};
-ghost use Rattle.tables.specs.Table.{table_of, Lent, sign};
 ghost use Rattle.sign_words.specs.Signs.{flip_sign};
 ghost use Rattle.sign_words.specs.Packed.{unpacked, flip_in};
 ghost use Rattle.sign_search.specs.Clauses.{Sound, Changes, AtHand, MoveFits, Climbs, RowStart, Turned, Turns};
 ghost use Rattle.tables.specs.Entries.{listed};
 
-use crate::changes::signed;
+use crate::changes::weighed;
 use local_search::rows::{flip_sign, sign_at};
 use sign_words::distance::sign_apart;
 use sign_words::words::flip_in;
-use tables::check::wide;
 use tables::entries::Entries;
 
 // The first entry of row i or of a later row.
-fn row_start(entries: usize, rows: &[u16], i: usize) -> usize
-    requires { (entries ≤ length rows.now) × Climbs entries (elem rows.now) }
-    ensures { RowStart entries (elem rows.now) i result }
+fn row_start(table: Entries, i: usize) -> usize
+    requires { Climbs table.count (elem table.rows.now) }
+    ensures { RowStart table.entry.count (elem table.entry.rows.now) i result }
 {
-    rows[..entries].partition_point(|row| (*row as usize) < i)
-}
-
-// Eight times a value times both signs.
-fn turned_value(value: i64, x: u8, y: u8) -> i64
-    requires { nat_abs value ≤ most_sign_magnitude }
-    ensures { result ≡ pos 8 *ℤ (sign x *ℤ sign y) *ℤ value }
-{
-    8 * signed(signed(value, x), y)
+    table.rows[..table.count].partition_point(|row| usize::from(*row) < i)
 }
 
 // Adds what the entries of row i bring, where sign i flips.
@@ -44,8 +34,8 @@ fn turn_entries(
     ensures { Turned (listed table.entry) current.now i table.entry.count changes.old changes.new }
 {
     for k in from..to {
-        let j = wide(table.cols[k]);
-        changes[j] += turned_value(table.values[k], sign_at(current, i), sign_at(current, j));
+        let j = usize::from(table.cols[k]);
+        changes[j] += weighed(8, table.values[k], sign_at(current, i), sign_at(current, j));
     }
 }
 
@@ -56,14 +46,15 @@ fn flip_current(table: Entries, i: usize, current: &mut [u8], changes: &mut [i64
         × Changes (listed table.entry) current.new changes.new }
 {
     let own = changes[i];
-    let from = row_start(table.count, table.rows, i);
-    let to = row_start(table.count, table.rows, i + 1);
+    let from = row_start(table, i);
+    let to = row_start(table, i + 1);
     turn_entries(table, i, from, to, current, changes);
     changes[i] = -own;
     flip_sign(current, i);
 }
 
 // Flips sign i of the choice at hand, in bytes and in words, and takes the changes along.
+#[tactic(auto, using(crate::proofs::MoveLaws::hand_flipped))]
 fn flip_at_hand(
     table: Entries,
     i: usize,
@@ -92,10 +83,13 @@ pub fn move_to(
     ensures at_hand { AtHand (listed table.entry) current.new current_row.new changes.new }
 {
     let m = current.len();
-    let mut i = sign_apart(current_row, target, 0);
-    // A `while`: the next sign is found from the words, so that nothing is counted.
-    while i < m {
+    let mut from = 0;
+    // A `while`: the next sign is found from the words, so that nothing is counted. An unused bit is no sign.
+    while let Some(i) = sign_apart(current_row, target, from) {
+        if m <= i {
+            return;
+        }
         flip_at_hand(table, i, current, current_row, changes);
-        i = sign_apart(current_row, target, i + 1);
+        from = i + 1;
     }
 }

@@ -1,5 +1,5 @@
 -- Sums of a sign table's values are bounded by the magnitude of (H, c).
-use mathlib.Core.Path.{◌≡◌, refl, ◌∙◌, ap₂}
+use mathlib.Core.Path.{◌≡◌, ◌∙◌, ap₂}
 use mathlib.Core.Bool.{Bool, true, false, cond}
 use Prim.Native.Nat.{ℕ, ◌+◌, ◌*◌, ◌^◌, ◌<◌, ◌≤◌}
 use native.Mathlib.Nat.{le_trans}
@@ -10,19 +10,13 @@ use lib.Signed.{mag}
 use mir.Syntax.{w64}
 use mir.Val.{SFits, to_z, of_z}
 use mir.Facts.{to_z-of_z}
-use Rattle.laws.specs.Sum.{sum, total, only}
+use Rattle.laws.specs.Sum.{sum, total}
 use Rattle.laws.proofs.Integer.{abs_add, abs_mul, fits_abs, held}
 use Rattle.laws.proofs.Sums.{sum_abs, total_at, total_le, Held, sum_held}
 use Rattle.laws.proofs.Totals.{onlyℕ, total_ext, total_mono, total_add, total_scale, total_swap, total_only}
 use Rattle.tables.specs.Table.{Table, InRange, magnitude_of}
+use Rattle.tables.proofs.Weights.{abs_only}
 use Rattle.sign_table.specs.Walk.{row_term, row_total, Convertible}
-
-pub abs_only : (a b : ℕ) (v : ℤ) → nat_abs (only a b v) ≡ onlyℕ a b (nat_abs v)
-abs_only a b v = go (eqb a b)
-  where
-    go : (t : Bool) → nat_abs (cond t v (pos 0)) ≡ cond t (nat_abs v) 0
-    go true = refl
-    go false = refl
 
 only_le : (a b v : ℕ) → onlyℕ a b v ≤ v
 only_le a b v = go (eqb a b)

@@ -3,6 +3,7 @@ use mathlib.Core.Path.{◌≡◌, refl, sym, ◌∙◌, ap}
 use mathlib.Core.List.{List, [], ◌∷◌, ◌++◌}
 use mathlib.Core.Bool.{Bool, true, false, not, cond}
 use Prim.Native.Nat.{ℕ, suc, ◌+◌, ◌^◌, ◌<◌, ◌≤◌}
+use Rattle.std.specs.Prelude.{Some, None}
 use native.Mathlib.Decide.{dec_lt}
 use native.Mathlib.Omega.{arith}
 use native.Mathlib.Numerals.{add-one}
@@ -21,10 +22,11 @@ use Rattle.tables.specs.Table.{Table, InRange, magnitude_of, value_at}
 use Rattle.sign_table.specs.SignTable.{absorbed, edge, row_places, places, is_zero, sign_kept, kept_of, sign_of, sign_places}
 use Rattle.sign_table.specs.Walk.{At, is_here, here_value, after_here, next_column, row_term, row_total, RowSummed, Wrote, Room, Convertible}
 use Rattle.sign_table.proofs.Costs.{inner, column, row, corner}
-use Rattle.sign_table.proofs.Cursor.{at_start, held_at, Next, next_column_lem, here_value_lem, here_next, row_summed, total_start, row_total_lem}
+use Rattle.sign_table.proofs.Cursor.{at_start, held_at, Next, column_or, next_column_below, next_column_lem, here_value_lem, here_next, row_summed, total_start, row_total_lem}
 use Rattle.tables.proofs.Writing.{wrote_none, wrote_more, wrote_same, wrote_value, wrote_edge, row_more, row_next, row_skip, row_length_lt, row_length_le}
 use Rattle.tables.proofs.Kept.{places_more, places_count, places_le}
-use Rattle.sign_table.proofs.Bounds.{abs_only, row_small, rows_held, rows_abs}
+use Rattle.tables.proofs.Weights.{abs_only}
+use Rattle.sign_table.proofs.Bounds.{row_small, rows_held, rows_abs}
 
 -- ---- which places are kept
 
@@ -83,7 +85,6 @@ here_fits h c i j k small low =
 pub record RowInv (n : ℕ) (h : Table) (c : ℕ → ℤ) (i len k at j : ℕ) (rows cols : List ℕ) (values : List ℤ) (rows' cols' : List ℕ) (values' : List ℤ) : Type 0 where
   pub up : j ≤ n
   pub cursor : At h k i j
-  pub kept : j < n → kept_of n h c i j ≡ true
   pub wrote : Wrote (sign_of n h c) (row_places (kept_of n h c) i 0 j) len rows cols values rows' cols' values'
   pub many : at ≡ len + length (row_places (kept_of n h c) i 0 j)
 
@@ -94,45 +95,47 @@ module _ {n : ℕ} {h : Table} {c : ℕ → ℤ} (v : Convertible n h c) {i : �
   here : {k j e : ℕ} → Next n h c k i j e → e < n → kept_of n h c i e ≡ true
   here {e = e} s b = kept_inner n h c i e below b ∙ s.kept b
 
-  step : {k j : ℕ} → At h k i j → j ≤ n → Next n h c k i j (next_column n h.count h.row h.column c i j k)
+  step : {k j : ℕ} → At h k i j → j ≤ n → Next n h c k i j (column_or n (next_column h.count h.row h.column c i j k))
   step at up = next_column_lem c v.rising v.in_range at below up
 
-  pub row_begin : {len k e : ℕ} {rows cols : List ℕ} {values : List ℤ} → At h k i 0 → e ≡ next_column n h.count h.row h.column c i 0 k
-      → RowInv n h c i len k len e rows cols values rows cols values
+  pub row_begin : {len k : ℕ} {rows cols : List ℕ} {values : List ℤ} → At h k i 0 → RowInv n h c i len k len 0 rows cols values rows cols values
   unfolding row_places
-  row_begin {len} {k} {e} at is =
-      let s : Next n h c k i 0 e = rw is (step at (omega arith)) in
-      let none = row_skip (kept_of n h c) i 0 e (omega arith) (gap s) in
-      record { up = s.high; cursor = s.at; kept = here s; wrote = wrote_same (sym none) wrote_none; many = omega (arith, ap length none) }
+  row_begin at = record { up = omega arith; cursor = at; wrote = wrote_none; many = omega arith }
 
-  module _ {len k at j : ℕ} {rows cols : List ℕ} {values : List ℤ} {rows' cols' : List ℕ} {values' : List ℤ}
-      (inv : RowInv n h c i len k at j rows cols values rows' cols' values') (more : j < n) where
-    pub row_turn : {k' e : ℕ} {z : ℤ} {rows'' cols'' : List ℕ} {values'' : List ℤ} → z ≡ here_value h c i j k → k' ≡ after_here h.count h.row h.column i j k
-        → e ≡ next_column n h.count h.row h.column c i (j + 1) k'
+  module _ {len k at f j : ℕ} {rows cols : List ℕ} {values : List ℤ} {rows' cols' : List ℕ} {values' : List ℤ}
+      (inv : RowInv n h c i len k at f rows cols values rows' cols' values') (some : Some j ≡ next_column h.count h.row h.column c i f k) where
+    found : Next n h c k i f j
+    found = rw (sym some) at (step inv.cursor inv.up)
+
+    pub row_found : (f ≤ j) × (j < n)
+    row_found = (found.low, rw (sym some) at (next_column_below k f c v.in_range below))
+
+    so_far : row_places (kept_of n h c) i 0 j ≡ row_places (kept_of n h c) i 0 f
+    so_far = row_skip (kept_of n h c) i f j found.low (gap found)
+
+    pub row_turn : {k' : ℕ} {z : ℤ} {rows'' cols'' : List ℕ} {values'' : List ℤ} → z ≡ here_value h c i j k → k' ≡ after_here h.count h.row h.column i j k
         → Wrote (λ _ _. z) ((i, j) ∷ []) at rows' cols' values' rows'' cols'' values''
-        → RowInv n h c i len k' (at + 1) e rows cols values rows'' cols'' values'' × (j < e)
-    row_turn {k'} {e} zis kis eis w =
-        let after : At h k' i (j + 1) = rw (kis, add-one j) (here_next v.rising inv.cursor) in
-        let s : Next n h c k' i (j + 1) e = rw eis (step after (omega arith)) in
-        let one = row_next (kept_of n h c) i j e (inv.kept more) (omega (arith, s.low)) (gap s) in
-        let value = zis ∙ here_value_lem v.rising inv.cursor c ∙ sym (inner n (absorbed (value_at h) c) i j below more) in (
-          record {
-            up = s.high;
-            cursor = s.at;
-            kept = here s;
-            wrote = wrote_same (sym one) (wrote_more inv.wrote inv.many (wrote_value w value));
-            many = omega (arith, inv.many, ap length one, length-append (row_places (kept_of n h c) i 0 j) ((i, j) ∷ []));
-          },
-          omega (arith, s.low),
-        )
+        → RowInv n h c i len k' (at + 1) (j + 1) rows cols values rows'' cols'' values''
+    row_turn {k'} zis kis w =
+        let one = row_next (kept_of n h c) i j (j + 1) (here found row_found.1) (omega arith) (λ x a b. absurd (omega arith)) ∙ ap (λ ps. ps ++ ((i, j) ∷ [])) so_far in
+        let value = zis ∙ here_value_lem v.rising found.at c ∙ sym (inner n (absorbed (value_at h) c) i j below row_found.1) in
+        record {
+          up = omega (arith, row_found.1);
+          cursor = rw (kis, add-one j) (here_next v.rising found.at);
+          wrote = wrote_same (sym one) (wrote_more inv.wrote inv.many (wrote_value w value));
+          many = omega (arith, inv.many, ap length one, length-append (row_places (kept_of n h c) i 0 f) ((i, j) ∷ []));
+        }
 
     pub row_room : at + 1 ≤ len + length (row_places (kept_of n h c) i 0 n)
-    row_room = omega (arith, inv.many, row_length_lt (kept_of n h c) i j n more (inv.kept more))
+    row_room = omega (arith, inv.many, ap length so_far, row_length_lt (kept_of n h c) i j n row_found.1 (here found row_found.1))
 
-  pub row_done : {len k at j : ℕ} {rows cols : List ℕ} {values : List ℤ} {rows' cols' : List ℕ} {values' : List ℤ}
-      → RowInv n h c i len k at j rows cols values rows' cols' values' → n ≤ j
+  pub row_done : {len k at f : ℕ} {rows cols : List ℕ} {values : List ℤ} {rows' cols' : List ℕ} {values' : List ℤ}
+      → RowInv n h c i len k at f rows cols values rows' cols' values' → None ≡ next_column h.count h.row h.column c i f k
       → Wrote (sign_of n h c) (row_places (kept_of n h c) i 0 n) len rows cols values rows' cols' values' × (at ≡ len + length (row_places (kept_of n h c) i 0 n))
-  row_done {j = j} inv past = let e : j ≡ n = omega (arith, inv.up) in (rw e at inv.wrote, rw e at inv.many)
+  row_done {k = k} {f = f} inv none =
+      let s : Next n h c k i f n = rw (sym none) at (step inv.cursor inv.up) in
+      let so_far = row_skip (kept_of n h c) i f n inv.up (gap s) in
+      (wrote_same (sym so_far) inv.wrote, omega (arith, inv.many, ap length so_far))
 
   -- the row's last column
   module _ {sum' : ℤ} {next : ℕ} (s : RowSummed h.count h.row h.value (c i) i next sum') where

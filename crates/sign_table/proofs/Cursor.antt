@@ -3,6 +3,7 @@ use mathlib.Core.Path.{◌≡◌, refl, sym, ◌∙◌, ap, ap₂}
 use mathlib.Core.Logic.{inl, inr}
 use mathlib.Core.Bool.{Bool, true, false, not, cond}
 use Prim.Native.Nat.{ℕ, zero, suc, ◌+◌, ◌<◌, ◌≤◌}
+use Rattle.std.specs.Prelude.{Option, Some, None}
 use native.Mathlib.Decide.{ℕ_discrete, dec_lt, dec_le}
 use native.Mathlib.Omega.{arith}
 use borrow.Author.Tests.{eq-eqb, ne_eqb, lt-ltb, le-ltb, le-leb, lt-leb}
@@ -13,7 +14,7 @@ use Rattle.laws.proofs.Any.{never}
 use Rattle.laws.proofs.Sums.{sum_ext, sum_add, sum_only, sum_swap, sum_zero}
 use Rattle.tables.specs.Table.{Table, Before, InRange, Rising, value_at, stored_at}
 use Rattle.sign_table.specs.SignTable.{absorbed, is_zero}
-use Rattle.sign_table.specs.Walk.{At, in_row, is_here, stored_column, next_column, here_value, after_here, row_term, row_total, RowAt, RowSummed}
+use Rattle.sign_table.specs.Walk.{At, in_row, is_here, stored_column, comes_first, next_column, here_value, after_here, row_term, row_total, RowAt, RowSummed}
 use Rattle.tables.proofs.Places.{only_sum}
 use Rattle.tables.proofs.Mirrors.{rises, value_here, stored_here, stored_none, unstored_zero}
 
@@ -164,11 +165,16 @@ record Column (n : ℕ) (h : Table) (k i j s : ℕ) : Type 0 where
   pub is : k < h.count → h.row k ≡ i → s ≡ h.column k
   pub back : s < n → (k < h.count) × (h.row k ≡ i) × (h.column k ≡ s)
 
-stored_column_lem : {n : ℕ} {h : Table} {k i j : ℕ} → Rising h → InRange n h → At h k i j → j ≤ n → Column n h k i j (stored_column n h.count h.row h.column i k)
+-- a column, or the row's end where there is none
+abbrev pub column_or : ℕ → Option ℕ → ℕ
+column_or n None = n
+column_or n (Some j) = j
+
+stored_column_lem : {n : ℕ} {h : Table} {k i j : ℕ} → Rising h → InRange n h → At h k i j → j ≤ n → Column n h k i j (column_or n (stored_column h.count h.row h.column i k))
 unfolding stored_column
 stored_column_lem {n} {h} {k} {i} {j} ri r at up = go (dec_lt k h.count) (ℕ_discrete (h.row k) i)
   where
-    go : Dec (k < h.count) → Dec (h.row k ≡ i) → Column n h k i j (cond (in_row h.count h.row i k) (h.column k) n)
+    go : Dec (k < h.count) → Dec (h.row k ≡ i) → Column n h k i j (column_or n (cond (in_row h.count h.row i k) (Some (h.column k)) None))
     go (yes b) (yes q) =
         rw (lt-ltb k h.count b, eq-eqb (h.row k) i q)
         (record { low = column_ahead ri at b q; high = omega (arith, r.cols_in k b); is = λ _ _. refl; back = λ _. (b, q, refl) })
@@ -190,10 +196,48 @@ pub record Next (n : ℕ) (h : Table) (c : ℕ → ℤ) (k i j e : ℕ) : Type 0
   pub kept : e < n → held_at h c i e ≡ true
   pub at : At h k i e
 
-pub next_column_lem : {n : ℕ} {h : Table} {k i j : ℕ} (c : ℕ → ℤ) → Rising h → InRange n h → At h k i j → i < n → j ≤ n → Next n h c k i j (next_column n h.count h.row h.column c i j k)
-unfolding next_column
-next_column_lem {n} {h} {k} {i} {j} c ri r at below up = go (stored_column n h.count h.row h.column i k) _ (stored_column_lem ri r at up) (stop h c k i j _)
+-- a stored column lies in range, and so does the next kept one
+stored_below : {n : ℕ} {h : Table} {i : ℕ} (k : ℕ) → InRange n h → i < n → column_or 0 (stored_column h.count h.row h.column i k) < n
+unfolding stored_column
+stored_below {n} {h} {i} k r below = go (dec_lt k h.count) (ℕ_discrete (h.row k) i)
   where
+    go : Dec (k < h.count) → Dec (h.row k ≡ i) → column_or 0 (cond (in_row h.count h.row i k) (Some (h.column k)) None) < n
+    go (yes b) (yes q) = rw (lt-ltb k h.count b, eq-eqb (h.row k) i q) (r.cols_in k b)
+    go (yes b) (no q) = rw (lt-ltb k h.count b, ne_eqb (h.row k) i q) (omega arith)
+    go (no b) q = rw (le-ltb k h.count (omega arith)) (omega arith)
+
+pub next_column_below : {n : ℕ} {h : Table} {i : ℕ} (k j : ℕ) (c : ℕ → ℤ) → InRange n h → i < n → column_or 0 (next_column h.count h.row h.column c i j k) < n
+unfolding next_column
+next_column_below {n} {h} {i} k j c r below = go (is_zero (c i)) (leb j i) (stored_column h.count h.row h.column i k) (stored_below k r below)
+  where
+    go : (z l : Bool) (s : Option ℕ) → column_or 0 s < n → column_or 0 (cond z s (cond l (cond (comes_first i s) (Some i) s) s)) < n
+    go true l s b = b
+    go false false s b = b
+    go false true None b = below
+    go false true (Some x) b = pick (ltb i x)
+      where
+        pick : (t : Bool) → column_or 0 (cond t (Some i) (Some x)) < n
+        pick true = below
+        pick false = b
+
+pub next_column_lem : {n : ℕ} {h : Table} {k i j : ℕ} (c : ℕ → ℤ) → Rising h → InRange n h → At h k i j → i < n → j ≤ n
+    → Next n h c k i j (column_or n (next_column h.count h.row h.column c i j k))
+unfolding next_column
+next_column_lem {n} {h} {k} {i} {j} c ri r at below up =
+    let s = stored_column h.count h.row h.column i k in
+    rw (or_end (is_zero (c i)) (leb j i) s) (go (column_or n s) _ (stored_column_lem ri r at up) (stop h c k i j _))
+  where
+    or_end : (z l : Bool) (s : Option ℕ)
+        → column_or n (cond z s (cond l (cond (comes_first i s) (Some i) s) s)) ≡ cond z (column_or n s) (cond l (cond (ltb i (column_or n s)) i (column_or n s)) (column_or n s))
+    or_end true l s = refl
+    or_end false false s = refl
+    or_end false true None = rw (lt-ltb i n below) refl
+    or_end false true (Some x) = pick (ltb i x)
+      where
+        pick : (t : Bool) → column_or n (cond t (Some i) (Some x)) ≡ cond t i x
+        pick true = refl
+        pick false = refl
+
     free : (x s : ℕ) → Column n h k i j s → j ≤ x → x < s → stored_at h i x ≡ false
     free x s col a b = gap_free ri at x a (λ b' r'. omega (arith, col.is b' r'))
 
@@ -248,14 +292,14 @@ row_step count row k i at b r =
     go l m (yes e) = omega (arith, ap row e)
     go l m (no d) = at.behind l (omega arith)
 
--- what a test of entry k says
-pub in_row_true : (count : ℕ) (row : ℕ → ℕ) (i k : ℕ) → in_row count row i k ≡ true → (k < count) × (row k ≡ i)
-in_row_true count row i k e = go (dec_lt k count) (ℕ_discrete (row k) i)
+-- the row is done at the end and where another row starts
+pub in_row_false : (count : ℕ) (row : ℕ → ℕ) (i k : ℕ) → (k < count → row k ≡ i → ⊥) → in_row count row i k ≡ false
+in_row_false count row i k d = go (dec_lt k count) (ℕ_discrete (row k) i)
   where
-    go : Dec (k < count) → Dec (row k ≡ i) → (k < count) × (row k ≡ i)
-    go (yes b) (yes r) = (b, r)
-    go (yes b) (no r) = never (rw (lt-ltb k count b, ne_eqb (row k) i r) at e)
-    go (no b) r = never (rw (le-ltb k count (omega arith)) at e)
+    go : Dec (k < count) → Dec (row k ≡ i) → in_row count row i k ≡ false
+    go (yes b) (yes r) = absurd (d b r)
+    go (yes b) (no r) = rw (lt-ltb k count b, ne_eqb (row k) i r)
+    go (no b) r = rw (le-ltb k count (omega arith))
 
 pub row_end : (h : Table) (k i : ℕ) → Rising h → RowAt h.count h.row k i → in_row h.count h.row i k ≡ false → At h k (suc i) 0
 row_end h k i ri at e =

@@ -7,3 +7,4 @@ pub mod Sizes
 pub mod Theorems
 pub mod Slices
 pub mod Examples
+pub mod MadeTables

@@ -13,7 +13,7 @@ use borrow.Author.Tests.{eqb-true, eq-eqb, ne_eqb, not-false}
 use Rattle.laws.specs.Sum.{sum, sum₂}
 use Rattle.tables.specs.Table.{Table, value_at, stored_at, share, objective_term, objective_of, objective_at, sign_at, Symmetric}
 use Rattle.tables.specs.Cost.{cost_eighths, decoded}
-use Rattle.sign_table.specs.SignTable.{absorbed, sign_value, edge, row_places, places, is_zero, sign_kept, kept_of, sign_of, sign_places, sign_table, listed}
+use Rattle.sign_table.specs.SignTable.{absorbed, sign_value, edge, row_places, places, is_zero, sign_kept, kept_of, sign_of, sign_places, sign_table, stored_table}
 use Rattle.laws.proofs.Sums.{sum_ext}
 use Rattle.tables.proofs.Mirrors.{unstored_zero}
 use Rattle.sign_table.proofs.Costs.{inner, column, row, objective_is_cost}
@@ -57,11 +57,11 @@ module _ (keep : ℕ → ℕ → Bool) (f : ℕ × ℕ → ℤ) where
       sum_over_append (places keep m n) (row_places keep n 0 m) f ∙ ap₂ ◌+ℤ◌ (places_sum m n) (row_sum n 0 m ∙ sum_ext m _ _ (λ x h. rw (zero-add x)))
 
 -- the objective of entries at listed places
-listed_sum : (q : ℕ → ℕ → ℤ) (x : ℕ → ℤ) (ps : List (ℕ × ℕ)) → objective_of (listed q ps) x ≡ sum_over ps (λ p. share p.0 p.1 (x p.0) (x p.1) (q p.0 p.1))
+listed_sum : (q : ℕ → ℕ → ℤ) (x : ℕ → ℤ) (ps : List (ℕ × ℕ)) → objective_of (stored_table q ps) x ≡ sum_over ps (λ p. share p.0 p.1 (x p.0) (x p.1) (q p.0 p.1))
 unfolding sum_over sum
 listed_sum q x [] = refl
 listed_sum q x (p ∷ ps) =
-    sum_front (length ps) (objective_term (listed q (p ∷ ps)) x)
+    sum_front (length ps) (objective_term (stored_table q (p ∷ ps)) x)
     ∙ ap (λ z. share p.0 p.1 (x p.0) (x p.1) (q p.0 p.1) +ℤ z) (listed_sum q x ps)
 
 share_zero : (i j : ℕ) (x y : ℤ) → share i j x y (pos 0) ≡ pos 0
@@ -75,7 +75,7 @@ share_zero i j x y = go (eqb i j) (ltb i j)
 
 pub objective_listed : (keep : ℕ → ℕ → Bool) (q : ℕ → ℕ → ℤ) (m : ℕ) (x : ℕ → ℤ)
     → ((i j : ℕ) → i < m → j < m → keep i j ≡ false → q i j ≡ pos 0)
-    → objective_of (listed q (places keep m m)) x ≡ objective_at m q x
+    → objective_of (stored_table q (places keep m m)) x ≡ objective_at m q x
 unfolding objective_at sum₂
 objective_listed keep q m x zeros =
     listed_sum q x (places keep m m)

@@ -12,47 +12,20 @@ use lib.IntN.{ℤ, pos, neg_ℤ, nat_abs, ◌*ℤ◌}
 use Rattle.laws.specs.Sum.{sum, total, only}
 use Rattle.laws.proofs.Integer.{abs_add, abs_mul, abs_neg}
 use Rattle.laws.proofs.Sums.{sum_abs, total_at}
-use Rattle.laws.proofs.Totals.{onlyℕ, total_zero, total_ext, total_mono, total_add, total_scale, total_const, total_swap, total_only, total₂_suc}
-use Rattle.tables.specs.Table.{Table, InRange, Rising, Mirrored, Symmetric, magnitude_of, value_at, stored_at}
+use Rattle.laws.proofs.Totals.{onlyℕ, total_ext, total_mono, total_add, total_scale, total_const, total_only, total₂_suc}
+use Rattle.tables.specs.Table.{Table, InRange, Rising, Mirrored, magnitude_of, value_at, stored_at}
 use Rattle.tables.specs.Check.{Hall}
-use Rattle.sign_table.specs.SignTable.{absorbed, places, is_zero, kept_of, sign_of, sign_places, sign_table, listed}
+use Rattle.sign_table.specs.SignTable.{absorbed, is_zero, kept_of, sign_of, sign_places, sign_table}
 use Rattle.sign_table.specs.Walk.{row_total, Convertible}
-use Rattle.tables.proofs.Kept.{place_at, place_rise, places_have, row_listed, col_listed, value_listed, places_number, places_magnitude}
+use Rattle.tables.proofs.Kept.{places_range, places_rising, places_mirrored, places_number, places_magnitude}
+use Rattle.tables.proofs.Weights.{kept_le, abs_only, spread, value_le}
 use Rattle.tables.proofs.Mirrors.{stored_true, stored_here, mirrored_symmetric}
 use Rattle.sign_table.proofs.Costs.{inner, column, row, sign_symmetric, absorbed_symmetric}
 use Rattle.sign_table.proofs.Cursor.{held_at, row_total_lem}
 use Rattle.sign_table.proofs.Built.{kept_inner, kept_column, kept_row, kept_corner, corner_total}
-use Rattle.sign_table.proofs.Bounds.{abs_only, rows_abs}
+use Rattle.sign_table.proofs.Bounds.{rows_abs}
 
 -- ---- in range, rising, mirrored
-
-module _ (keep : ℕ → ℕ → Bool) (q : ℕ → ℕ → ℤ) (m : ℕ) where
-  places_range : InRange m (listed q (places keep m m))
-  places_range =
-      record {
-        rows_in = λ k h. rw (row_listed (places keep m m) k) (place_at keep m m k h).0;
-        cols_in = λ k h. rw (col_listed (places keep m m) k) (place_at keep m m k h).1;
-      }
-
-  places_rising : Rising (listed q (places keep m m))
-  places_rising = record {
-    rise = λ k h.
-        rw (row_listed (places keep m m) k, col_listed (places keep m m) k, row_listed (places keep m m) (suc k), col_listed (places keep m m) (suc k)) (place_rise keep m m k h);
-  }
-
-  places_mirrored : ((i j : ℕ) → i < m → j < m → keep i j ≡ true → keep j i ≡ true) → Symmetric m q → Mirrored (listed q (places keep m m))
-  places_mirrored sk sq = record {
-    image = λ k h.
-        let ps = places keep m m in
-        let (a, b, e) = place_at keep m m k h in
-        let (l, below, at) = places_have keep m m _ _ b a (sk _ _ a b e) in (
-          l,
-          below,
-          row_listed ps l ∙ ap (λ p. p.0) at ∙ sym (col_listed ps k),
-          col_listed ps l ∙ ap (λ p. p.1) at ∙ sym (row_listed ps k),
-          value_listed q ps l below ∙ ap (λ p. q p.0 p.1) at ∙ sq.mirror _ _ b a ∙ sym (value_listed q ps k h),
-        );
-  }
 
 held_mirror : (h : Table) (c : ℕ → ℤ) → Mirrored h → (i j : ℕ) → held_at h c i j ≡ true → held_at h c j i ≡ true
 held_mirror h c mi i j e = go (stored_at h i j) refl (ℕ_discrete i j)
@@ -91,20 +64,6 @@ module _ (n : ℕ) (h : Table) (c : ℕ → ℤ) where
       (sign_symmetric n (absorbed (value_at h) c) (absorbed_symmetric n (value_at h) c (mirrored_symmetric ri mi n)))
 
 -- ---- how many entries, and of which magnitude
-
--- what the entries weigh, over the square
-spread : {n : ℕ} {h : Table} → InRange n h → (w : ℕ → ℕ)
-    → total n (λ i. total n (λ j. total h.count (λ l. onlyℕ (h.row l) i (onlyℕ (h.column l) j (w l))))) ≡ total h.count w
-spread {n} {h} r w =
-    total_ext n _ (λ i. total h.count (λ l. total n (λ j. onlyℕ (h.row l) i (onlyℕ (h.column l) j (w l))))) (λ i b.
-    total_swap n h.count (λ j l. onlyℕ (h.row l) i (onlyℕ (h.column l) j (w l))))
-    ∙ total_swap n h.count (λ i l. total n (λ j. onlyℕ (h.row l) i (onlyℕ (h.column l) j (w l))))
-    ∙ total_ext h.count _ w (λ l b.
-    total_ext n _ (λ i. onlyℕ (h.row l) i (w l)) (λ i a. inside (eqb (h.row l) i) l b) ∙ total_only n (h.row l) (λ i. w l) (r.rows_in l b))
-  where
-    inside : (t : Bool) (l : ℕ) → l < h.count → total n (λ j. cond t (onlyℕ (h.column l) j (w l)) 0) ≡ cond t (w l) 0
-    inside true l b = total_only n (h.column l) (λ j. w l) (r.cols_in l b)
-    inside false l b = total_zero n
 
 module _ {n : ℕ} {h : Table} (c : ℕ → ℤ) (r : InRange n h) where
   stored_le : (i j : ℕ) → cond (stored_at h i j) 1 0 ≤ total h.count (λ l. onlyℕ (h.row l) i (onlyℕ (h.column l) j 1))
@@ -168,20 +127,10 @@ module _ {n : ℕ} {h : Table} (c : ℕ → ℤ) (r : InRange n h) where
 
   -- ---- the magnitude: at most four times that of (H, c)
 
-  value_le : (i j : ℕ) → nat_abs (value_at h i j) ≤ total h.count (λ l. onlyℕ (h.row l) i (onlyℕ (h.column l) j (nat_abs (h.value l))))
-  unfolding value_at
-  value_le i j =
-      le_trans (sum_abs h.count (λ l. only (h.row l) i (only (h.column l) j (h.value l))))
-      (omega (
-        arith,
-        total_ext h.count _ (λ l. onlyℕ (h.row l) i (onlyℕ (h.column l) j (nat_abs (h.value l)))) (λ l b.
-            abs_only (h.row l) i (only (h.column l) j (h.value l)) ∙ ap (onlyℕ (h.row l) i) (abs_only (h.column l) j (h.value l))),
-      ))
-
   absorbed_le : (i j : ℕ) → nat_abs (absorbed (value_at h) c i j) ≤ total h.count (λ l. onlyℕ (h.row l) i (onlyℕ (h.column l) j (nat_abs (h.value l)))) + onlyℕ i j (2 * nat_abs (c i))
   unfolding absorbed
   absorbed_le i j =
-      omega (arith, abs_add (value_at h i j) (only i j (pos 2 *ℤ c i)), value_le i j, abs_only i j (pos 2 *ℤ c i) ∙ ap (onlyℕ i j) (abs_mul (pos 2) (c i)))
+      omega (arith, abs_add (value_at h i j) (only i j (pos 2 *ℤ c i)), value_le h i j, abs_only i j (pos 2 *ℤ c i) ∙ ap (onlyℕ i j) (abs_mul (pos 2) (c i)))
 
   inner_magnitude : total n (λ i. total n (λ j. nat_abs (absorbed (value_at h) c i j))) ≤ magnitude_of h + 2 * total n (λ i. nat_abs (c i))
   inner_magnitude =
@@ -195,10 +144,6 @@ module _ {n : ℕ} {h : Table} (c : ℕ → ℤ) (r : InRange n h) where
         diagonal (λ i. 2 * nat_abs (c i)),
         total_scale n 2 (λ i. nat_abs (c i)),
       ))
-
-  kept_le : (t : Bool) (x : ℕ) → cond t x 0 ≤ x
-  kept_le true x = omega arith
-  kept_le false x = omega arith
 
   edge_magnitude : (f : ℕ → ℤ) → ((i : ℕ) → i < n → f i ≡ neg_ℤ (sum n (absorbed (value_at h) c i))) → total n (λ i. nat_abs (f i)) ≤ magnitude_of h + 2 * total n (λ i. nat_abs (c i))
   edge_magnitude f is =

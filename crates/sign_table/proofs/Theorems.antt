@@ -7,10 +7,10 @@ use lib.ListN.{take}
 use lib.IntN.{ℤ}
 use lib.Signed.{◌≤ℤ◌}
 use Rattle.limits.specs.Limits.{most_wagons, most_entries, most_magnitude, most_signs, most_sign_entries, most_sign_magnitude}
-use Rattle.tables.specs.Table.{Table, Symmetric, value_at, sign_at, objective_of, floor_of}
+use Rattle.tables.specs.Table.{Table, value_at, sign_at, objective_of, floor_of}
 use Rattle.tables.specs.Cost.{cost_eighths, decoded, choice_at}
 use Rattle.tables.specs.Check.{Hall, Accepted}
-use Rattle.tables.proofs.Mirrors.{mirrored_symmetric}
+use Rattle.tables.proofs.Mirrors.{hall_symmetric}
 use Rattle.tables.proofs.Theorems.{floor_le_objective}
 use Rattle.tables.proofs.Choices.{choice_cost}
 use Rattle.sign_table.specs.SignTable.{sign_table}
@@ -31,12 +31,9 @@ module _ {most capacity limit n : ℕ} {h : Table} {c : ℕ → ℤ} (ok : Hall 
         magnitude = omega (arith, sign_magnitude c ok.in_range, ok.magnitude);
       }
 
-  symmetric : Symmetric n (value_at h)
-  symmetric = mirrored_symmetric ok.rising ok.mirrored n
-
   -- its objective at any signs is eight times the cost of what they decode to
   pub objective_cost : (signs : List ℕ) → objective_of (sign_table n h c) (sign_at signs) ≡ cost_eighths n (value_at h) c (decoded n signs)
-  objective_cost signs = table_objective_is_cost n h c signs symmetric
+  objective_cost signs = table_objective_is_cost n h c signs (hall_symmetric ok)
 
   -- its floor is at most the cost of whatever signs decode to, hence of every choice
   pub floor_le_cost : (signs : List ℕ) → floor_of (sign_table n h c) ≤ℤ cost_eighths n (value_at h) c (decoded n signs)

@@ -1,3 +1,4 @@
 pub mod SignTable
 pub mod Walk
 pub mod Clauses
+pub mod Made

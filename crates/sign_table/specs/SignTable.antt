@@ -4,7 +4,7 @@ use Rattle.std.specs.Prelude.{List, Bool, true, false, not, cond, ℕ, suc, eqb,
 use Rattle.laws.specs.Sum.{sum, sum₂, only}
 use Rattle.tables.specs.Table.{Table, value_at, stored_at}
 unfoldable pub use Rattle.tables.specs.Stored.{row_places, places}
-pub use Rattle.tables.specs.Stored.{edge, rows_of, cols_of, values_of, listed}
+pub use Rattle.tables.specs.Stored.{edge, rows_of, cols_of, values_of, stored_table}
 
 -- `absorb_linear_terms_into_hessian`: 2·c_i is added at (i, i)
 unfoldable pub absorbed : (ℕ → ℕ → ℤ) → (ℕ → ℤ) → ℕ → ℕ → ℤ
@@ -37,4 +37,4 @@ unfoldable pub sign_places : ℕ → Table → (ℕ → ℤ) → List (ℕ × �
 sign_places n h c = places (kept_of n h c) (suc n) (suc n)
 
 abbrev pub sign_table : ℕ → Table → (ℕ → ℤ) → Table
-sign_table n h c = listed (sign_of n h c) (sign_places n h c)
+sign_table n h c = stored_table (sign_of n h c) (sign_places n h c)

@@ -1,5 +1,5 @@
 -- How the conversion walks the entries of (H, c) and writes those of the sign table.
-use Rattle.std.specs.Prelude.{Bool, false, cond, ◌≡◌, ℕ, ◌+◌, ◌*◌, ◌^◌, ◌<◌, ◌≤◌, eqb, leb, ltb, ℤ, pos, nat_abs, ◌+ℤ◌, ◌*ℤ◌}
+use Rattle.std.specs.Prelude.{Bool, true, false, Option, Some, None, cond, ◌≡◌, ℕ, ◌+◌, ◌*◌, ◌^◌, ◌<◌, ◌≤◌, eqb, leb, ltb, ℤ, pos, nat_abs, ◌+ℤ◌, ◌*ℤ◌}
 use Rattle.laws.specs.Sum.{sum, total, only}
 use Rattle.tables.specs.Table.{Table, Before, InRange, Rising, magnitude_of}
 use Rattle.sign_table.specs.SignTable.{is_zero}
@@ -18,14 +18,20 @@ in_row count row i k = cond (ltb k count) (eqb (row k) i) false
 abbrev pub is_here : ℕ → (ℕ → ℕ) → (ℕ → ℕ) → ℕ → ℕ → ℕ → Bool
 is_here count row column i j k = cond (in_row count row i k) (eqb (column k) j) false
 
--- the next kept column of row i, from j on, where entry k is the next; n where there is none
-unfoldable pub stored_column : ℕ → ℕ → (ℕ → ℕ) → (ℕ → ℕ) → ℕ → ℕ → ℕ
-stored_column n count row column i k = cond (in_row count row i k) (column k) n
+-- the column of entry k, if it is of row i
+unfoldable pub stored_column : ℕ → (ℕ → ℕ) → (ℕ → ℕ) → ℕ → ℕ → Option ℕ
+stored_column count row column i k = cond (in_row count row i k) (Some (column k)) None
 
-unfoldable pub next_column : ℕ → ℕ → (ℕ → ℕ) → (ℕ → ℕ) → (ℕ → ℤ) → ℕ → ℕ → ℕ → ℕ
-next_column n count row column c i j k =
-    let stored = stored_column n count row column i k in
-    cond (is_zero (c i)) stored (cond (leb j i) (cond (ltb i stored) i stored) stored)
+-- column i comes first: the other is behind it, or there is none
+abbrev pub comes_first : ℕ → Option ℕ → Bool
+comes_first i None = true
+comes_first i (Some j) = ltb i j
+
+-- the next kept column of row i, from j on, where entry k is the next, if there is one
+unfoldable pub next_column : ℕ → (ℕ → ℕ) → (ℕ → ℕ) → (ℕ → ℤ) → ℕ → ℕ → ℕ → Option ℕ
+next_column count row column c i j k =
+    let stored = stored_column count row column i k in
+    cond (is_zero (c i)) stored (cond (leb j i) (cond (comes_first i stored) (Some i) stored) stored)
 
 -- the absorbed value at (i, j), and the entry after
 abbrev pub here_value : Table → (ℕ → ℤ) → ℕ → ℕ → ℕ → ℤ

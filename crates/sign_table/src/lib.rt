@@ -1,5 +1,6 @@
 // The sign table of (H, c).
 #![tactic(auto)]
 
-pub mod absorb;
+mod absorb;
+pub mod made;
 pub mod sign_matrix;

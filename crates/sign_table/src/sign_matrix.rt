@@ -1,7 +1,8 @@
 // `qubo_hessian_to_sign_matrix`, of the absorbed table, in one walk of the entries of H.
+// The slices that are written stay apart: tried as a struct in `reduced`, where it is proved, but each function has three clauses more, on names.
 ghost use Rattle.std.specs.Prelude.{◌≡◌, not, [], ◌∷◌, suc, ◌+◌, ◌*◌, ◌≤◌, ◌<◌, ◌^◌, length, nat_abs, neg_ℤ};
 ghost use Rattle.laws.specs.Lists.{elem_z};
-ghost use Rattle.tables.specs.Table.{table_of};
+ghost use Rattle.tables.specs.Entries.{listed};
 ghost use Rattle.sign_table.specs.SignTable.{is_zero, edge, row_places, kept_of, sign_places};
 ghost use Rattle.sign_table.specs.Walk.{Wrote, Room};
 ghost use Rattle.sign_table.specs.Clauses.{Fits, RowFits, wagon_rows, anchor_row, Put, PutAll, RowPut, AnchorPut};
@@ -49,12 +50,10 @@ fn put_negated(
 }
 
 // Row i up to column n, which starts with entry `start`.
+// The clauses alone speak of n. Tried as a ghost value: callers pick one from the call's arguments, which n would then not be among.
 fn put_row(
     n: usize,
-    count: usize,
-    rows: &[u16],
-    cols: &[u16],
-    values: &[i64],
+    table: Entries,
     c: &[i64],
     i: usize,
     start: usize,
@@ -63,26 +62,21 @@ fn put_row(
     to_values: &mut [i64],
     len: usize,
 ) -> usize
-    requires { RowFits n count rows.now cols.now values.now c.now i start n len to_rows.old to_cols.old to_values.old }
-    ensures { Put n (table_of count rows.now cols.now values.now) (elem_z c.now)
-        (row_places (kept_of n (table_of count rows.now cols.now values.now) (elem_z c.now)) i 0 n) len
+    requires { RowFits n table.count table.rows.now table.cols.now table.values.now c.now i start n len to_rows.old to_cols.old to_values.old }
+    ensures { Put n (listed table.entry) (elem_z c.now)
+        (row_places (kept_of n (listed table.entry) (elem_z c.now)) i 0 n) len
         to_rows.old to_cols.old to_values.old to_rows.new to_cols.new to_values.new result }
 {
     let mut k = start;
     let mut at = len;
-    let mut j = next_column(n, count, rows, cols, c, i, 0, start);
-    let table = Entries {
-        count,
-        rows,
-        cols,
-        values,
-    };
-    while j < n {
+    let mut from = 0;
+    // From one kept column to the next, which is found in the entries: no range.
+    while let Some(j) = next_column(table, c, i, from, k) {
         let value = here_value(table, c, i, j, k);
         put(to_rows, to_cols, to_values, at, i, j, value);
         at += 1;
-        k = after_here(count, rows, cols, i, j, k);
-        j = next_column(n, count, rows, cols, c, i, j + 1, k);
+        k = after_here(table, i, j, k);
+        from = j + 1;
     }
     at
 }
@@ -96,10 +90,7 @@ pub struct RowEnd {
 // Row i whole.
 fn put_whole_row(
     n: usize,
-    count: usize,
-    rows: &[u16],
-    cols: &[u16],
-    values: &[i64],
+    table: Entries,
     c: &[i64],
     i: usize,
     start: usize,
@@ -108,16 +99,14 @@ fn put_whole_row(
     to_values: &mut [i64],
     len: usize,
 ) -> RowEnd
-    requires { RowFits n count rows.now cols.now values.now c.now i start (suc n) len to_rows.old to_cols.old to_values.old }
-    ensures { RowPut n (table_of count rows.now cols.now values.now) (elem_z c.now) i len
+    requires { RowFits n table.count table.rows.now table.cols.now table.values.now c.now i start (suc n) len to_rows.old to_cols.old to_values.old }
+    ensures { RowPut n (listed table.entry) (elem_z c.now) i len
         to_rows.old to_cols.old to_values.old to_rows.new to_cols.new to_values.new result.len result.next }
 {
-    let s = row_sum(count, rows, values, c, i, start);
+    let s = row_sum(table, c, i, start);
     let sum = s.sum;
     let next = s.next;
-    let at = put_row(
-        n, count, rows, cols, values, c, i, start, to_rows, to_cols, to_values, len,
-    );
+    let at = put_row(n, table, c, i, start, to_rows, to_cols, to_values, len);
     let end = put_negated(to_rows, to_cols, to_values, at, i, n, sum);
     RowEnd { next, len: end }
 }
@@ -125,27 +114,22 @@ fn put_whole_row(
 // The rows of H.
 fn put_rows(
     n: usize,
-    count: usize,
-    rows: &[u16],
-    cols: &[u16],
-    values: &[i64],
+    table: Entries,
     c: &[i64],
     to_rows: &mut [u16],
     to_cols: &mut [u16],
     to_values: &mut [i64],
 ) -> usize
-    requires { Fits n count rows.now cols.now values.now c.now 0 (length (wagon_rows n (table_of count rows.now cols.now values.now) (elem_z c.now)))
+    requires { Fits n table.count table.rows.now table.cols.now table.values.now c.now 0 (length (wagon_rows n (listed table) (elem_z c.now)))
         to_rows.old to_cols.old to_values.old }
-    ensures { PutAll n (table_of count rows.now cols.now values.now) (elem_z c.now)
-        (wagon_rows n (table_of count rows.now cols.now values.now) (elem_z c.now))
+    ensures { PutAll n (listed table.entry) (elem_z c.now)
+        (wagon_rows n (listed table.entry) (elem_z c.now))
         to_rows.old to_cols.old to_values.old to_rows.new to_cols.new to_values.new result }
 {
     let mut k = 0;
     let mut at = 0;
     for i in 0..n {
-        let end = put_whole_row(
-            n, count, rows, cols, values, c, i, k, to_rows, to_cols, to_values, at,
-        );
+        let end = put_whole_row(n, table, c, i, k, to_rows, to_cols, to_values, at);
         k = end.next;
         at = end.len;
     }
@@ -161,26 +145,23 @@ pub struct LastRow {
 // The last row up to its diagonal, and the sum of all rows.
 fn put_last_row(
     n: usize,
-    count: usize,
-    rows: &[u16],
-    cols: &[u16],
-    values: &[i64],
+    table: Entries,
     c: &[i64],
     to_rows: &mut [u16],
     to_cols: &mut [u16],
     to_values: &mut [i64],
     len: usize,
 ) -> LastRow
-    requires { Fits n count rows.now cols.now values.now c.now len (length (anchor_row n (table_of count rows.now cols.now values.now) (elem_z c.now)))
+    requires { Fits n table.count table.rows.now table.cols.now table.values.now c.now len (length (anchor_row n (listed table) (elem_z c.now)))
         to_rows.old to_cols.old to_values.old }
-    ensures { AnchorPut n (table_of count rows.now cols.now values.now) (elem_z c.now) len
+    ensures { AnchorPut n (listed table.entry) (elem_z c.now) len
         to_rows.old to_cols.old to_values.old to_rows.new to_cols.new to_values.new result.len result.total }
 {
     let mut k = 0;
     let mut at = len;
     let mut total: i64 = 0;
     for i in 0..n {
-        let s = row_sum(count, rows, values, c, i, k);
+        let s = row_sum(table, c, i, k);
         let sum = s.sum;
         at = put_negated(to_rows, to_cols, to_values, at, n, i, sum);
         total += sum;
@@ -190,26 +171,22 @@ fn put_last_row(
 }
 
 // The sign table of (H, c), from the first places of the slices on; how many entries it has.
+// It takes no `JudgedHall`, which would ask more of callers: `Fits` holds for unmirrored entries and a magnitude up to 2^60 too.
 pub fn sign_matrix(
     n: usize,
-    count: usize,
-    rows: &[u16],
-    cols: &[u16],
-    values: &[i64],
+    table: Entries,
     c: &[i64],
     to_rows: &mut [u16],
     to_cols: &mut [u16],
     to_values: &mut [i64],
 ) -> usize
-    requires { Fits n count rows.now cols.now values.now c.now 0 (count + 3 * n + 1) to_rows.old to_cols.old to_values.old }
-    ensures { PutAll n (table_of count rows.now cols.now values.now) (elem_z c.now)
-        (sign_places n (table_of count rows.now cols.now values.now) (elem_z c.now))
+    requires { Fits n table.count table.rows.now table.cols.now table.values.now c.now 0 (table.count + 3 * n + 1) to_rows.old to_cols.old to_values.old }
+    ensures { PutAll n (listed table.entry) (elem_z c.now)
+        (sign_places n (listed table.entry) (elem_z c.now))
         to_rows.old to_cols.old to_values.old to_rows.new to_cols.new to_values.new result }
 {
-    let len = put_rows(n, count, rows, cols, values, c, to_rows, to_cols, to_values);
-    let last = put_last_row(
-        n, count, rows, cols, values, c, to_rows, to_cols, to_values, len,
-    );
+    let len = put_rows(n, table, c, to_rows, to_cols, to_values);
+    let last = put_last_row(n, table, c, to_rows, to_cols, to_values, len);
     let at = last.len;
     let total = last.total;
     put(to_rows, to_cols, to_values, at, n, n, total);

@@ -13,7 +13,8 @@ use Rattle.laws.specs.Lists.{elem}
 use Rattle.laws.proofs.Made.{below_or_not}
 use Rattle.sign_words.specs.Packed.{digit, sign_in, flip_in}
 use Rattle.sign_words.specs.Signs.{flip_byte}
-use Rattle.sign_words.specs.Distance.{BitApart, SignApart}
+use Rattle.std.specs.Prelude.{Some, None}
+use Rattle.sign_words.specs.Distance.{BitApart, SignApart, none, first}
 use Rattle.sign_words.proofs.Digits.{next_digit, digit_lt, digit_xor}
 use Rattle.sign_words.proofs.PackedLaws.{sign_at_lem, sign_lt, equal_or_not, flipped_here, flipped_there}
 
@@ -78,43 +79,36 @@ module _ (a b from : ℕ) where
       (sym (digit_xor a b j) ∙ ap (digit (bit_xor a b)) (sym back) ∙ sym (shifted_digit (bit_xor a b) from (j - from))
       ∙ below_lowest 64 (bit_xor a b / 2 ^ from) (j - from) (omega arith))
 
-  pub apart_inside : from + run < 64 → BitApart a b from (from + run)
-  apart_inside h = record {
-    from_on = omega arith;
-    inside = omega arith;
-    same = run_same;
-    apart =
-        λ _. some_differ (digit a (from + run)) (digit b (from + run)) (digit_lt a (from + run)) (digit_lt b (from + run))
-        (sym (digit_xor a b (from + run)) ∙ sym (shifted_digit (bit_xor a b) from run) ∙ lowest 64 (bit_xor a b / 2 ^ from) (omega arith));
-  }
+  pub apart_inside : from + run < 64 → BitApart a b from (Some (from + run))
+  apart_inside h =
+      first (from + run) (omega arith) h run_same
+      (some_differ (digit a (from + run)) (digit b (from + run)) (digit_lt a (from + run)) (digit_lt b (from + run))
+      (sym (digit_xor a b (from + run)) ∙ sym (shifted_digit (bit_xor a b) from run) ∙ lowest 64 (bit_xor a b / 2 ^ from) (omega arith)))
 
-  pub apart_nowhere : from < 64 → 64 ≤ from + run → BitApart a b from 64
-  apart_nowhere p h = record {
-    from_on = omega arith;
-    inside = omega arith;
-    same = λ j q l. run_same j q (omega arith);
-    apart = λ q. absurd (omega arith);
-  }
+  pub apart_nowhere : 64 ≤ from + run → BitApart a b from None
+  apart_nowhere h = none (λ j p q. run_same j p (omega arith))
 
 -- ---- two choices, from sign i of word k on
 
-module _ (a b : List ℕ) (from i k r : ℕ) (word : k ≡ i / 64) (bit : BitApart (elem a k) (elem b k) (i % 64) r) where
-  pub same_on : ((j : ℕ) → from ≤ j → j < i → sign_in a j ≡ sign_in b j) → (j : ℕ) → from ≤ j → j < 64 * k + r → sign_in a j ≡ sign_in b j
-  same_on so_far j p q = ⊎_elim (so_far j p) here (below_or_not j i)
+module _ (a b : List ℕ) (from i k : ℕ) (word : k ≡ i / 64) (so_far : (j : ℕ) → from ≤ j → j < i → sign_in a j ≡ sign_in b j) where
+  same_to : (r : ℕ) → r ≤ 64 → ((j : ℕ) → i % 64 ≤ j → j < r → digit (elem a k) j ≡ digit (elem b k) j)
+      → (j : ℕ) → from ≤ j → j < 64 * k + r → sign_in a j ≡ sign_in b j
+  same_to r few same j p q = ⊎_elim (so_far j p) here (below_or_not j i)
     where
       here : i ≤ j → sign_in a j ≡ sign_in b j
       here h =
           let back : 64 * k + (j - 64 * k) ≡ j = omega arith in
-          let low : j - 64 * k < 64 = omega (arith, bit.inside) in
+          let low : j - 64 * k < 64 = omega arith in
           subst (λ (l : ℕ). sign_in a l ≡ sign_in b l) back
-          (sign_at_lem a k (j - 64 * k) low ∙ bit.same (j - 64 * k) (omega arith) (omega arith) ∙ sym (sign_at_lem b k (j - 64 * k) low))
+          (sign_at_lem a k (j - 64 * k) low ∙ same (j - 64 * k) (omega arith) (omega arith) ∙ sym (sign_at_lem b k (j - 64 * k) low))
 
-  pub found : ((j : ℕ) → from ≤ j → j < i → sign_in a j ≡ sign_in b j) → from ≤ i → r < 64 → SignApart a b from (64 * k + r)
-  found so_far p low = record {
-    from_on = omega (arith, bit.from_on);
-    same = same_on so_far;
-    apart = λ _ e. bit.apart low (sym (sign_at_lem a k r low) ∙ e ∙ sign_at_lem b k r low);
-  }
+  pub same_on : BitApart (elem a k) (elem b k) (i % 64) None → (j : ℕ) → from ≤ j → j < 64 * k + 64 → sign_in a j ≡ sign_in b j
+  same_on (none same) = same_to 64 (omega arith) same
+
+  pub found : {r : ℕ} → from ≤ i → i < 64 * length a → BitApart (elem a k) (elem b k) (i % 64) (Some r) → SignApart a b from (Some (64 * k + r))
+  found p inside (first r onward low same other) =
+      first (64 * k + r) (omega arith) (omega arith) (same_to r (omega arith) same)
+      (λ e. other (sym (sign_at_lem a k r low) ∙ e ∙ sign_at_lem b k r low))
 
 -- ---- a sign in which two choices differ, flipped in one of them
 
@@ -128,15 +122,25 @@ other_sign (suc zero) (suc zero) p q d = absurd (d refl)
 other_sign (suc zero) (suc (suc b)) p q d = absurd (omega arith)
 other_sign (suc (suc a)) b p q d = absurd (omega arith)
 
-pub apart_flipped : (a a' b : List ℕ) (i r : ℕ) → i < 64 * length a → a' ≡ flip_in i a → SignApart a b 0 i → SignApart a' b (i + 1) r → SignApart a' b 0 r
-apart_flipped a a' b i r inside e p q = record { from_on = omega arith; same = λ j _. go j; apart = q.apart }
-  where
-    here : (j : ℕ) → j < suc i → sign_in (flip_in i a) j ≡ sign_in b j
-    here j l =
-        ⊎_elim
-        (λ (e : j ≡ i). rw e (flipped_here i a inside ∙ other_sign (sign_in a i) (sign_in b i) (sign_lt a i) (sign_lt b i) (p.apart inside)))
-        (λ (d : j ≡ i → ⊥). flipped_there i a inside j d ∙ p.same j (omega arith) (omega arith))
-        (equal_or_not j i)
+-- what is known of the sign that is found
+pub apart_at : (a b : List ℕ) {from i : ℕ} → SignApart a b from (Some i) → (from ≤ i) × (i < 64 * length a)
+apart_at a b (first i onward inside same other) = (onward, inside)
 
-    go : (j : ℕ) → j < r → sign_in a' j ≡ sign_in b j
-    go j h = ⊎_elim (λ (l : j < suc i). ap (λ (w : List ℕ). sign_in w j) e ∙ here j l) (λ (l : suc i ≤ j). q.same j (omega arith) h) (below_or_not j (suc i))
+module _ (a b : List ℕ) (from : ℕ) (so_far : (j : ℕ) → j < from → sign_in a j ≡ sign_in b j) where
+  before : (m : ℕ) → ((j : ℕ) → from ≤ j → j < m → sign_in a j ≡ sign_in b j) → (j : ℕ) → j < m → sign_in a j ≡ sign_in b j
+  before m same j h = ⊎_elim (so_far j) (λ (l : from ≤ j). same j l h) (below_or_not j from)
+
+  pub apart_flipped : (a' : List ℕ) {i : ℕ} → a' ≡ flip_in i a → SignApart a b from (Some i) → (j : ℕ) → j < i + 1 → sign_in a' j ≡ sign_in b j
+  apart_flipped a' e (first i onward inside same other) j l =
+      ap (λ (w : List ℕ). sign_in w j) e
+      ∙ ⊎_elim
+      (λ (q : j ≡ i). rw q (flipped_here i a inside ∙ other_sign (sign_in a i) (sign_in b i) (sign_lt a i) (sign_lt b i) other))
+      (λ (d : j ≡ i → ⊥). flipped_there i a inside j d ∙ before i same j (omega arith))
+      (equal_or_not j i)
+
+  -- in front of it no sign differs
+  pub same_before : {i : ℕ} → SignApart a b from (Some i) → (j : ℕ) → j < i → sign_in a j ≡ sign_in b j
+  same_before (first i onward inside same other) = before i same
+
+  pub same_all : SignApart a b from None → (j : ℕ) → j < 64 * length a → sign_in a j ≡ sign_in b j
+  same_all (none same) = before (64 * length a) same

@@ -1,5 +1,5 @@
 -- How far two choices are apart, and where.
-use Rattle.std.specs.Prelude.{ℕ, ◌*◌, ◌≤◌, ◌<◌, cond, List, ◌≡◌, eqb, length}
+use Rattle.std.specs.Prelude.{ℕ, ◌*◌, ◌≤◌, ◌<◌, cond, List, ◌≡◌, eqb, length, Option, Some, None}
 use Rattle.std.specs.Int.Bits.{bit_xor}
 use Rattle.std.specs.Int.Count.{ones}
 use Rattle.laws.specs.Lists.{elem}
@@ -15,15 +15,15 @@ ones_apart n a b = total n (λ k. ones (bit_xor (elem a k) (elem b k)))
 unfoldable pub places_apart : List ℕ → List ℕ → ℕ
 places_apart x y = total (length x) (λ i. cond (eqb (sign_digit (elem x i)) (sign_digit (elem y i))) 0 1)
 
--- r is the first bit from `from` on in which two words differ, 64 where there is none
-pub record BitApart (a b from r : ℕ) : Type 0 where
-  pub from_on : from ≤ r
-  pub inside : r ≤ 64
-  pub same : (j : ℕ) → from ≤ j → j < r → digit a j ≡ digit b j
-  pub apart : r < 64 → digit a r ≡ digit b r → ⊥
+-- the first place from `from` on and before m where f and g differ, if there is one; those in front of it are the same
+pub data FirstApart (f g : ℕ → ℕ) (from m : ℕ) : Option ℕ → Type 0 where
+  none : ((j : ℕ) → from ≤ j → j < m → f j ≡ g j) → FirstApart f g from m None
+  first : (r : ℕ) → from ≤ r → r < m → ((j : ℕ) → from ≤ j → j < r → f j ≡ g j) → (f r ≡ g r → ⊥) → FirstApart f g from m (Some r)
 
--- r is the first sign from `from` on in which two choices differ; where there is none, it is behind the last
-pub record SignApart (a b : List ℕ) (from r : ℕ) : Type 0 where
-  pub from_on : from ≤ r
-  pub same : (j : ℕ) → from ≤ j → j < r → sign_in a j ≡ sign_in b j
-  pub apart : r < 64 * length a → sign_in a r ≡ sign_in b r → ⊥
+-- the first bit from `from` on in which two words differ
+abbrev pub BitApart : ℕ → ℕ → ℕ → Option ℕ → Type 0
+BitApart a b from = FirstApart (digit a) (digit b) from 64
+
+-- the first sign from `from` on in which two choices differ
+abbrev pub SignApart : List ℕ → List ℕ → ℕ → Option ℕ → Type 0
+SignApart a b from = FirstApart (sign_in a) (sign_in b) from (64 * length a)

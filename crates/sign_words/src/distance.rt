@@ -31,17 +31,17 @@ pub fn distance(a: &[u64], b: &[u64]) -> u64
     sum
 }
 
-// The first bit from `from` on in which two words differ; 64 where there is none.
-fn bit_apart(a: u64, b: u64, from: usize) -> usize
+// The first bit from `from` on in which two words differ.
+fn bit_apart(a: u64, b: u64, from: usize) -> Option<usize>
     requires { from < 64 }
     ensures { BitApart a b from result }
 {
     let r = from + u64::trailing_zeros((a ^ b) >> from) as usize;
-    if r < 64 { r } else { 64 }
+    if r < 64 { Some(r) } else { None }
 }
 
-// The first sign from `from` on in which two choices differ; behind the last where there is none. Words that are the same are passed over whole.
-pub fn sign_apart(a: &[u64], b: &[u64], from: usize) -> usize
+// The first sign from `from` on in which two choices differ. Words that are the same are passed over whole.
+pub fn sign_apart(a: &[u64], b: &[u64], from: usize) -> Option<usize>
     requires { (length a.now ≡ length b.now) × (length a.now < 65536) × (from ≤ 64 * length a.now) }
     ensures { SignApart a.now b.now from result }
 {
@@ -50,11 +50,10 @@ pub fn sign_apart(a: &[u64], b: &[u64], from: usize) -> usize
     // A `while`: how far each turn goes on is found from the words, so that nothing is counted.
     while i < end {
         let k = i / 64;
-        let r = bit_apart(a[k], b[k], i % 64);
-        i = 64 * k + r;
-        if r < 64 {
-            return i;
+        if let Some(r) = bit_apart(a[k], b[k], i % 64) {
+            return Some(64 * k + r);
         }
+        i = 64 * k + 64;
     }
-    i
+    None
 }

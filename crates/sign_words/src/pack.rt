@@ -10,13 +10,7 @@ use crate::words::sign_in;
 fn sign_bit(signs: &[u8], i: usize) -> u64
     ensures { result ≡ sign_digit (elem signs.now i) }
 {
-    if i < signs.len() {
-        if signs[i] == 0 {
-            return 0;
-        }
-        return 1;
-    }
-    0
+    u64::from(i < signs.len() && signs[i] != 0)
 }
 
 // Word k of the signs.

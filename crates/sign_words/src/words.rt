@@ -1,4 +1,4 @@
-// One sign of a choice in words.
+// One sign of a choice in words, and a copy of words.
 ghost use Rattle.std.specs.Prelude.{◌≡◌, ◌*◌, ◌^◌, ◌<◌, length};
 ghost use Rattle.sign_words.specs.Packed.{digit, sign_in, flip_in, Flipped};
 
@@ -11,6 +11,7 @@ fn bit(w: u64, i: u64) -> u8
 }
 
 // Sign i.
+#[tactic(auto, unfolding(crate::specs::Packed::sign_in))]
 pub fn sign_in(words: &[u64], i: usize) -> u8
     requires { i < 64 * length words.now }
     ensures { result ≡ sign_in words.now i }
@@ -27,6 +28,7 @@ fn one_at(i: u64) -> u64
 }
 
 // Flips sign i.
+#[tactic(auto, using(crate::proofs::PackedLaws::flipped_signs), unfolding(crate::specs::Packed::flip_in))]
 pub fn flip_in(words: &mut [u64], i: usize)
     requires { i < 64 * length words.old }
     ensures words_after { words.new ≡ flip_in i words.old }
@@ -35,7 +37,8 @@ pub fn flip_in(words: &mut [u64], i: usize)
     words[i / 64] = words[i / 64] ^ one_at((i % 64) as u64);
 }
 
-// A choice, in words or in bytes, or a level's objectives, copied. A loop: the library's `copy_from_slice` asks for `memmove`, which the archive may not.
+// A level's words or objectives, copied. A loop: with the library's `copy_from_slice` in both places a search took 1.03 to 1.07 of its time (W 1, 16, 128).
+#[tactic(auto, using(crate::proofs::Copied::same_each))]
 pub fn copy<T: Copy>(to: &mut [T], from: &[T])
     requires { length to.old ≡ length from.now }
     ensures { to.new ≡ from.now }

@@ -131,14 +131,13 @@ module _ (n count : ℕ) (rows cols : List ℕ) (values c : List ℤ) (b : List 
   unfolding cost_number
   cost_numbered e h = after_short _ e h
 
-  -- what `eval_qubo_objective` works on
-  pub cost_accepted : cost_number n count rows cols values c b ≡ 0
-      → Lent count rows cols values × (n ≤ length c) × (n ≤ length b) × Hall most_wagons most_entries most_magnitude n (table_of count rows cols values) (elem_z c)
+  -- the choice that `eval_qubo_objective` works on
+  pub choice_there : cost_number n count rows cols values c b ≡ 0 → n ≤ length b
   unfolding cost_number
-  cost_accepted ok =
+  choice_there ok =
       let (s, k) = two_parts (cost_short n count rows cols values c b) _ ok in
       let hall : Hall most_wagons most_entries most_magnitude n (table_of count rows cols values) (elem_z c) = hall_accepted k in
-      ((cost_lent s).0 hall.entries, (cost_lent s).1 hall.wagons, choice_long s hall.wagons, hall)
+      choice_long s hall.wagons
 
 module _ (n count : ℕ) (rows cols : List ℕ) (values c : List ℤ) (toRows toCols : List ℕ) (toValues : List ℤ) where
   pub sign_lent : sign_short n count rows cols values c toRows toCols toValues ≡ false → (count ≤ most_entries → Lent count rows cols values) × (n ≤ most_wagons → n ≤ length c)

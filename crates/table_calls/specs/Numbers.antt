@@ -5,7 +5,7 @@ use Rattle.laws.specs.Lists.{elem_z}
 use Rattle.laws.specs.Refusal.{◌if◌, first, any_of, short}
 use Rattle.limits.specs.Limits.{most_wagons, most_entries, most_magnitude, most_signs, most_sign_entries, most_sign_magnitude}
 use Rattle.tables.specs.Table.{table_of}
-use Rattle.tables.specs.Check.{bad_size, short_table, hall_number, table_number}
+use Rattle.tables.specs.Check.{bad_size, signs_number, short_table, hall_number, table_number}
 unfoldable pub use Rattle.tables.specs.Check.{bad_signs}
 
 -- 13 of n
@@ -40,7 +40,7 @@ unfoldable pub decode_short : ℕ → List ℕ → List ℕ → Bool
 decode_short m signs b = any_of (short (bad_signs m) m (length signs) ∷ short (bad_signs m) (m - 1) (length b) ∷ [])
 
 unfoldable pub decode_number : ℕ → List ℕ → List ℕ → ℕ
-decode_number m signs b = first (31 if decode_short m signs b ∷ 13 if bad_signs m ∷ [])
+decode_number m signs b = signs_number (decode_short m signs b) m
 
 -- `eval_qubo_objective`: c and the choice rest on n
 unfoldable pub cost_short : ℕ → ℕ → List ℕ → List ℕ → List ℤ → List ℤ → List ℕ → Bool

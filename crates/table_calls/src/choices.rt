@@ -7,7 +7,7 @@ ghost use Rattle.table_calls.specs.Answer.{kept_if_refused};
 ghost use Rattle.table_calls.specs.Numbers.{decode_short, decode_number};
 
 use refusal::Refusal;
-use tables::check::bad_signs;
+use tables::check::{bad_signs, signs_number};
 use tables::objective;
 
 // 31 of `qubo_binary_from_sign_solution`, for m signs and a choice of so many bytes.
@@ -19,17 +19,11 @@ fn decode_short(m: usize, signs: &[u8], b: &[u8]) -> bool
 }
 
 // The number of `qubo_binary_from_sign_solution`.
-#[tactic(auto, unfolding(crate::specs::Numbers::decode_number, laws::specs::Refusal::first, laws::specs::Refusal::or_else))]
+#[tactic(auto, unfolding(crate::specs::Numbers::decode_number))]
 fn decode_number(m: usize, signs: &[u8], b: &[u8]) -> Result<(), Refusal>
     ensures { numbered result ≡ decode_number m signs.now b.now }
 {
-    if decode_short(m, signs, b) {
-        return Err(Refusal::Slice);
-    }
-    if bad_signs(m) {
-        return Err(Refusal::Size);
-    }
-    Ok(())
+    signs_number(decode_short(m, signs, b), m)
 }
 
 // Wagon i is 1 exactly where sign i differs from the anchor's, the last.

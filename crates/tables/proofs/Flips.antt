@@ -21,12 +21,12 @@ only_times a b q v w = go (eqb a b)
     go false = rw (zero-*ℤ w) (*ℤ-zero q)
 
 -- one row alone
-one_row : (m i : ℕ) (f : ℕ → ℕ → ℤ) → i < m → sum₂ m (λ a b. only i a (f a b)) ≡ sum m (f i)
+pub one_row : (m i : ℕ) (f : ℕ → ℕ → ℤ) → i < m → sum₂ m (λ a b. only i a (f a b)) ≡ sum m (f i)
 unfolding sum₂
 one_row m i f h = sum_ext m _ _ (λ a k. only_sum m i a (f a)) ∙ sum_only m i (λ a. sum m (f a)) h
 
 -- the four terms of a product of sums
-expanded : (q a b c d : ℤ) → q *ℤ ((a +ℤ b) *ℤ (c +ℤ d)) ≡ q *ℤ (a *ℤ c) +ℤ q *ℤ (b *ℤ c) +ℤ (q *ℤ (b *ℤ d) +ℤ q *ℤ (d *ℤ a))
+pub expanded : (q a b c d : ℤ) → q *ℤ ((a +ℤ b) *ℤ (c +ℤ d)) ≡ q *ℤ (a *ℤ c) +ℤ q *ℤ (b *ℤ c) +ℤ (q *ℤ (b *ℤ d) +ℤ q *ℤ (d *ℤ a))
 expanded q a b c d = simp sorted
 
 module _ (m : ℕ) (q : ℕ → ℕ → ℤ) (x : ℕ → ℤ) (i : ℕ) (h : i < m) (sy : Symmetric m q) (sv : SignVector x) where

@@ -10,6 +10,7 @@ use lib.Dec.{eqb}
 use borrow.Author.Tests.{eq-eqb, ne_eqb}
 use Rattle.laws.specs.Sum.{sum, only}
 use Rattle.tables.specs.Table.{Table, value_at, stored_at, Before, Rising, Mirrored, Symmetric}
+use Rattle.tables.specs.Check.{Hall}
 use Rattle.laws.proofs.Any.{never, below_true, below_false, below_at, below_none}
 use Rattle.tables.proofs.Quadratic.{Order, below, same, above, order}
 use Rattle.laws.proofs.Sums.{only_yes, only_no, only_zero, sum_ext, sum_zero, sum_only}
@@ -115,6 +116,10 @@ mirrored_symmetric {t} ri mi m = record { mirror = λ i j h k. go i j (find t.co
     go i j (none d) =
         value_none t i j d
         ∙ sym (value_none t j i (λ l h a b. let (l', h', a', b', e) = mi.image l h in d l' h' (a' ∙ b) (b' ∙ a)))
+
+-- of an accepted (H, c)
+pub hall_symmetric : {most capacity limit n : ℕ} {h : Table} {c : ℕ → ℤ} → Hall most capacity limit n h c → Symmetric n (value_at h)
+hall_symmetric {n = n} ok = mirrored_symmetric ok.rising ok.mirrored n
 
 -- ---- where an entry stands, and where none does
 

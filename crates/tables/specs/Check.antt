@@ -1,11 +1,12 @@
 -- The numbers 13, 14, 15, 16 of a table and 31 of its slices (01, "Numbers from the input" and "Numbers from the state"), with the limits
--- as parameters.
-use Rattle.std.specs.Prelude.{Bool, true, false, cond, ◌&&◌, not, [], ◌∷◌, ℕ, ◌+◌, ◌*◌, ◌-◌, ◌≤◌, ◌<◌, eqb, leb, ltb, ℤ, pos, negsuc, nat_abs}
+-- as parameters. The checks of `check.rt` take those of 01; `hall_number_within` and `table_number_within` take any.
+use Rattle.std.specs.Prelude.{Bool, true, false, cond, ◌&&◌, not, [], ◌∷◌, ℕ, ◌+◌, ◌*◌, ◌-◌, ◌≤◌, ◌<◌, eqb, leb, ltb, length, ℤ, pos, negsuc, nat_abs}
 use Rattle.laws.specs.Sum.{total}
 use Rattle.laws.specs.Lists.{any_below}
 use Rattle.laws.specs.Refusal.{◌if◌, first, any_of, short}
-use Rattle.limits.specs.Limits.{most_signs}
+use Rattle.limits.specs.Limits.{most_signs, most_wagons, most_entries}
 use Rattle.tables.specs.Table.{Table, InRange, Rising, Mirrored, magnitude_of}
+use Rattle.tables.specs.CostTable.{CostTable}
 
 -- 13: n, m or the entry count out of its limits
 unfoldable pub bad_size : ℕ → ℕ → ℕ → ℕ → ℕ → Bool
@@ -14,6 +15,10 @@ bad_size least most most_entries size count = any_of (ltb size least ∷ ltb mos
 -- 13 of m alone
 unfoldable pub bad_signs : ℕ → Bool
 bad_signs m = any_of (ltb m 1 ∷ ltb most_signs m ∷ [])
+
+-- what a call on signs alone refuses: 31, else 13 of m
+abbrev pub signs_number : Bool → ℕ → ℕ
+signs_number short m = first (31 if short ∷ 13 if bad_signs m ∷ [])
 
 -- (i, j) stands before (k, l): by row, then by column
 unfoldable pub before : ℕ → ℕ → ℕ → ℕ → Bool
@@ -84,6 +89,14 @@ short_table most_entries count rows cols values =
     (short (ltb most_entries count) count rows
     ∷ short (ltb most_entries count) count cols
     ∷ short (ltb most_entries count) count values
+    ∷ [])
+
+-- 31: one of the slices of (H, c): entries rest on the count, c on n
+unfoldable pub short_hall : CostTable → Bool
+short_hall t =
+    any_of
+    (short_table most_entries t.count (length t.rows) (length t.cols) (length t.values)
+    ∷ short (ltb most_wagons t.n) t.n (length t.c)
     ∷ [])
 
 -- ---- what is accepted

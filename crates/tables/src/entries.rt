@@ -1,4 +1,5 @@
-// The entries of a table, lent in the first places of three slices.
+// The entries of a table, lent in the first places of three slices. These aren't cut to the count, since definitions speak of a count and of lists that may go on
+// behind it.
 ghost use Rattle.tables.specs.Table.{Lent};
 
 #[derive(Clone, Copy)]

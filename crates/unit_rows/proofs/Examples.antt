@@ -32,7 +32,7 @@ use Rattle.row_length.specs.Length.{squared_length, UnitLength, one}
 use Rattle.row_length.proofs.AtMostTwo.{two_bits}
 use Rattle.run_record.specs.declared.Run.{Run}
 use Rattle.run_record.specs.declared.Stage.TheVariants.{Open}
-use Rattle.run_record.specs.CostTable.{CostTable, cost_table}
+use Rattle.tables.specs.CostTable.{CostTable, cost_table}
 use Rattle.run_record.specs.Numbers as Numbers
 use Rattle.run_record.specs.Numbers.{sweep_number}
 use Rattle.run_sweep.specs.Work as Work
@@ -74,7 +74,7 @@ no_number = refl
 
 pub which_rows : map (rewritten started lone rows) (0 ∷ 1 ∷ 2 ∷ []) ≡ (true ∷ false ∷ true ∷ [])
 unfolding Length.rewrites Work.work_of Work.call_work
-    Sweep.exact_row Sweep.update_row Sweep.gradient_at Sweep.row_to Sweep.row_by Sweep.swept_row Sweep.sweep_to Gradient.gradient_to Gradient.gradient_of
+    Sweep.exact_row Sweep.update_row Sweep.gradient_at Sweep.row_to Sweep.row_by Sweep.swept_row Sweep.sweep_to Gradient.gradient_of
     Norms.lane_to Norms.add_squares_to Norms.squared_norm Norms.dot_to Norms.dot_of Norms.sum_to Norms.sum_of
     of_bits to_bits of_int add sub mul div neg lt le eq Sqrt.sqrt_of Floats.eighth_of Sum.sum Sum.sum₂ Rows.map_first Turns.up_to
     Lists.any_below Lists.tabulate Lists.kept Table.value_at Table.stored_at SignTable.absorbed SignTable.sign_value Stored.row_places Stored.places SignTable.sign_kept SignTable.sign_places

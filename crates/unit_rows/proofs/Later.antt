@@ -10,17 +10,15 @@ use lib.Ieee.{Float, nan}
 use lib.ListN.{length, take}
 use lib.Seq.{get_or-take}
 use Rattle.laws.specs.Rows.{row_of}
+use Rattle.laws.proofs.Any.{never}
 use Rattle.laws.proofs.Parts.{row_within, length_row_of}
 use Rattle.step_rules.specs.declared.StepRule.TheVariants.{CoordNoStep}
 use Rattle.row_length.specs.Length.{AtMostTwo, UnitLength}
 use Rattle.run_record.specs.declared.Run.{Run}
-use Rattle.run_record.specs.CostTable.{CostTable}
+use Rattle.tables.specs.CostTable.{CostTable}
 use Rattle.run_contract.specs.Calls.{Sweeps, used}
 use Rattle.unit_rows.specs.UnitRows.{Tame, ever_rewritten, UnitRows, if_accepted, Calls, ends, sweeps, others, rewritten_in, EveryLaterSweep}
 use Rattle.unit_rows.proofs.OfCall.{call_rows, rows_kept, size_kept, rank_kept}
-
-never : {A : Type 0} → false ≡ true → A
-never e = let z : ◌≡◌ {A = ℕ} 0 1 = ap (λ (b : Bool). cond b 1 0) e in absurd (omega arith)
 
 -- ---- the same size and rank
 

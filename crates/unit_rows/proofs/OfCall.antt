@@ -19,6 +19,7 @@ use lib.Seq.{get_or-take, length-take-le, take_at}
 use Rattle.limits.specs.Limits.{most_signs, most_sign_entries, most_sign_magnitude, most_rank}
 use Rattle.laws.specs.Rows.{row_of}
 use Rattle.laws.specs.Lists.{over, only_if, kept}
+use Rattle.laws.proofs.Any.{never}
 use Rattle.laws.proofs.Parts.{row_within, length_row_of}
 use Rattle.laws.proofs.Made.{below_or_not}
 use Rattle.laws.proofs.Refusal.{clear, first_head, first_rest}
@@ -37,7 +38,7 @@ use Rattle.row_length.proofs.Rows.{row_front}
 use Rattle.run_record.specs.declared.Run.{Run}
 use Rattle.run_record.specs.declared.Stage.{Stage}
 use Rattle.run_record.specs.declared.Stage.TheVariants.{Open, Stopped}
-use Rattle.run_record.specs.CostTable.{CostTable}
+use Rattle.tables.specs.CostTable.{CostTable}
 use Rattle.run_record.specs.Numbers.{is_stopped, sweep_number}
 use Rattle.run_sweep.specs.Work.{Work, sign_table_of, work_of, call_work}
 use Rattle.run_sweep.specs.Sweep.{State, while_open, swept_once, standing_once, sweeps_up_to, run_after, advanced}
@@ -105,9 +106,6 @@ module _ (q : Table) (m rank : ℕ) (table : Accepted most_signs most_sign_entri
     holds : Holds end.run end.factor
     done : (i : ℕ) → i < m → new i ≡ true → UnitLength (row_of rank end.factor i)
     same : (i : ℕ) → i < m → new i ≡ false → row_of rank end.factor i ≡ row_of rank rows i
-
-  never : {A : Type 0} → false ≡ true → A
-  never e = let z : ◌≡◌ {A = ℕ} 0 1 = ap (λ (b : Bool). cond b 1 0) e in absurd (omega arith)
 
   ended_none : (run : Run) (rows : List Float) → Holds run rows → Ended rows (record { run = run; factor = rows }) (λ i. false)
   ended_none run rows h = record { holds = h; done = λ i l e. never e; same = λ i l e. refl }

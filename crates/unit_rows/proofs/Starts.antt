@@ -15,7 +15,7 @@ use Rattle.step_rules.specs.declared.StepRule.TheVariants.{CoordNoStep}
 use Rattle.row_length.specs.Length.{AtMostTwo}
 use Rattle.row_length.proofs.AtMostTwo.{two_bits, two_of_bits}
 use Rattle.run_record.specs.declared.Run.{Run}
-use Rattle.run_record.specs.CostTable.{CostTable}
+use Rattle.tables.specs.CostTable.{CostTable}
 use Rattle.run_record.specs.Numbers.{sweep_number}
 use Rattle.run_sweep.specs.Work.{call_work}
 use Rattle.run_sweep.specs.Sweep.{sweeps_up_to}

@@ -9,7 +9,7 @@ use Rattle.step_rules.specs.declared.StepRule.TheVariants.{CoordNoStep}
 use Rattle.run_record.specs.declared.Run.{Run}
 use Rattle.run_record.specs.declared.Stage.{Stage}
 use Rattle.run_record.specs.declared.Stage.TheVariants.{Open, Stopped}
-use Rattle.run_record.specs.CostTable.{CostTable}
+use Rattle.tables.specs.CostTable.{CostTable}
 use Rattle.run_sweep.specs.Work.{Work, call_work}
 use Rattle.run_sweep.specs.Sweep.{run_after, swept_once, standing_once}
 use Rattle.run_contract.specs.Calls.{Sweeps, used}

@@ -3,30 +3,66 @@ use mathlib.Core.Path.{◌≡◌, refl, sym, ap, ◌∙◌}
 use Rattle.refusal.specs.Number.{numbered}
 use Rattle.refusal.proofs.Passed.{passed, some_number}
 use native.Mathlib.Omega.{arith}
-use lib.ListN.{length}
 use Prim.Native.Nat.{◌-◌}
-use lib.ListN.{take, drop}
+use lib.ListN.{length, take, drop}
 use Rattle.limits.specs.Limits.{search_workspace}
 use Rattle.sign_search.proofs.ExpandLaws.{part_size}
 use Rattle.block_search.specs.Blocks.{last_choice}
 use Rattle.block_search.specs.Call.{call_of}
-use Rattle.block_search.proofs.Numbers.{clear_fits, choice_there, space_there, hall_good, width_some, pins_fit, pinned_once}
+use Rattle.tables.specs.Lent.{costs_of}
+use Rattle.tables.proofs.Checks.{hall_passes}
+use Rattle.block_search.proofs.Numbers.{Ready, ready}
 use Rattle.block_search.proofs.Turns.{clearing}
 use Rattle.sdp_local_search.proofs.Calls.{written, tail_kept}
 use Rattle.block_search.proofs.block_search.Goals as goal
+use Rattle.block_search.proofs.block_search.Goals.{In_ok-block_number}
+
+-- what a call is that no number refuses
+module _ (c : In_ok-block_number) where
+  call : let a = c.args in
+      let q = a.request in
+      Ready (costs_of a.hall) q.pins.wagons.now q.pins.stores.now q.present.now q.blocks.sizes.now q.blocks.wagons.now q.width (length a.choice.now) (length a.falls.now) (length a.workspace.now)
+  call = let a = c.args in
+      let q = a.request in
+      ready (costs_of a.hall) q.pins.wagons.now q.pins.stores.now q.present.now q.blocks.sizes.now q.blocks.wagons.now q.width (length a.choice.now) (length a.falls.now) (length a.workspace.now)
+      (sym c.in_ok-block_number.ensures)
 
 pub returns-in_err-block_number : goal.returns-in_err-block_number
 returns-in_err-block_number c = let e = c.in_err-block_number.ensures in
     record { numbered = ap numbered (passed c.from_residual.ensures.1) ∙ e; refused = λ n. (refl, refl, refl); choice_is = λ z. absurd (some_number _ (e ∙ z)); falls_are = λ z. absurd (some_number _ (e ∙ z)); kept = refl; cleared = λ z. absurd (some_number _ (e ∙ z)) }
 
 pub slice_bounds-clear_house-end : goal.slice_bounds-clear_house-end
-slice_bounds-clear_house-end c = choice_there c.args.n c.args.count c.args.rows.now c.args.cols.now c.args.values.now c.args.c.now c.args.pinned.now c.args.stores.now c.args.present.now c.args.block_sizes.now c.args.block_wagons.now c.args.width (length c.args.choice.now) (length c.args.falls.now) (length c.args.workspace.now) (sym c.in_ok-block_number.ensures)
+slice_bounds-clear_house-end c = let a = c.args in (call (goal.at.slice_bounds-clear_house-end c).In_ok-block_number).choice_there
 
 pub slice_bounds-clear_house-end-2 : goal.slice_bounds-clear_house-end-2
-slice_bounds-clear_house-end-2 c = space_there c.args.n c.args.count c.args.rows.now c.args.cols.now c.args.values.now c.args.c.now c.args.pinned.now c.args.stores.now c.args.present.now c.args.block_sizes.now c.args.block_wagons.now c.args.width (length c.args.choice.now) (length c.args.falls.now) (length c.args.workspace.now) (sym c.in_ok-block_number.ensures)
+slice_bounds-clear_house-end-2 c = let a = c.args in (call (goal.at.slice_bounds-clear_house-end-2 c).In_ok-block_number).space_there
+
+pub invariant_of-table : goal.invariant_of-table
+invariant_of-table c = let a = c.args in record { lent = (call (goal.at.invariant_of-table c).In_ok-block_number).lent }
+
+pub invariant_of-judged : goal.invariant_of-judged
+invariant_of-judged c = let a = c.args in
+    let r = call (goal.at.invariant_of-judged c).In_ok-block_number in
+    record { costs_there = r.costs_there; judged = hall_passes r.hall }
 
 pub clear_house-requires : goal.clear_house-requires
-clear_house-requires c = let s : length (take (search_workspace - 0) (drop 0 c.args.workspace.now)) ≡ search_workspace = part_size search_workspace c.args.workspace.now (space_there c.args.n c.args.count c.args.rows.now c.args.cols.now c.args.values.now c.args.c.now c.args.pinned.now c.args.stores.now c.args.present.now c.args.block_sizes.now c.args.block_wagons.now c.args.width (length c.args.choice.now) (length c.args.falls.now) (length c.args.workspace.now) (sym c.in_ok-block_number.ensures)) in clear_fits c.args.n c.args.count c.args.rows.now c.args.cols.now c.args.values.now c.args.c.now c.args.pinned.now c.args.stores.now c.args.present.now c.args.block_sizes.now c.args.block_wagons.now c.args.width (length c.args.choice.now) (length c.args.falls.now) (length c.args.workspace.now) (sym c.in_ok-block_number.ensures) _ _ (part_size c.args.n c.args.choice.now (choice_there c.args.n c.args.count c.args.rows.now c.args.cols.now c.args.values.now c.args.c.now c.args.pinned.now c.args.stores.now c.args.present.now c.args.block_sizes.now c.args.block_wagons.now c.args.width (length c.args.choice.now) (length c.args.falls.now) (length c.args.workspace.now) (sym c.in_ok-block_number.ensures))) (omega (arith, s))
+clear_house-requires c =
+    let a = c.args in
+    let r = call (goal.at.clear_house-requires c).In_ok-block_number in
+    let s : length (take (search_workspace - 0) (drop 0 a.workspace.now)) ≡ search_workspace = part_size search_workspace a.workspace.now r.space_there in
+    r.fits _ _ (part_size a.hall.table.size a.choice.now r.choice_there) (omega (arith, s))
 
 pub returns : goal.returns
-returns c = let none = (sym c.in_ok-block_number.ensures) in let q = call_of c.args.n c.args.count c.args.rows.now c.args.cols.now c.args.values.now c.args.c.now c.args.pinned.now c.args.stores.now c.args.present.now c.args.block_sizes.now c.args.block_wagons.now c.args.width in record { numbered = sym none; refused = λ n. absurd (n none); choice_is = λ z. written c.args.n c.clear_house.new.b (last_choice q) c.args.choice.now (c.clear_house.auto.b ∙ part_size c.args.n c.args.choice.now (choice_there c.args.n c.args.count c.args.rows.now c.args.cols.now c.args.values.now c.args.c.now c.args.pinned.now c.args.stores.now c.args.present.now c.args.block_sizes.now c.args.block_wagons.now c.args.width (length c.args.choice.now) (length c.args.falls.now) (length c.args.workspace.now) none)) c.clear_house.ensures.0; falls_are = λ z. c.clear_house.ensures.1; kept = tail_kept search_workspace c.clear_house.new.workspace c.args.workspace.now (c.clear_house.auto.workspace ∙ part_size search_workspace c.args.workspace.now (space_there c.args.n c.args.count c.args.rows.now c.args.cols.now c.args.values.now c.args.c.now c.args.pinned.now c.args.stores.now c.args.present.now c.args.block_sizes.now c.args.block_wagons.now c.args.width (length c.args.choice.now) (length c.args.falls.now) (length c.args.workspace.now) none)); cleared = λ z. clearing q (hall_good c.args.n c.args.count c.args.rows.now c.args.cols.now c.args.values.now c.args.c.now c.args.pinned.now c.args.stores.now c.args.present.now c.args.block_sizes.now c.args.block_wagons.now c.args.width (length c.args.choice.now) (length c.args.falls.now) (length c.args.workspace.now) none) (width_some c.args.n c.args.count c.args.rows.now c.args.cols.now c.args.values.now c.args.c.now c.args.pinned.now c.args.stores.now c.args.present.now c.args.block_sizes.now c.args.block_wagons.now c.args.width (length c.args.choice.now) (length c.args.falls.now) (length c.args.workspace.now) none) (pins_fit c.args.n c.args.count c.args.rows.now c.args.cols.now c.args.values.now c.args.c.now c.args.pinned.now c.args.stores.now c.args.present.now c.args.block_sizes.now c.args.block_wagons.now c.args.width (length c.args.choice.now) (length c.args.falls.now) (length c.args.workspace.now) none) (pinned_once c.args.n c.args.count c.args.rows.now c.args.cols.now c.args.values.now c.args.c.now c.args.pinned.now c.args.stores.now c.args.present.now c.args.block_sizes.now c.args.block_wagons.now c.args.width (length c.args.choice.now) (length c.args.falls.now) (length c.args.workspace.now) none) }
+returns c =
+    let a = c.args in
+    let n = a.hall.table.size in
+    let r = call (goal.at.returns c).In_ok-block_number in
+    let q = call_of n a.hall.table.count a.hall.table.rows.now a.hall.table.cols.now a.hall.table.values.now a.hall.c.now a.request.pins.wagons.now a.request.pins.stores.now a.request.present.now a.request.blocks.sizes.now a.request.blocks.wagons.now a.request.width in
+    let none = sym c.in_ok-block_number.ensures in record {
+      numbered = sym none;
+      refused = λ e. absurd (e none);
+      choice_is = λ z. written n c.clear_house.new.b (last_choice q) a.choice.now (c.clear_house.auto.b ∙ part_size n a.choice.now r.choice_there) c.clear_house.ensures.0;
+      falls_are = λ z. c.clear_house.ensures.1;
+      kept = tail_kept search_workspace c.clear_house.new.workspace a.workspace.now (c.clear_house.auto.workspace ∙ part_size search_workspace a.workspace.now r.space_there);
+      cleared = λ z. clearing q r.hall r.width_some r.pins r.pins_once;
+    }

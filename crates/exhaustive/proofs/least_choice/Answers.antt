@@ -1,10 +1,9 @@
 -- `exhaustive::least_choice` meets its contract. Assumes nothing.
 use mathlib.Core.Path.{refl, sym, ap, ◌∙◌}
-use lib.ListN.{length}
 use Rattle.std.specs.Prelude.{Err}
 use Rattle.refusal.specs.Number.{in_numbers}
 use Rattle.refusal.proofs.Passed.{passed, some_number}
-use Rattle.laws.proofs.Integer.{held}
+use Rattle.tables.proofs.Checks.{hall_passes}
 use Rattle.exhaustive.proofs.Numbers.{walk_accepted}
 use Rattle.exhaustive.proofs.Founds.{found}
 use Rattle.exhaustive.proofs.least_choice.Goals as goal
@@ -15,11 +14,14 @@ returns-in_err-walk_number c = record {
   accepted = λ e. absurd (some_number _ (c.in_err-walk_number.ensures ∙ e));
 }
 
-pub invariant_of-table : goal.invariant_of-table
-invariant_of-table c = record { lent = (walk_accepted c.args.n c.args.count c.args.rows.now c.args.cols.now c.args.values.now c.args.c.now (length c.args.b.now) (sym c.in_ok-walk_number.ensures)).0 }
+pub judged_hall-requires : goal.judged_hall-requires
+judged_hall-requires c = let (lent, costs, room, few, hall) = walk_accepted _ _ _ _ _ _ _ (sym c.in_ok-walk_number.ensures) in record { lent = lent; costs_there = costs; judged = hall_passes hall }
 
-pub least_of-found-requires : goal.least_of-found-requires
-least_of-found-requires c = let given = (walk_accepted c.args.n c.args.count c.args.rows.now c.args.cols.now c.args.values.now c.args.c.now (length c.args.b.now) (sym c.in_ok-walk_number.ensures)) in (given.1, given.2, given.3, given.4)
+pub least_of-requires : goal.least_of-requires
+least_of-requires c = let (lent, costs, room, few, hall) = walk_accepted _ _ _ _ _ _ _ (sym c.in_ok-walk_number.ensures) in let (n, t, own) = c.judged_hall.ensures in rw n (room, few)
 
 pub returns : goal.returns
-returns c = let a = c.args in let e = sym c.in_ok-walk_number.ensures in let v = c.least_of-found in record { refused = λ n. absurd (n e); accepted = λ z. (_, refl, found a.c.now (walk_accepted a.n a.count a.rows.now a.cols.now a.values.now a.c.now (length a.b.now) e).4 v.ensures.choice (held _ c.struct_told-1.given.0.1 ∙ v.ensures.found.0) v.ensures.found.1) }
+returns c = let (lent, costs, room, few, hall) = walk_accepted _ _ _ _ _ _ _ (sym c.in_ok-walk_number.ensures) in
+    let (n, t, own) = c.judged_hall.ensures in
+    let v = rw (n, t, own) at c.least_of.ensures in
+    record { refused = λ e. absurd (e (sym c.in_ok-walk_number.ensures)); accepted = λ z. (_, refl, found c.args.hall.c.now hall v.choice v.found.0 v.found.1) }

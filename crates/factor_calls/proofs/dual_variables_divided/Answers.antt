@@ -2,6 +2,7 @@
 use mathlib.Core.Path.{refl, sym, ap, subst, ◌∙◌}
 use Prim.Native.Nat.{ℕ, ◌*◌, ◌≤◌}
 use lib.ListN.{length}
+use Rattle.tables.specs.Table.{Table, InRange, Rising}
 use Rattle.refusal.proofs.Passed.{passed, some_number}
 use Rattle.refusal.specs.Number.{numbered}
 use Rattle.table_calls.proofs.Accepting.{refused_is, accepted_is}
@@ -9,23 +10,17 @@ use Rattle.factor_calls.proofs.Accepting.{divided_accepted}
 use Rattle.factor_calls.proofs.Quotients.{by_quotients}
 use Rattle.factor_calls.proofs.dual_variables_divided.Goals as goal
 
-pub returns-in_err-divided_number : goal.returns-in_err-divided_number
-returns-in_err-divided_number c = record { answers = ap numbered (passed c.from_residual.ensures.1) ∙ c.in_err-divided_number.ensures; multipliers_are = refused_is _ _ _ c.in_err-divided_number.ensures (some_number _) }
-
-pub invariant_of-table : goal.invariant_of-table
-invariant_of-table c = let a = c.args in
-    let u = divided_accepted a.m a.count a.rows.now a.cols.now a.values.now a.rank (length a.factor.now) (length a.out.now) (sym c.in_ok-divided_number.ensures) in
-    let long : a.m * a.rank ≤ length a.factor.now = subst (λ (r : ℕ). a.m * r ≤ length a.factor.now) u.1 u.0.factor_long in
-    record { lent = u.0.lent }
+pub returns-in_err-entries : goal.returns-in_err-entries
+returns-in_err-entries c = record { answers = ap numbered (passed c.from_residual.ensures.1) ∙ c.in_err-entries.ensures.number; multipliers_are = refused_is _ _ _ c.in_err-entries.ensures.number (some_number _) }
 
 pub multiply-requires : goal.multiply-requires
 multiply-requires c = let a = c.args in
-    let u = divided_accepted a.m a.count a.rows.now a.cols.now a.values.now a.rank (length a.factor.now) (length a.out.now) (sym c.in_ok-divided_number.ensures) in
-    let long : a.m * a.rank ≤ length a.factor.now = subst (λ (r : ℕ). a.m * r ≤ length a.factor.now) u.1 u.0.factor_long in
-    record { lent = (u.0.table.in_range, u.0.table.rising); rank_in_bounds = (long, u.0.out_long, u.0.rank_low) }
+    let u = divided_accepted _ _ _ _ _ _ _ _ (sym c.in_ok-entries.ensures.number) in
+    let long : a.table.size * a.rank ≤ length a.factor.now = subst (λ (r : ℕ). a.table.size * r ≤ length a.factor.now) u.1 u.0.factor_long in
+    record { in_order = subst (λ (t : Table). InRange c.args.table.size t × Rising t) (sym c.in_ok-entries.ensures.entries) (u.0.table.in_range, u.0.table.rising); rank_in_bounds = (long, u.0.out_long, u.0.rank_low) }
 
 pub returns : goal.returns
 returns c = record {
-  answers = c.in_ok-divided_number.ensures;
-  multipliers_are = (rw by_quotients at c.multiply.ensures) ∙ accepted_is _ _ _ c.in_ok-divided_number.ensures refl;
+  answers = c.in_ok-entries.ensures.number;
+  multipliers_are = (rw (by_quotients, c.in_ok-entries.ensures.entries) at c.multiply.ensures) ∙ accepted_is _ _ _ c.in_ok-entries.ensures.number refl;
 }

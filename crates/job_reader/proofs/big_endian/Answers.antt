@@ -1,9 +1,11 @@
--- `job_reader::big_endian` meets its contract: after i turns the value is that of the first i bytes, below 256 ^ i. Assumes nothing.
-use Prim.Native.Nat.{ℕ, ◌+◌, ◌*◌, ◌≤◌, ◌<◌, ◌^◌}
-use mathlib.Core.Path.{◌≡◌, refl}
+-- `job_reader::big_endian` meets its contract: after i bytes the value is theirs, below 256 ^ i. Assumes nothing.
+use Prim.Native.Nat.{ℕ, ◌+◌, ◌-◌, ◌*◌, ◌≤◌, ◌<◌, ◌^◌}
+use mathlib.Core.Path.{◌≡◌, refl, ◌∙◌}
 use native.Mathlib.Omega.{arith}
 use native.Mathlib.Nat.{lt_of_lt_of_le, pow-suc, pow-le-pow_right}
 use native.Mathlib.Numerals.{add-one}
+use lib.ListN.{get_or, drop}
+use lib.Seq.{get_or-take, get_or-drop}
 use Rattle.job_reader.specs.Bytes.{big_endian}
 use Rattle.job_reader.proofs.big_endian.Goals as goal
 
@@ -18,24 +20,22 @@ room i value l h = lt_of_lt_of_le h (pow-le 7 i (omega arith))
 next : (i value b : ℕ) → value < 256 ^ i → b < 256 → value * 256 + b < 256 ^ (i + 1)
 next i value b h l = rw (add-one, pow-suc) (omega arith)
 
-pub loop-i-init : goal.loop-i-init
-unfolding big_endian
-loop-i-init c = (omega arith, omega arith, refl)
-
 pub overflow_mul-value : goal.overflow_mul-value
-overflow_mul-value c = omega (arith, room c.loop-i.i c.loop-i.value (omega arith) c.loop-i.invariant.1)
+overflow_mul-value c = omega (arith, room c.loop-byte.byte-index c.loop-byte.value (omega arith) c.loop-byte.invariant.1)
 
 pub overflow_add-value : goal.overflow_add-value
-overflow_add-value c = omega (arith, room c.loop-i.i c.loop-i.value (omega arith) c.loop-i.invariant.1, c.type_inv.bytes (c.args.at + c.loop-i.i))
+overflow_add-value c = omega (arith, room c.loop-byte.byte-index c.loop-byte.value (omega arith) c.loop-byte.invariant.1, c.type_inv.bytes (c.args.at + c.loop-byte.byte-index))
 
-pub loop-i-preserved : goal.loop-i-preserved
+pub loop-byte-init : goal.loop-byte-init
 unfolding big_endian
-loop-i-preserved c = (
-  omega arith,
-  next c.loop-i.i c.loop-i.value c.from.result c.loop-i.invariant.1 (omega (arith, c.type_inv.bytes (c.args.at + c.loop-i.i))),
-  rw (add-one, c.loop-i.invariant.2, c.from.ensures),
-)
+loop-byte-init c = (omega arith, omega arith, refl)
 
-pub returns : goal.returns
-returns c = let e : c.args.width ≡ c.loop-i.i = omega arith in
-    (rw e c.loop-i.invariant.2, rw e c.loop-i.invariant.1)
+pub loop-byte-preserved : goal.loop-byte-preserved
+unfolding big_endian
+loop-byte-preserved c = let l = c.loop-byte in
+    let is : c.from.result ≡ get_or c.args.bytes.now (c.args.at + l.byte-index) 0 =
+    c.from.ensures ∙ get_or-take (c.args.at + c.args.width - c.args.at) (drop c.args.at c.args.bytes.now) l.byte-index 0 (omega arith) ∙ get_or-drop c.args.at c.args.bytes.now l.byte-index 0 in (
+      omega arith,
+      next l.byte-index l.value c.from.result l.invariant.1 (omega (arith, is, c.type_inv.bytes (c.args.at + l.byte-index))),
+      rw (add-one, ← l.invariant.2, is),
+    )

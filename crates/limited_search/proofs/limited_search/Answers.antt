@@ -5,7 +5,9 @@ use Prim.Native.Nat.{◌-◌}
 use lib.ListN.{length, take, drop}
 use Rattle.refusal.proofs.Passed.{passed, some_number}
 use Rattle.limits.specs.Limits.{search_workspace}
+use Rattle.tables.specs.Lent.{costs_of}
 use Rattle.sign_search.proofs.ExpandLaws.{part_size}
+use Rattle.tables.proofs.Checks.{hall_passes}
 use Rattle.limited_search.proofs.Numbers.{ready}
 use Rattle.limited_search.proofs.Calls.{searches}
 use Rattle.limited_search.proofs.limited_search.Goals as goal
@@ -21,31 +23,31 @@ returns-in_err-limited_number c = let e = c.in_err-limited_number.ensures in rw 
 })
 
 pub slice_bounds-search_limited-end : goal.slice_bounds-search_limited-end
-slice_bounds-search_limited-end c = let a = c.args in (ready a.n a.count a.rows.now a.cols.now a.values.now a.c.now a.present.now a.k a.width (length a.choice.now) (length a.workspace.now) (sym c.in_ok-limited_number.ensures)).choice_there
+slice_bounds-search_limited-end c = let a = c.args in (ready (costs_of a.hall) a.present.now a.k a.width (length a.choice.now) (length a.workspace.now) (sym c.in_ok-limited_number.ensures)).choice_there
 
 pub slice_bounds-search_limited-end-2 : goal.slice_bounds-search_limited-end-2
-slice_bounds-search_limited-end-2 c = let a = c.args in (ready a.n a.count a.rows.now a.cols.now a.values.now a.c.now a.present.now a.k a.width (length a.choice.now) (length a.workspace.now) (sym c.in_ok-limited_number.ensures)).space_there
+slice_bounds-search_limited-end-2 c = let a = c.args in (ready (costs_of a.hall) a.present.now a.k a.width (length a.choice.now) (length a.workspace.now) (sym c.in_ok-limited_number.ensures)).space_there
 
-pub invariant_of-table : goal.invariant_of-table
-invariant_of-table c = let a = c.args in
-    let r = ready a.n a.count a.rows.now a.cols.now a.values.now a.c.now a.present.now a.k a.width (length a.choice.now) (length a.workspace.now) (sym c.in_ok-limited_number.ensures) in
-    let n : length (take (a.n - 0) (drop 0 a.choice.now)) ≡ a.n = part_size a.n a.choice.now r.choice_there in
-    let s : length (take (search_workspace - 0) (drop 0 a.workspace.now)) ≡ search_workspace = part_size search_workspace a.workspace.now r.space_there in record { lent = r.lent }
+pub judged_hall-requires : goal.judged_hall-requires
+judged_hall-requires c = let a = c.args in
+    let r = ready (costs_of a.hall) a.present.now a.k a.width (length a.choice.now) (length a.workspace.now) (sym c.in_ok-limited_number.ensures) in
+    record { lent = r.lent; costs_there = r.costs_there; judged = hall_passes r.hall }
 
 pub search_limited-found-requires : goal.search_limited-found-requires
 search_limited-found-requires c =
     let a = c.args in
-    let r = ready a.n a.count a.rows.now a.cols.now a.values.now a.c.now a.present.now a.k a.width (length a.choice.now) (length a.workspace.now) (sym c.in_ok-limited_number.ensures) in
-    let n : length (take (a.n - 0) (drop 0 a.choice.now)) ≡ a.n = part_size a.n a.choice.now r.choice_there in
+    let r = ready (costs_of a.hall) a.present.now a.k a.width (length a.choice.now) (length a.workspace.now) (sym c.in_ok-limited_number.ensures) in
+    let n : length (take (a.hall.table.size - 0) (drop 0 a.choice.now)) ≡ a.hall.table.size = part_size a.hall.table.size a.choice.now r.choice_there in
     let s : length (take (search_workspace - 0) (drop 0 a.workspace.now)) ≡ search_workspace = part_size search_workspace a.workspace.now r.space_there in
-    (r.costs_there, r.hall, r.fits _ _ (omega (arith, n)) (omega (arith, s)))
+    rw c.judged_hall.ensures.0 (r.fits _ _ (omega (arith, n)) (omega (arith, s)))
 
 pub returns : goal.returns
 returns c =
     let a = c.args in
-    let r = ready a.n a.count a.rows.now a.cols.now a.values.now a.c.now a.present.now a.k a.width (length a.choice.now) (length a.workspace.now) (sym c.in_ok-limited_number.ensures) in
-    let n : length (take (a.n - 0) (drop 0 a.choice.now)) ≡ a.n = part_size a.n a.choice.now r.choice_there in
+    let r = ready (costs_of a.hall) a.present.now a.k a.width (length a.choice.now) (length a.workspace.now) (sym c.in_ok-limited_number.ensures) in
+    let n : length (take (a.hall.table.size - 0) (drop 0 a.choice.now)) ≡ a.hall.table.size = part_size a.hall.table.size a.choice.now r.choice_there in
     let s : length (take (search_workspace - 0) (drop 0 a.workspace.now)) ≡ search_workspace = part_size search_workspace a.workspace.now r.space_there in
-    searches a.n a.count a.rows.now a.cols.now a.values.now a.c.now a.present.now a.k a.width a.choice.now a.workspace.now
-    (sym c.in_ok-limited_number.ensures) (take (a.n - 0) (drop 0 a.choice.now)) c.search_limited-found.new.found c.search_limited-found.new.workspace
-    c.search_limited-found.result.least c.search_limited-found.result.rounds n (c.search_limited-found.auto.found ∙ n) (c.search_limited-found.auto.workspace ∙ s) c.search_limited-found.ensures
+    let of = c.judged_hall.ensures in
+    searches (costs_of a.hall) a.present.now a.k a.width a.choice.now a.workspace.now
+    (sym c.in_ok-limited_number.ensures) (take (a.hall.table.size - 0) (drop 0 a.choice.now)) c.search_limited-found.new.found c.search_limited-found.new.workspace
+    c.search_limited-found.result.least c.search_limited-found.result.rounds n (c.search_limited-found.auto.found ∙ n) (c.search_limited-found.auto.workspace ∙ s) (rw (of.0, of.1, of.2) at c.search_limited-found.ensures)

@@ -1,16 +1,28 @@
--- `prepared_table::next_start` meets its contract. The place is at most the definition's. Assumes nothing.
+-- `prepared_table::next_start` meets its contract: the entry found is the definition's. Assumes nothing.
+use Rattle.std.proofs.Common.{rules, tests, ℕ, ◌<◌, ◌≤◌, length, get_or, take, drop, ◌-◌}
 use native.Mathlib.Omega.{arith}
-use Rattle.prepared_table.proofs.Starting.{start_most, start_more, start_le}
+use Rattle.prepared_table.proofs.Starting.{start_le, start_found, start_behind}
 use Rattle.prepared_table.proofs.next_start.Goals as goal
 
-pub loop-e-init : goal.loop-e-init
-loop-e-init c = (omega (arith, start_le c.args.rows.now c.args.i), c.requires)
+pub returns-in-Some : goal.returns-in-Some
+returns-in-Some c =
+    let xs = take (length c.args.rows.now - c.args.from) (drop c.args.from c.args.rows.now) in
+    let low : c.in-Some.k < length xs = search rules in
+    let here : c.args.i ≤ get_or xs c.in-Some.k 0 = search (rules, tests) in
+    let below : (e : ℕ) → e < c.in-Some.k → get_or xs e 0 < c.args.i = search (rules, tests) in
+    start_found c.args.rows.now c.args.i c.args.from c.requires c.in-Some.k low here below
 
-pub returns-then-wide-i : goal.returns-then-wide-i
-returns-then-wide-i c = omega (arith, start_most c.args.rows.now c.args.i c.loop-e.e c.loop-e-test.true (omega arith))
+pub returns-in-None : goal.returns-in-None
+returns-in-None c =
+    let xs = take (length c.args.rows.now - c.args.from) (drop c.args.from c.args.rows.now) in
+    let below : (e : ℕ) → e < length xs → get_or xs e 0 < c.args.i = search (rules, tests) in
+    start_behind c.args.rows.now c.args.i c.args.from c.requires below
 
-pub loop-e-preserved : goal.loop-e-preserved
-loop-e-preserved c = (omega arith, start_more _ _ _ c.loop-e-test.true (omega arith) c.loop-e.invariant.1)
+pub slice_bounds-iter-start : goal.slice_bounds-iter-start
+slice_bounds-iter-start c = omega (arith, start_le c.args.rows.now c.args.i, c.requires)
 
-pub returns : goal.returns
-returns c = omega (arith, start_le c.args.rows.now c.args.i)
+pub slice_bounds-iter-count : goal.slice_bounds-iter-count
+slice_bounds-iter-count c = omega (arith, start_le c.args.rows.now c.args.i, c.requires)
+
+pub offset_bounds-rows-from : goal.offset_bounds-rows-from
+offset_bounds-rows-from c = record { fits = omega (arith, start_le c.args.rows.now c.args.i, c.requires) }

@@ -4,12 +4,12 @@ use Prim.Native.Nat.{◌≤◌, ◌-◌}
 use lib.ListN.{length, replicate}
 use Rattle.ieee.specs.Floats.{zero64}
 use Rattle.laws.specs.Turns.{up_to}
-use Rattle.tables.specs.Table.{table_of}
+use Rattle.tables.specs.Entries.{listed}
 use Rattle.prepared_table.specs.Work.{diagonal_turn}
 use Rattle.prepared_table.proofs.set_diagonal.Given as goal
 
 abbrev pub invariant-loop-e : goal.invariant-loop-e
-invariant-loop-e l = (l.e ≤ l.table.count) × (length l.out ≡ length l.initial.out) × (l.out ≡ up_to (diagonal_turn (table_of l.table.count l.table.rows.now l.table.cols.now l.table.values.now)) l.e (replicate (length l.initial.out) zero64))
+invariant-loop-e l = (l.e ≤ l.table.count) × (length l.out ≡ length l.initial.out) × (l.out ≡ up_to (diagonal_turn (listed l.table)) l.e (replicate (length l.initial.out) zero64))
 
 abbrev pub decreases-loop-e : goal.decreases-loop-e
 decreases-loop-e l = l.table.count - l.e

@@ -1,22 +1,18 @@
--- `prepared_table::sets_aside` meets its contract. What is found is the definition at e. Assumes nothing.
-use borrow.Author.Rules.{rules}
-use mathlib.Core.Path.{◌≡◌, ◌∙◌}
+-- `prepared_table::sets_aside` meets its contract. Assumes nothing.
+use mathlib.Core.Path.{refl}
 use native.Mathlib.Omega.{arith}
-use lib.IntN.{pos}
-use lib.ListN.{get_or}
-use Rattle.laws.specs.Lists.{any_below}
-use Rattle.laws.proofs.Any.{below_next}
-use Rattle.laws.proofs.Integer.{held}
-use Rattle.prepared_table.specs.Work.{sets_aside}
+use Prim.Native.Nat.{ℕ}
+use lib.Dec.{eqb}
+use lib.IntN.{nat_abs}
+use Rattle.std.proofs.Common.{◌∙◌, rules, tests}
+use Rattle.std.proofs.lemmas.Iterator.{YieldsList-from_range}
+use Rattle.std.proofs.lemmas.Iterator.Search.{any_from_yields_List}
+use Rattle.tables.specs.Entries.{listed}
+use Rattle.tables.proofs.Anys.{any_ranged}
+use Rattle.prepared_table.specs.Work.{set_by, sets_aside}
 use Rattle.prepared_table.proofs.sets_aside.Goals as goal
-
-pub loop-e-init : goal.loop-e-init
-unfolding any_below
-loop-e-init c = search rules
-
-pub loop-e-preserved : goal.loop-e-preserved
-loop-e-preserved c = (omega arith, (rw (held (get_or c.args.table.values.now c.loop-e.e (pos 0)) c.found_by-arg-in-loop-e-2-1.given) at c.found_by-found.ensures) ∙ below_next _ _ _ c.loop-e.invariant.1)
 
 pub returns : goal.returns
 unfolding sets_aside
-returns c = let e : c.loop-e.e ≡ c.args.table.count = omega arith in rw e at c.loop-e.invariant.1
+returns c = let t = listed c.args.table in let sets = λ (e : ℕ). set_by (eqb (t.row e) (t.column e)) (eqb (nat_abs (t.value e)) 0) in
+    any_from_yields_List sets _ _ _ c.any.ensures.ran (YieldsList-from_range 0 t.count t.count refl (omega arith)) (λ x b q k. search (rules, tests)) ∙ any_ranged sets t.count

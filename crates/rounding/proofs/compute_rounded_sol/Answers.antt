@@ -2,7 +2,7 @@
 use mathlib.Core.Path.{◌≡◌, ap, ◌∙◌}
 use Prim.Native.Nat.{◌-◌, ◌+◌}
 use native.Mathlib.Omega.{arith}
-use Rattle.tables.specs.Table.{table_of}
+use Rattle.tables.specs.Entries.{listed}
 use Rattle.local_search.specs.Level.{Choice}
 use Rattle.local_search.specs.Children.{parent_of}
 use Rattle.rounding.specs.Rounding.{first_least, signs_of, draw_objective, rounded_sol, rounded_objective}
@@ -12,22 +12,22 @@ use Rattle.laws.proofs.Parts.{row_within}
 use Rattle.rounding.proofs.compute_rounded_sol.Goals as goal
 
 pub evaluate_draw-least-requires : goal.evaluate_draw-least-requires
-evaluate_draw-least-requires c = record { lent = c.requires.lent; rank_in_bounds = (c.requires.rank_in_bounds.0, omega (arith, row_within 0 c.args.draw_count c.args.rank c.requires.rank_in_bounds.2, c.requires.rank_in_bounds.1), c.requires.rank_in_bounds.3, c.requires.rank_in_bounds.5) }
+evaluate_draw-least-requires c = record { table_in_bounds = c.requires.table_in_bounds; rank_in_bounds = (c.requires.rank_in_bounds.0, omega (arith, row_within 0 c.args.draws.count c.args.rank c.requires.rank_in_bounds.2, c.requires.rank_in_bounds.1), c.requires.rank_in_bounds.3, c.requires.rank_in_bounds.5) }
 
 pub loop-k-init : goal.loop-k-init
 unfolding first_least
 loop-k-init c = (held c.evaluate_draw-least.result c.evaluate_draw-least.type_inv ∙ c.evaluate_draw-least.ensures.value, c.evaluate_draw-least.ensures.signs_after)
 
 pub evaluate_draw-objective-requires : goal.evaluate_draw-objective-requires
-evaluate_draw-objective-requires c = record { lent = c.requires.lent; rank_in_bounds = (c.requires.rank_in_bounds.0, omega (arith, row_within c.loop-k.k c.args.draw_count c.args.rank c.loop-k-test.true, c.requires.rank_in_bounds.1), omega (arith, c.loop-k.auto.direction, c.evaluate_draw-least.auto.direction, c.requires.rank_in_bounds.3), omega (arith, c.loop-k.auto.signs, c.requires.rank_in_bounds.4)) }
+evaluate_draw-objective-requires c = record { table_in_bounds = c.requires.table_in_bounds; rank_in_bounds = (c.requires.rank_in_bounds.0, omega (arith, row_within c.loop-k.k c.args.draws.count c.args.rank c.loop-k-test.true, c.requires.rank_in_bounds.1), omega (arith, c.loop-k.auto.direction, c.evaluate_draw-least.auto.direction, c.requires.rank_in_bounds.3), omega (arith, c.loop-k.auto.signs, c.requires.rank_in_bounds.4)) }
 
 pub keep_better-least-requires : goal.keep_better-least-requires
 keep_better-least-requires c = omega (arith, c.loop-k.auto.best, c.loop-k.auto.signs, c.evaluate_draw-least.auto.signs, c.evaluate_draw-objective.auto.signs, c.requires.rank_in_bounds.4, c.requires.rank_in_bounds.5)
 
 pub loop-k-preserved : goal.loop-k-preserved
 loop-k-preserved c = let a = c.args in
-    let f = draw_objective a.factor.now a.rank a.m a.draws.now (table_of a.table.count a.table.rows.now a.table.cols.now a.table.values.now) in
-    let g = signs_of a.factor.now a.rank a.m a.draws.now in
+    let f = draw_objective a.factor.now a.rank a.m a.draws.numbers.now (listed a.table) in
+    let g = signs_of a.factor.now a.rank a.m a.draws.numbers.now in
     let l = c.loop-k in
     let o = c.evaluate_draw-objective in
     let now : l.k + 1 - 1 ≡ l.k = omega arith in
@@ -38,4 +38,4 @@ loop-k-preserved c = let a = c.args in
 
 pub returns : goal.returns
 unfolding rounded_sol rounded_objective
-returns c = let e : c.loop-k.k ≡ c.args.draw_count = omega arith in record { value = rw e at c.loop-k.invariant.0; best_after = rw e at c.loop-k.invariant.1 }
+returns c = let e : c.loop-k.k ≡ c.args.draws.count = omega arith in record { value = rw e at c.loop-k.invariant.0; best_after = rw e at c.loop-k.invariant.1 }

@@ -13,10 +13,10 @@ unfolding rounded_sols
 loop-k-init c = rw zero-mul
 
 pub round_at-requires : goal.round_at-requires
-round_at-requires c = (search rules, omega (arith, row_within c.loop-k.k c.args.draw_count c.args.rank c.loop-k-test.true), omega (arith, c.loop-k.auto.direction), omega (arith, c.loop-k.auto.sols, row_within c.loop-k.k c.args.draw_count c.args.m c.loop-k-test.true))
+round_at-requires c = (search rules, omega (arith, row_within c.loop-k.k c.args.draws.count c.args.rank c.loop-k-test.true), omega (arith, c.loop-k.auto.direction), omega (arith, c.loop-k.auto.sols, row_within c.loop-k.k c.args.draws.count c.args.m c.loop-k-test.true))
 
 pub loop-k-preserved : goal.loop-k-preserved
 loop-k-preserved c = c.round_at.ensures ∙ sols_next _ _ _ _ _ _ _ c.loop-k.invariant
 
 pub returns : goal.returns
-returns c = let e : c.loop-k.k ≡ c.args.draw_count = omega arith in rw e at c.loop-k.invariant
+returns c = let e : c.loop-k.k ≡ c.args.draws.count = omega arith in rw e at c.loop-k.invariant

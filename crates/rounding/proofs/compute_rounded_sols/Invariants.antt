@@ -7,4 +7,4 @@ use Rattle.rounding.specs.Rounding.{rounded_sols}
 use Rattle.rounding.proofs.compute_rounded_sols.Given as goal
 
 abbrev pub invariant-loop-k : goal.invariant-loop-k
-invariant-loop-k l = l.sols ≡ rounded_sols l.factor l.rank l.m l.draws l.k ++ drop (l.k * l.m) l.initial.sols
+invariant-loop-k l = l.sols ≡ rounded_sols l.factor l.rank l.m l.draws.numbers.now l.k ++ drop (l.k * l.m) l.initial.sols

@@ -9,7 +9,8 @@ overflow_cast-m c = omega (arith, c.requires.0 c.if-rank-eq0.true)
 
 pub returns-then-rank-eq0 : goal.returns-then-rank-eq0
 returns-then-rank-eq0 c = let zero-given = c.if-rank-eq0.true in
-    (c.default_sdp_rank.ensures ∙ sym (meant_default c.args.m zero-given), rw c.default_sdp_rank.ensures (default_low c.args.m (c.requires.0 zero-given)))
+    let default-is = c.from.ensures ∙ c.default_sdp_rank.ensures in
+    (default-is ∙ sym (meant_default c.args.m zero-given), rw default-is (default_low c.args.m (c.requires.0 zero-given)))
 
 pub returns : goal.returns
 returns c = (sym (meant_given c.args.m c.args.rank c.if-rank-eq0.false), c.requires.1)

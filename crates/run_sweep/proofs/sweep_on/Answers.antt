@@ -7,11 +7,11 @@ pub run_after-requires : goal.run_after-requires
 run_after-requires c = record {
   countable = record {
     standing_before = c.requires.sweeps_lt_most.1;
-    left_few = rw c.step-answer.ensures.standing_value (standing_in_few _ _ _ _ _ _ _);
+    left_few = rw c.step-left.ensures.standing_value (standing_in_few _ _ _ _ _ _ _);
     signs_few = c.requires.sweepable.few;
   };
-  sweeps_lt_most = (c.requires.sweeps_lt_most.0, c.step-answer.ensures.tests_value.0, reshaped c.requires.sweepable.shaped c.step-answer.auto.factor, c.step-answer.auto.scratch ∙ c.requires.sweepable.product_is, c.requires.sweepable.dual_is);
+  sweeps_lt_most = (c.requires.sweeps_lt_most.0, reshaped c.requires.sweepable.shaped c.step-left.auto.factor, c.step-left.auto.scratch ∙ c.requires.sweepable.product_is, c.requires.sweepable.dual_is);
 }
 
 pub returns : goal.returns
-returns c = (after_left _ _ _ (after_factor _ _ _ c.run_after.ensures (sym c.step-answer.ensures.tests_value.1)) (sym c.step-answer.ensures.standing_value), c.step-answer.ensures.tests_value.1)
+returns c = (after_left _ _ _ (after_factor _ _ _ c.run_after.ensures (sym c.step-left.ensures.factor_after)) (sym c.step-left.ensures.standing_value), c.step-left.ensures.factor_after)

@@ -7,7 +7,7 @@ use native.Mathlib.Omega.{arith}
 use Prim.Native.Nat.{◌-◌}
 use lib.ListN.{length, take, drop}
 use Rattle.limits.specs.Limits.{search_workspace}
-use Rattle.tables.specs.Table.{table_of}
+use Rattle.tables.specs.Lent.{lent_table}
 use Rattle.sign_search.specs.Search.{beam_search}
 use Rattle.sign_search.specs.Clauses.{Found-by}
 use Rattle.sign_search.proofs.ExpandLaws.{part_size}
@@ -27,47 +27,33 @@ returns-in_err-search_refusal c = let out = ap in_numbers (passed c.from_residua
     }
 
 pub slice_bounds-search_from-end : goal.slice_bounds-search_from-end
-slice_bounds-search_from-end c =
-    let a = c.args in
-    let k = call_ready a.m a.count a.rows.now a.cols.now a.values.now a.width (length a.start.now) (length a.out.now) (length a.workspace.now)
-    (sym c.in_ok-search_refusal.ensures) in
-    k.out_there
+slice_bounds-search_from-end c = (call_ready (sym c.in_ok-search_refusal.ensures)).out_there
 
 pub slice_bounds-search_from-end-2 : goal.slice_bounds-search_from-end-2
-slice_bounds-search_from-end-2 c =
-    let a = c.args in
-    let k = call_ready a.m a.count a.rows.now a.cols.now a.values.now a.width (length a.start.now) (length a.out.now) (length a.workspace.now)
-    (sym c.in_ok-search_refusal.ensures) in
-    k.workspace_there
+slice_bounds-search_from-end-2 c = (call_ready (sym c.in_ok-search_refusal.ensures)).workspace_there
 
-pub invariant_of-table : goal.invariant_of-table
-invariant_of-table c = let a = c.args in
-    let k = call_ready a.m a.count a.rows.now a.cols.now a.values.now a.width (length a.start.now) (length a.out.now) (length a.workspace.now)
-    (sym c.in_ok-search_refusal.ensures) in
-    let m : length (take (a.m - 0) (drop 0 a.out.now)) ≡ a.m = part_size a.m a.out.now k.out_there in
-    let n : length (take (search_workspace - 0) (drop 0 a.workspace.now)) ≡ search_workspace = part_size search_workspace a.workspace.now k.workspace_there in record { lent = k.lent }
+pub invariant_of-entries : goal.invariant_of-entries
+invariant_of-entries c = record { lent = (call_ready (sym c.in_ok-search_refusal.ensures)).lent }
 
 pub search_from-found-requires : goal.search_from-found-requires
 search_from-found-requires c = let a = c.args in
-    let k = call_ready a.m a.count a.rows.now a.cols.now a.values.now a.width (length a.start.now) (length a.out.now) (length a.workspace.now)
-    (sym c.in_ok-search_refusal.ensures) in
-    let m : length (take (a.m - 0) (drop 0 a.out.now)) ≡ a.m = part_size a.m a.out.now k.out_there in
+    let k = call_ready (sym c.in_ok-search_refusal.ensures) in
+    let m : length (take (a.table.size - 0) (drop 0 a.out.now)) ≡ a.table.size = part_size a.table.size a.out.now k.out_there in
     let n : length (take (search_workspace - 0) (drop 0 a.workspace.now)) ≡ search_workspace = part_size search_workspace a.workspace.now k.workspace_there in (rw (m, n) (record { signs_few = k.signs_few; width_few = omega (arith, k.width_few); level_room = omega arith }), rw m k.sound, rw m k.start_there)
 
 pub returns : goal.returns
 returns c = let a = c.args in
-    let k = call_ready a.m a.count a.rows.now a.cols.now a.values.now a.width (length a.start.now) (length a.out.now) (length a.workspace.now)
-    (sym c.in_ok-search_refusal.ensures) in
+    let k = call_ready (sym c.in_ok-search_refusal.ensures) in
     let v = c.search_from-found in
     let none = sym c.in_ok-search_refusal.ensures in
-    let t = table_of a.count a.rows.now a.cols.now a.values.now in
-    let from = sign_bytes a.m a.start.now in
-    let m : length (take (a.m - 0) (drop 0 a.out.now)) ≡ a.m = part_size a.m a.out.now k.out_there in
+    let t = lent_table a.table in
+    let from = sign_bytes a.table.size a.start.now in
+    let m : length (take (a.table.size - 0) (drop 0 a.out.now)) ≡ a.table.size = part_size a.table.size a.out.now k.out_there in
     let found : Found-by t a.width from v.result.least v.result.rounds v.new.kept = rw m at v.ensures in
     record {
       numbered = sym none;
       refused = λ n. absurd (n none);
       answers = λ z. answered t a.width from v.result.least v.result.rounds v.new.kept found;
-      writes = λ z. written a.m v.new.kept (beam_search t a.width from).answer a.out.now (v.auto.kept ∙ m) found.answer_is;
+      writes = λ z. written a.table.size v.new.kept (beam_search t a.width from).answer a.out.now (v.auto.kept ∙ m) found.answer_is;
       kept = tail_kept search_workspace v.new.workspace a.workspace.now (v.auto.workspace ∙ part_size search_workspace a.workspace.now k.workspace_there);
     }

@@ -15,4 +15,4 @@ step-requires c = record { shaped = c.requires.shaped; obj_fits = c.requires.obj
 
 pub returns : goal.returns
 unfolding stepped_within
-returns c = record { standing_value = c.step.ensures.standing_value; tests_value = (c.step.ensures.tests_value.0, rw c.step.ensures.tests_value.1) }
+returns c = record { standing_value = c.step.ensures.standing_value; factor_after = rw c.step.ensures.factor_after }

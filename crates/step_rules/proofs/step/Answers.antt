@@ -6,28 +6,28 @@ use Rattle.step_rules.proofs.step.Goals as goal
 pub make_step_adv-requires : goal.make_step_adv-requires
 make_step_adv-requires c = record { shaped = c.requires.shaped; obj_fits = c.requires.obj_fits; product_len = (c.requires.scratch_len.0, c.requires.scratch_len.1) }
 
-pub make_step_coord_momentum-standing-requires : goal.make_step_coord_momentum-standing-requires
-make_step_coord_momentum-standing-requires c = record { shaped = c.requires.shaped; rank_in_bounds = (rw c.requires.scratch_len.0 c.requires.scratch_len.2, rw c.requires.scratch_len.1 c.requires.scratch_len.2) }
+pub make_step_coord_momentum-requires : goal.make_step_coord_momentum-requires
+make_step_coord_momentum-requires c = record { shaped = c.requires.shaped; rank_in_bounds = (rw c.requires.scratch_len.0 c.requires.scratch_len.2, rw c.requires.scratch_len.1 c.requires.scratch_len.2) }
 
-pub make_step_coord_momentum-standing-requires-in-CoordMomentum : goal.make_step_coord_momentum-standing-requires-in-CoordMomentum
-make_step_coord_momentum-standing-requires-in-CoordMomentum c = record { shaped = c.requires.shaped; rank_in_bounds = (rw c.requires.scratch_len.0 c.requires.scratch_len.2, rw c.requires.scratch_len.1 c.requires.scratch_len.2) }
+pub make_step_coord_momentum-requires-in-CoordMomentum : goal.make_step_coord_momentum-requires-in-CoordMomentum
+make_step_coord_momentum-requires-in-CoordMomentum c = record { shaped = c.requires.shaped; rank_in_bounds = (rw c.requires.scratch_len.0 c.requires.scratch_len.2, rw c.requires.scratch_len.1 c.requires.scratch_len.2) }
 
 pub returns-in-Grad : goal.returns-in-Grad
 unfolding stepped standing_in
-returns-in-Grad c = rw c.in-Grad.is (record { standing_value = refl; tests_value = (refl, c.make_step.ensures) })
+returns-in-Grad c = rw c.in-Grad.is (record { standing_value = refl; factor_after = c.make_step.ensures })
 
 pub returns-in-GradAdv : goal.returns-in-GradAdv
 unfolding stepped standing_in
-returns-in-GradAdv c = rw c.in-GradAdv.is (record { standing_value = refl; tests_value = (refl, c.make_step_adv.ensures) })
+returns-in-GradAdv c = rw c.in-GradAdv.is (record { standing_value = refl; factor_after = c.make_step_adv.ensures })
 
 pub returns-in-Coord : goal.returns-in-Coord
 unfolding stepped standing_in
-returns-in-Coord c = rw c.in-Coord.is (record { standing_value = refl; tests_value = (refl, c.make_step_coord.ensures) })
+returns-in-Coord c = rw c.in-Coord.is (record { standing_value = refl; factor_after = c.make_step_coord.ensures })
 
 pub returns-in-CoordNoStep : goal.returns-in-CoordNoStep
 unfolding stepped standing_in
-returns-in-CoordNoStep c = rw c.in-CoordNoStep.is (record { standing_value = c.make_step_coord_momentum-standing.ensures.value; tests_value = (refl, c.make_step_coord_momentum-standing.ensures.factor_after) })
+returns-in-CoordNoStep c = rw c.in-CoordNoStep.is (record { standing_value = c.make_step_coord_momentum.ensures.value; factor_after = c.make_step_coord_momentum.ensures.factor_after })
 
 pub returns-in-CoordMomentum : goal.returns-in-CoordMomentum
 unfolding stepped standing_in
-returns-in-CoordMomentum c = rw c.in-CoordMomentum.is (record { standing_value = c.make_step_coord_momentum-standing-in-CoordMomentum.ensures.value; tests_value = (refl, c.make_step_coord_momentum-standing-in-CoordMomentum.ensures.factor_after) })
+returns-in-CoordMomentum c = rw c.in-CoordMomentum.is (record { standing_value = c.make_step_coord_momentum-in-CoordMomentum.ensures.value; factor_after = c.make_step_coord_momentum-in-CoordMomentum.ensures.factor_after })

@@ -1,16 +1,16 @@
-use mathlib.Core.List.{◌++◌}
+use mathlib.Core.Path.{ap, ◌∙◌}
+use mathlib.Core.List.{append_assoc, append-nil}
 use native.Mathlib.Omega.{arith}
 use lib.ListN.{length-append}
-use Rattle.job_reader.specs.Encode.{bytes_of}
 use Rattle.job_reader.proofs.Encode.{length_bytes_of}
 use Rattle.answer_record.specs.Answer.{refusal_bytes}
-use Rattle.answer_record.proofs.Written.{put_next, put_front}
+use Rattle.answer_record.specs.Put.{put}
+use Rattle.answer_record.proofs.Written.{put_front}
 use Rattle.answer_record.proofs.answer.write_refusal.Goals as goal
+
+pub put_fields-requires : goal.put_fields-requires
+put_fields-requires c = simp (length-append, length_bytes_of) (omega (arith, c.requires))
 
 pub returns : goal.returns
 unfolding refusal_bytes
-returns c = let a = c.args in
-    put_front a.out.now (bytes_of 4 2 ++ bytes_of 1 1 ++ bytes_of 1 a.number)
-    (put_next a.out.now 0 5 (bytes_of 4 2 ++ bytes_of 1 1) (bytes_of 1 a.number)
-    (put_next a.out.now 0 4 (bytes_of 4 2) (bytes_of 1 1) c.put_number.ensures c.put_number-2.ensures (omega arith) (simp length_bytes_of))
-    c.put_number-3.ensures (omega arith) (simp (length-append, length_bytes_of)))
+returns c = put_front c.args.out.now _ (c.put_fields.ensures ∙ ap (put c.args.out.now 0) (simp (c.from.ensures, append_assoc, append-nil)))

@@ -11,4 +11,4 @@ pub put_each-requires : goal.put_each-requires
 put_each-requires c = (within_up (omega (arith, c.requires.1, c.copy_states.auto.choice)) c.requires.0.wagons_there, c.requires.0.stores_there)
 
 pub returns : goal.returns
-returns c = first_made c.args.n c.args.pinned.now c.args.stores.now c.args.present.now c.args.b.now c.requires.0.present_there c.requires.1 c.copy_states.ensures (c.put_each.ensures 0)
+returns c = first_made c.args.n c.args.pins.wagons.now c.args.pins.stores.now c.args.present.now c.args.b.now c.requires.0.present_there c.requires.1 c.copy_states.ensures (c.put_each.ensures 0)

@@ -8,28 +8,26 @@ use Prim.Native.Nat.{ℕ, ◌+◌}
 use Rattle.laws.specs.Sum.{total}
 use Rattle.laws.specs.Lists.{elem, elem_z, tabulate}
 use Rattle.laws.proofs.Integer.{held}
-use Rattle.tables.specs.Table.{table_of}
+use Rattle.tables.specs.Entries.{listed}
+use Rattle.tables.proofs.Checks.{hall_accepted}
 use Rattle.pinned.proofs.Steps.{cost_next}
 use Rattle.block_search.specs.Blocks.{named, free_among, block_moves, searched_from, fall_from}
 use Rattle.block_search.proofs.Held.{low_after}
-use Rattle.block_search.proofs.Turns.{block_ends, total_next, part_is, choice_none, fall_next, choice_next}
+use Rattle.block_search.proofs.Turns.{block_ends, total_next, choice_none, fall_next, choice_next}
 use Rattle.block_search.proofs.blocks.search_blocks.Goals as goal
 
 pub loop-k-init : goal.loop-k-init
 unfolding tabulate total
 loop-k-init c = (omega arith, refl, choice_none _ _ _ _ _ _, refl, refl, c.requires.house_fits.bytes_many, c.requires.house_fits.bytes_low, refl)
 
-pub overflow_add-end : goal.overflow_add-end
-overflow_add-end c = omega (arith, block_ends (elem c.args.sizes.now) c.loop-k.k (length c.args.sizes.now) c.loop-k-test.true, c.requires.sizes_in_bounds.0, c.wide.ensures, c.loop-k.invariant.1)
+pub block-block-requires : goal.block-block-requires
+block-block-requires c = (c.loop-k-test.true, c.loop-k.invariant.1, c.requires.sizes_in_bounds.0)
 
-pub offset_bounds-wagons-at : goal.offset_bounds-wagons-at
-offset_bounds-wagons-at c = omega (arith, block_ends (elem c.args.sizes.now) c.loop-k.k (length c.args.sizes.now) c.loop-k-test.true, c.requires.sizes_in_bounds.0, c.wide.ensures, c.loop-k.invariant.1)
-
-pub slice_bounds-search_moving-end : goal.slice_bounds-search_moving-end
-slice_bounds-search_moving-end c = omega (arith, block_ends (elem c.args.sizes.now) c.loop-k.k (length c.args.sizes.now) c.loop-k-test.true, c.requires.sizes_in_bounds.0, c.wide.ensures, c.loop-k.invariant.1)
+pub overflow_add-at : goal.overflow_add-at
+overflow_add-at c = omega (arith, block_ends (elem c.args.blocks.sizes.now) c.loop-k.k (length c.args.blocks.sizes.now) c.loop-k-test.true, c.requires.sizes_in_bounds.0, c.block-block.ensures.many, c.loop-k.invariant.1)
 
 pub search_moving-requires : goal.search_moving-requires
-search_moving-requires c = record { lent = c.requires.house_fits.lent; costs_there = c.requires.house_fits.costs_there; hall = c.requires.house_fits.hall; width_some = c.requires.house_fits.width_some; width_few = c.requires.house_fits.width_few; bytes_many = c.loop-k.invariant.5; bytes_low = c.loop-k.invariant.6; space_room = omega (arith, c.requires.house_fits.space_room, c.loop-k.invariant.7) }
+search_moving-requires c = record { width_some = c.requires.house_fits.width_some; width_few = c.requires.house_fits.width_few; bytes_many = c.loop-k.invariant.5; bytes_low = c.loop-k.invariant.6; space_room = omega (arith, c.requires.house_fits.space_room, c.loop-k.invariant.7) }
 
 pub offset_bounds-falls-k : goal.offset_bounds-falls-k
 offset_bounds-falls-k c = omega (arith, c.requires.sizes_in_bounds.2, c.loop-k-test.true)
@@ -38,7 +36,7 @@ pub bounds-falls-k : goal.bounds-falls-k
 bounds-falls-k c = omega (arith, c.requires.sizes_in_bounds.1, c.loop-k.invariant.4, c.loop-k-test.true)
 
 pub loop-k-preserved : goal.loop-k-preserved
-loop-k-preserved c = let part = part_is c.args.sizes.now c.args.wagons.now c.loop-k.k c.loop-k.invariant.1 (ap (λ (i : ℕ). c.loop-k.at + i) c.wide.ensures) in (omega arith, total_next (elem c.args.sizes.now) c.loop-k.k c.loop-k.invariant.1 (ap (λ (i : ℕ). c.loop-k.at + i) c.wide.ensures), choice_next c.args.n (table_of c.args.count c.args.rows.now c.args.cols.now c.args.values.now) (elem_z c.args.c.now) c.args.width (block_moves c.args.pinned.now c.args.sizes.now c.args.wagons.now) c.args.b.now c.loop-k.k _ c.loop-k.invariant.2 (c.search_moving.ensures.1 ∙ ap (λ (l : List ℕ). searched_from c.args.n (table_of c.args.count c.args.rows.now c.args.cols.now c.args.values.now) (elem_z c.args.c.now) c.args.width (free_among c.args.pinned.now (named l)) c.loop-k.b) part), rw (held _ c.search_moving.type_inv) (cost_next _ _ _ _ (omega (arith, c.requires.sizes_in_bounds.1, c.loop-k-test.true)) c.loop-k.invariant.3 (fall_next c.args.n (table_of c.args.count c.args.rows.now c.args.cols.now c.args.values.now) (elem_z c.args.c.now) c.args.width (block_moves c.args.pinned.now c.args.sizes.now c.args.wagons.now) c.args.b.now c.loop-k.k _ c.loop-k.invariant.2 (c.search_moving.ensures.0 ∙ ap (λ (l : List ℕ). fall_from c.args.n (table_of c.args.count c.args.rows.now c.args.cols.now c.args.values.now) (elem_z c.args.c.now) c.args.width (free_among c.args.pinned.now (named l)) c.loop-k.b) part))), search rules, c.search_moving.auto.b ∙ c.loop-k.invariant.5, rw c.search_moving.ensures.1 (low_after c.args.n _ c.loop-k.b c.loop-k.invariant.6 c.requires.house_fits.hall c.args.width c.requires.house_fits.width_some), c.search_moving.auto.workspace ∙ c.loop-k.invariant.7)
+loop-k-preserved c = (omega arith, total_next (elem c.args.blocks.sizes.now) c.loop-k.k c.loop-k.invariant.1 (ap (λ (i : ℕ). c.loop-k.at + i) c.block-block.ensures.many), choice_next c.args.hall.n (listed c.args.hall.table) (elem_z c.args.hall.c.now) c.args.width (block_moves c.args.pinned.now c.args.blocks.sizes.now c.args.blocks.wagons.now) c.args.b.now c.loop-k.k _ c.loop-k.invariant.2 (c.search_moving.ensures.1 ∙ ap (λ (l : List ℕ). searched_from c.args.hall.n (listed c.args.hall.table) (elem_z c.args.hall.c.now) c.args.width (free_among c.args.pinned.now (named l)) c.loop-k.b) c.block-block.ensures.wagons), rw (held _ c.search_moving.type_inv) (cost_next _ _ _ _ (omega (arith, c.requires.sizes_in_bounds.1, c.loop-k-test.true)) c.loop-k.invariant.3 (fall_next c.args.hall.n (listed c.args.hall.table) (elem_z c.args.hall.c.now) c.args.width (block_moves c.args.pinned.now c.args.blocks.sizes.now c.args.blocks.wagons.now) c.args.b.now c.loop-k.k _ c.loop-k.invariant.2 (c.search_moving.ensures.0 ∙ ap (λ (l : List ℕ). fall_from c.args.hall.n (listed c.args.hall.table) (elem_z c.args.hall.c.now) c.args.width (free_among c.args.pinned.now (named l)) c.loop-k.b) c.block-block.ensures.wagons))), search rules, c.search_moving.auto.b ∙ c.loop-k.invariant.5, rw c.search_moving.ensures.1 (low_after c.args.hall.n _ c.loop-k.b c.loop-k.invariant.6 (hall_accepted c.args.hall.judged) c.args.width c.requires.house_fits.width_some), c.search_moving.auto.workspace ∙ c.loop-k.invariant.7)
 
 pub shape_of-b : goal.shape_of-b
 shape_of-b c = c.loop-k.invariant.5 ∙ sym c.requires.house_fits.bytes_many
@@ -50,4 +48,4 @@ pub shape_of-workspace : goal.shape_of-workspace
 shape_of-workspace c = c.loop-k.invariant.7
 
 pub returns : goal.returns
-returns c = let e : c.loop-k.k ≡ length c.args.sizes.now = omega (arith, c.loop-k.invariant.0, c.loop-k-test.false) in ((rw e at c.loop-k.invariant.2), (rw e at c.loop-k.invariant.3))
+returns c = let e : c.loop-k.k ≡ length c.args.blocks.sizes.now = omega (arith, c.loop-k.invariant.0, c.loop-k-test.false) in ((rw e at c.loop-k.invariant.2), (rw e at c.loop-k.invariant.3))

@@ -4,13 +4,13 @@ use lib.ListN.{length}
 use Prim.Native.Nat.{◌≤◌}
 use Rattle.laws.specs.Sum.{total}
 use Rattle.laws.specs.Lists.{elem, elem_z, over, tabulate}
-use Rattle.tables.specs.Table.{table_of}
+use Rattle.tables.specs.Entries.{listed}
 use Rattle.block_search.specs.Blocks.{block_moves, choice_from, block_fall}
 use Rattle.block_search.specs.Clauses.{Low}
 use Rattle.block_search.proofs.blocks.search_blocks.Given as goal
 
 abbrev pub invariant-loop-k : goal.invariant-loop-k
-invariant-loop-k l = (l.k ≤ length l.sizes) × (l.at ≡ total l.k (elem l.sizes))
-    × (l.b ≡ choice_from l.n (table_of l.count l.rows l.cols l.values) (elem_z l.c) l.width (block_moves l.pinned l.sizes l.wagons) l.initial.b l.k)
-    × (l.falls ≡ over (tabulate (block_fall l.n (table_of l.count l.rows l.cols l.values) (elem_z l.c) l.width (block_moves l.pinned l.sizes l.wagons) l.initial.b) l.k) l.initial.falls)
-    × (length l.falls ≡ length l.initial.falls) × (length l.b ≡ l.n) × Low l.b × (length l.workspace ≡ length l.initial.workspace)
+invariant-loop-k l = (l.k ≤ length l.blocks.sizes.now) × (l.at ≡ total l.k (elem l.blocks.sizes.now))
+    × (l.b ≡ choice_from l.hall.n (listed l.hall.table) (elem_z l.hall.c.now) l.width (block_moves l.pinned l.blocks.sizes.now l.blocks.wagons.now) l.initial.b l.k)
+    × (l.falls ≡ over (tabulate (block_fall l.hall.n (listed l.hall.table) (elem_z l.hall.c.now) l.width (block_moves l.pinned l.blocks.sizes.now l.blocks.wagons.now) l.initial.b) l.k) l.initial.falls)
+    × (length l.falls ≡ length l.initial.falls) × (length l.b ≡ l.hall.n) × Low l.b × (length l.workspace ≡ length l.initial.workspace)

@@ -8,31 +8,28 @@ use Rattle.laws.specs.Lists.{elem}
 use Rattle.laws.proofs.Any.{below_start, below_at, below_passed, below_ended}
 use Rattle.block_search.specs.Blocks.{block_of}
 use Rattle.block_search.specs.Numbers.{bad_list, bad_block}
-use Rattle.block_search.proofs.Turns.{block_ends, total_next, part_is}
+use Rattle.block_search.proofs.Turns.{block_ends, total_next}
 use Rattle.block_search.proofs.check.bad_block.Goals as goal
 
 pub loop-k-init : goal.loop-k-init
 unfolding total
 loop-k-init c = (omega arith, refl, below_start _)
 
-pub overflow_add-end : goal.overflow_add-end
-overflow_add-end c = omega (arith, block_ends (elem c.args.sizes.now) c.loop-k.k (length c.args.sizes.now) c.loop-k-test.true, c.requires.1, c.wide.ensures, c.loop-k.invariant.1)
+pub block-block-requires : goal.block-block-requires
+block-block-requires c = (c.loop-k-test.true, c.loop-k.invariant.1, c.requires.1)
 
-pub offset_bounds-wagons-at : goal.offset_bounds-wagons-at
-offset_bounds-wagons-at c = omega (arith, block_ends (elem c.args.sizes.now) c.loop-k.k (length c.args.sizes.now) c.loop-k-test.true, c.requires.1, c.wide.ensures, c.loop-k.invariant.1)
-
-pub slice_bounds-bad_list-end : goal.slice_bounds-bad_list-end
-slice_bounds-bad_list-end c = omega (arith, block_ends (elem c.args.sizes.now) c.loop-k.k (length c.args.sizes.now) c.loop-k-test.true, c.requires.1, c.wide.ensures, c.loop-k.invariant.1)
+pub overflow_add-at : goal.overflow_add-at
+overflow_add-at c = omega (arith, block_ends (elem c.args.blocks.sizes.now) c.loop-k.k (length c.args.blocks.sizes.now) c.loop-k-test.true, c.requires.1, c.block-block.ensures.many, c.loop-k.invariant.1)
 
 pub bad_list-requires : goal.bad_list-requires
 bad_list-requires c = c.requires.0
 
 pub returns-then-bad_list : goal.returns-then-bad_list
 unfolding bad_block
-returns-then-bad_list c = let part = part_is c.args.sizes.now c.args.wagons.now c.loop-k.k c.loop-k.invariant.1 (ap (λ (i : ℕ). c.loop-k.at + i) c.wide.ensures) in sym (below_at (λ j. bad_list c.args.n (block_of c.args.sizes.now c.args.wagons.now j)) (length c.args.sizes.now) c.loop-k.k c.loop-k-test.true (ap (bad_list c.args.n) (sym part) ∙ sym c.bad_list.ensures ∙ c.if-bad_list.true))
+returns-then-bad_list c = sym (below_at (λ j. bad_list c.args.n (block_of c.args.blocks.sizes.now c.args.blocks.wagons.now j)) (length c.args.blocks.sizes.now) c.loop-k.k c.loop-k-test.true (ap (bad_list c.args.n) (sym c.block-block.ensures.wagons) ∙ sym c.bad_list.ensures ∙ c.if-bad_list.true))
 
 pub loop-k-preserved : goal.loop-k-preserved
-loop-k-preserved c = let part = part_is c.args.sizes.now c.args.wagons.now c.loop-k.k c.loop-k.invariant.1 (ap (λ (i : ℕ). c.loop-k.at + i) c.wide.ensures) in (omega arith, total_next (elem c.args.sizes.now) c.loop-k.k c.loop-k.invariant.1 (ap (λ (i : ℕ). c.loop-k.at + i) c.wide.ensures), below_passed _ _ c.loop-k.invariant.2 (ap (bad_list c.args.n) (sym part) ∙ sym c.bad_list.ensures ∙ c.if-bad_list.false))
+loop-k-preserved c = (omega arith, total_next (elem c.args.blocks.sizes.now) c.loop-k.k c.loop-k.invariant.1 (ap (λ (i : ℕ). c.loop-k.at + i) c.block-block.ensures.many), below_passed _ _ c.loop-k.invariant.2 (ap (bad_list c.args.n) (sym c.block-block.ensures.wagons) ∙ sym c.bad_list.ensures ∙ c.if-bad_list.false))
 
 pub returns : goal.returns
 unfolding bad_block

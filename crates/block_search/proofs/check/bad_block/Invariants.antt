@@ -10,4 +10,4 @@ use Rattle.block_search.specs.Numbers.{bad_list}
 use Rattle.block_search.proofs.check.bad_block.Given as goal
 
 abbrev pub invariant-loop-k : goal.invariant-loop-k
-invariant-loop-k l = (l.k ≤ length l.sizes) × (l.at ≡ total l.k (elem l.sizes)) × (any_below l.k (λ j. bad_list l.n (block_of l.sizes l.wagons j)) ≡ false)
+invariant-loop-k l = (l.k ≤ length l.blocks.sizes.now) × (l.at ≡ total l.k (elem l.blocks.sizes.now)) × (any_below l.k (λ j. bad_list l.n (block_of l.blocks.sizes.now l.blocks.wagons.now j)) ≡ false)

@@ -3,7 +3,6 @@ use mathlib.Core.Path.{sym, ap, ◌∙◌}
 use Rattle.refusal.specs.Number.{numbered}
 use Rattle.refusal.proofs.Passed.{passed, some_number}
 use Rattle.laws.proofs.Refusal.{first_here, first_skip, first_found, first_next, first_last}
-use lib.Dec.{lit<, lit≤}
 use Rattle.tables.proofs.Checks.{hall_accepted}
 use Rattle.block_search.specs.Numbers.{block_number}
 use Rattle.block_search.proofs.Numbers.{slices_long}
@@ -14,14 +13,14 @@ unfolding block_number
 returns-then-call_short c = sym (first_here 30 _ _ (sym c.call_short.ensures ∙ c.if-call_short.true))
 
 pub hall_number-requires : goal.hall_number-requires
-hall_number-requires c = let l = slices_long c.args.n c.args.count c.args.rows.now c.args.cols.now c.args.values.now c.args.c.now c.args.pinned.now c.args.stores.now c.args.present.now c.args.sizes.now c.args.wagons.now c.args.choice c.args.falls c.args.workspace (sym c.call_short.ensures ∙ c.if-call_short.false) in (λ h. l.table_long h, λ h. l.costs_long h, lit≤ tt, lit< tt)
+hall_number-requires c = let l = slices_long (sym c.call_short.ensures ∙ c.if-call_short.false) in (λ h. l.table_long h, λ h. l.costs_long h)
 
 pub returns-in_err-hall_number : goal.returns-in_err-hall_number
 unfolding block_number
 returns-in_err-hall_number c = ap numbered (passed c.from_residual.ensures.1) ∙ c.in_err-hall_number.ensures ∙ sym (first_skip 31 _ _ (sym c.call_short.ensures ∙ c.if-call_short.false) ∙ first_found _ _ (λ e. some_number _ (c.in_err-hall_number.ensures ∙ e)))
 
 pub list_number-requires : goal.list_number-requires
-list_number-requires c = let l = slices_long c.args.n c.args.count c.args.rows.now c.args.cols.now c.args.values.now c.args.c.now c.args.pinned.now c.args.stores.now c.args.present.now c.args.sizes.now c.args.wagons.now c.args.choice c.args.falls c.args.workspace (sym c.call_short.ensures ∙ c.if-call_short.false) in let ok = hall_accepted (sym c.in_ok-hall_number.ensures) in (ok.wagons, l.stores_long, l.present_long ok.wagons, λ h. l.wagons_long h)
+list_number-requires c = let l = slices_long (sym c.call_short.ensures ∙ c.if-call_short.false) in let ok = hall_accepted (sym c.in_ok-hall_number.ensures) in (ok.wagons, l.stores_long, l.present_long ok.wagons, λ h. l.wagons_long h)
 
 pub returns : goal.returns
 unfolding block_number

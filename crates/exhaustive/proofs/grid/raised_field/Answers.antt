@@ -1,15 +1,23 @@
 -- `exhaustive::grid::raised_field` meets its contract. Assumes nothing.
+use mathlib.Core.List.{List}
+use Prim.Native.Nat.{ℕ, ◌+◌, ◌*◌, ◌^◌, ◌<◌, ◌≤◌}
 use native.Mathlib.Omega.{arith}
+use lib.IntN.{ℤ, nat_abs}
 use Rattle.laws.specs.Lists.{elem_z}
+use Rattle.limits.specs.Limits.{most_magnitude}
+use Rattle.exhaustive.specs.Walk.{Raisable}
 use Rattle.exhaustive.proofs.Terms.{eight_fits, raised_fits, raised_is}
-use Prim.Native.Nat.{◌+◌, ◌*◌}
 use Rattle.exhaustive.proofs.grid.raised_field.Goals as goal
 
+-- the field and the value that is added to it
+both_small : {i j : ℕ} {fields grid : List ℤ} → (i < j) × Raisable j fields grid → (nat_abs (elem_z fields i) ≤ 2 ^ 43) × (nat_abs (elem_z grid (j * 16 + i)) ≤ most_magnitude)
+both_small {i} {j} (below, r) = (r.fields_small i below, r.grid_small.small j i r.low (omega (arith, r.low)))
+
 pub overflow_mul-result : goal.overflow_mul-result
-overflow_mul-result c = eight_fits (elem_z c.args.fields.now c.args.i) (elem_z c.args.grid.now (c.args.j * 16 + c.args.i)) (c.requires.1.fields_small c.args.i c.requires.0) (c.requires.1.grid_small.small c.args.j c.args.i c.requires.1.low (omega (arith, c.requires.1.low)))
+overflow_mul-result c = let a = c.args in let (field, value) = both_small c.requires in eight_fits (elem_z a.fields.now a.i) (elem_z a.grid.now (a.j * 16 + a.i)) field value
 
 pub overflow_add-result : goal.overflow_add-result
-overflow_add-result c = raised_fits (elem_z c.args.fields.now c.args.i) (elem_z c.args.grid.now (c.args.j * 16 + c.args.i)) (c.requires.1.fields_small c.args.i c.requires.0) (c.requires.1.grid_small.small c.args.j c.args.i c.requires.1.low (omega (arith, c.requires.1.low)))
+overflow_add-result c = let a = c.args in let (field, value) = both_small c.requires in raised_fits (elem_z a.fields.now a.i) (elem_z a.grid.now (a.j * 16 + a.i)) field value
 
 pub returns : goal.returns
-returns c = raised_is (elem_z c.args.fields.now c.args.i) (elem_z c.args.grid.now (c.args.j * 16 + c.args.i)) (c.requires.1.fields_small c.args.i c.requires.0) (c.requires.1.grid_small.small c.args.j c.args.i c.requires.1.low (omega (arith, c.requires.1.low)))
+returns c = let a = c.args in let (field, value) = both_small c.requires in raised_is (elem_z a.fields.now a.i) (elem_z a.grid.now (a.j * 16 + a.i)) field value

@@ -18,9 +18,6 @@ two one = ap (λ (x : ℕ). 2 ^ x) one
 pub visit-low-requires : goal.visit-low-requires
 visit-low-requires c = omega (arith, c.requires.1.within, two c.requires.0)
 
-pub overflow_sub-top : goal.overflow_sub-top
-overflow_sub-top c = omega (arith, c.requires.0)
-
 pub offset_bounds-fields-top : goal.offset_bounds-fields-top
 offset_bounds-fields-top c = let r = (can_raise (some c.requires.0) c.requires.1).low in record { fits = omega (arith, r) }
 

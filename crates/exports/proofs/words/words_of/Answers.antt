@@ -1,6 +1,7 @@
 -- `exports::words::words_of` meets its contract. Assumes nothing.
 use mathlib.Core.Path.{refl, sym, subst}
 use native.Mathlib.Omega.{arith}
+use borrow.Author.Rules.{rules}
 use lib.Dec.{T}
 use lib.Ieee.{Float, binary64, fits}
 use Rattle.exports.specs.Words.{words_of, Fitting}
@@ -13,13 +14,13 @@ returns c =
     let fitting : Fitting c.args.run =
     record {
       value_fits = subst (λ (x : Float). T (fits binary64 x)) c.rule_value.ensures (subst T (sym c.rule_value.type_inv) tt);
-      last_fits = c.struct_known-1.given.1.1.1.1.0;
-      objective_fits = c.struct_known-1.given.1.1.1.1.1.0;
-      stationarity_fits = c.struct_known-1.given.1.1.1.1.1.1.0;
-      sweeps_fit = omega (arith, c.struct_known-1.given.1.1.1.0.fits);
-      most_fit = omega (arith, c.struct_known-1.given.1.1.1.1.1.1.1.0.fits);
-      minimum_fit = omega (arith, c.struct_known-1.given.1.1.1.1.1.1.1.1.0.fits);
-      status_fits = omega (arith, c.struct_known-1.given.1.1.1.1.1.1.1.1.1.1.0.fits);
+      last_fits = search rules;
+      objective_fits = search rules;
+      stationarity_fits = search rules;
+      sweeps_fit = omega arith;
+      most_fit = omega arith;
+      minimum_fit = omega arith;
+      status_fits = omega arith;
     } in
     rw (
       c.bits_of.ensures,
@@ -29,4 +30,8 @@ returns c =
       c.bits_of-3.ensures,
       c.bits_of-4.ensures,
       c.stage_word.ensures,
-    ) (refl, words_back c.args.run (fitting))
+      c.from.ensures,
+      c.from-2.ensures,
+      c.from-3.ensures,
+      c.from-4.ensures,
+    ) (refl, words_back c.args.run fitting)

@@ -12,7 +12,7 @@ unfolding map_first
 loop-j-init g c = search rules
 
 pub loop-j-preserved : goal.loop-j-preserved
-loop-j-preserved g c = (omega arith, map_first_next _ _ _ _ nan c.loop-j.invariant.1)
+loop-j-preserved g c = (omega arith, rw c.joined.ensures (map_first_next _ _ _ _ nan c.loop-j.invariant.1))
 
 pub returns : goal.returns
 returns g c = let e : c.loop-j.j ≡ g.row.N = omega arith in rw e at c.loop-j.invariant.1

@@ -4,10 +4,10 @@ use mathlib.Core.Path.{refl}
 use Rattle.factor.proofs.Written.{block_asked}
 use Rattle.factor.proofs.block.put_block.Goals as goal
 
-pub product_block-requires : goal.product_block-requires
-product_block-requires g c =
-    let asked = block_asked c.args.cols.now c.args.values.now c.args.factor.now c.args.g.now _ _ g.row.N refl c.requires.offset_in_bounds.0 c.requires.offset_in_bounds.1 c.requires.columns_within in
+pub block-requires : goal.block-requires
+block-requires g c =
+    let asked = block_asked c.args.row.cols.now c.args.factor.now c.args.g.now _ _ g.row.N refl c.requires.offset_in_bounds c.requires.columns_within in
     record { out_len = asked.0; by_index = asked.1 }
 
 pub returns : goal.returns
-returns g c = rw (c.product_block.ensures, add-sub_cancel_left)
+returns g c = rw (c.block.ensures, add-sub_cancel_left)

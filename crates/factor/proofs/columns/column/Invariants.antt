@@ -2,11 +2,11 @@
 use mathlib.Core.Path.{◌≡◌}
 use Prim.Native.Nat.{◌≤◌, ◌-◌}
 use lib.ListN.{length}
-use Rattle.factor.specs.Columns.{column_to}
+use Rattle.factor.specs.Columns.{sum_to_column}
 use Rattle.factor.proofs.columns.column.Given as goal
 
 abbrev pub invariant-loop-e : goal.invariant-loop-e
-invariant-loop-e l = (l.e ≤ length l.cols) × (l.sum ≡ column_to l.cols l.values l.factor l.rank l.j l.e)
+invariant-loop-e g l = (l.e ≤ length l.row.cols.now) × (l.sum ≡ sum_to_column (g.T.Term.joins l.term) (g.T.Term.leaves l.term) l.row.cols.now l.row.values.now l.factor l.rank l.j l.e)
 
 abbrev pub decreases-loop-e : goal.decreases-loop-e
-decreases-loop-e l = length l.cols - l.e
+decreases-loop-e g l = length l.row.cols.now - l.e

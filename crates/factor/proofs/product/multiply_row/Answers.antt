@@ -1,8 +1,7 @@
--- `factor::product::multiply_row` meets its contract. By the rank. Assumes nothing.
+-- `factor::product::multiply_row` meets its contract. By what its callee ensures. Assumes nothing.
+use mathlib.Core.Path.{sym, ◌∙◌}
+use Rattle.factor.proofs.ByColumns.{product_sums}
 use Rattle.factor.proofs.product.multiply_row.Goals as goal
 
-pub returns-then-out-lt4 : goal.returns-then-out-lt4
-returns-then-out-lt4 c = c.multiply_plain.ensures
-
-pub returns-else-out-lt4 : goal.returns-else-out-lt4
-returns-else-out-lt4 c = c.multiply_blocks.ensures
+pub returns : goal.returns
+returns c = c.put_sums.ensures ∙ sym (product_sums _ _ _ _)

@@ -1,4 +1,4 @@
--- `factor::sums::sum` meets its contract. The sum is the definition at i. Assumes nothing.
+-- `factor::sums::sum` meets its contract. The sum is the definition at the index. Assumes nothing.
 use mathlib.Core.Path.{◌≡◌}
 use native.Mathlib.Numerals.{add-one}
 use native.Mathlib.Omega.{arith}
@@ -8,14 +8,14 @@ use lib.ListN.{length}
 use Rattle.factor.specs.Norms.{sum_of, sum_to}
 use Rattle.factor.proofs.sums.sum.Goals as goal
 
-pub loop-i-init : goal.loop-i-init
+pub loop-x-init : goal.loop-x-init
 unfolding of_bits sum_to
-loop-i-init c = search rules
+loop-x-init c = search rules
 
-pub loop-i-preserved : goal.loop-i-preserved
+pub loop-x-preserved : goal.loop-x-preserved
 unfolding sum_to
-loop-i-preserved c = (omega arith, rw (add-one, c.loop-i.invariant.1))
+loop-x-preserved c = (omega arith, rw (add-one, c.loop-x.invariant.1))
 
 pub returns : goal.returns
 unfolding sum_of
-returns c = let e : c.loop-i.i ≡ length c.args.a.now = omega arith in cc
+returns c = let e : c.loop-x.x-index ≡ length c.args.a.now = omega arith in cc

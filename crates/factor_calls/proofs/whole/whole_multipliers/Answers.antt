@@ -15,7 +15,7 @@ unfolding tabulate
 loop-i-init c = (omega arith, c.requires.rank_in_bounds.1, omega arith, refl, at_first _)
 
 pub whole_row-from-requires : goal.whole_row-from-requires
-whole_row-from-requires c = record { lent = c.requires.lent.0; rising = (c.requires.lent.1, c.loop-i.invariant.4); rank_in_bounds = (c.requires.rank_in_bounds.0, c.loop-i.invariant.1) }
+whole_row-from-requires c = record { in_range = c.requires.in_order.0; rising = (c.requires.in_order.1, c.loop-i.invariant.4); rank_in_bounds = (c.requires.rank_in_bounds.0, c.loop-i.invariant.1) }
 
 pub row-requires : goal.row-requires
 row-requires c = omega (arith, row_within _ _ c.args.rank c.loop-i-test.true, c.requires.rank_in_bounds.0)

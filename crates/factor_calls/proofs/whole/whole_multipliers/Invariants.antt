@@ -2,7 +2,7 @@
 use mathlib.Core.Path.{◌≡◌}
 use Prim.Native.Nat.{◌≤◌, ◌-◌}
 use lib.ListN.{length}
-use Rattle.tables.specs.Table.{table_of}
+use Rattle.tables.specs.Entries.{listed}
 use Rattle.laws.specs.Lists.{over, tabulate}
 use Rattle.sign_table.specs.Walk.{At}
 use Rattle.laws.specs.Rows.{row_of}
@@ -11,7 +11,7 @@ use Rattle.factor_calls.specs.Equation8.{value_of}
 use Rattle.factor_calls.proofs.whole.whole_multipliers.Given as goal
 
 abbrev pub invariant-loop-i : goal.invariant-loop-i
-invariant-loop-i l = (l.i ≤ l.m) × (length l.sums ≡ l.rank) × (length l.dual ≡ length l.initial.dual) × (l.dual ≡ over (tabulate (λ j. value_of l.divided (whole_row (table_of l.table.count l.table.rows.now l.table.cols.now l.table.values.now) l.rank l.factor j) (row_of l.rank l.factor j)) l.i) l.initial.dual) × At (table_of l.table.count l.table.rows.now l.table.cols.now l.table.values.now) l.from l.i 0
+invariant-loop-i l = (l.i ≤ l.m) × (length l.sums ≡ l.rank) × (length l.dual ≡ length l.initial.dual) × (l.dual ≡ over (tabulate (λ j. value_of l.divided (whole_row (listed l.table) l.rank l.factor j) (row_of l.rank l.factor j)) l.i) l.initial.dual) × At (listed l.table) l.from l.i 0
 
 abbrev pub decreases-loop-i : goal.decreases-loop-i
 decreases-loop-i l = l.m - l.i

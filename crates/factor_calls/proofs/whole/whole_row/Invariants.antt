@@ -1,17 +1,13 @@
 -- `factor_calls::whole::whole_row` meets its contract. The sums are the definition at e, and the entries before e stand in rows up to i. Assumes nothing.
 use mathlib.Core.Path.{◌≡◌}
-use Prim.Native.Nat.{◌-◌}
 use lib.ListN.{length, replicate}
 use Rattle.laws.specs.Lists.{elem}
 use Rattle.laws.specs.Turns.{up_to}
 use Rattle.ieee.specs.Floats.{zero64}
-use Rattle.tables.specs.Table.{table_of}
+use Rattle.tables.specs.Entries.{listed}
 use Rattle.sign_table.specs.Walk.{RowAt}
 use Rattle.maxcut_oracle.specs.Whole.{whole_turn}
 use Rattle.factor_calls.proofs.whole.whole_row.Given as goal
 
-abbrev pub invariant-loop-sums : goal.invariant-loop-sums
-invariant-loop-sums l = RowAt l.table.count (elem l.table.rows.now) l.e l.i × (length l.sums ≡ l.rank) × (l.sums ≡ up_to (whole_turn (table_of l.table.count l.table.rows.now l.table.cols.now l.table.values.now) l.rank l.factor l.i) l.e (replicate l.rank zero64))
-
-abbrev pub decreases-loop-sums : goal.decreases-loop-sums
-decreases-loop-sums l = l.table.count - l.e
+abbrev pub invariant-loop-e : goal.invariant-loop-e
+invariant-loop-e l = RowAt l.table.count (elem l.table.rows.now) l.e l.i × (length l.sums ≡ l.rank) × (l.sums ≡ up_to (whole_turn (listed l.table) l.rank l.factor l.i) l.e (replicate l.rank zero64))

@@ -12,25 +12,25 @@ pub slice_bounds-search_from-end : goal.slice_bounds-search_from-end
 slice_bounds-search_from-end c = sym (length-take-le _ _ (omega (arith, c.direction-direction.ensures.most_rank_value, c.requires.choice_fits.1)))
 
 pub slice_bounds-signs-end : goal.slice_bounds-signs-end
-slice_bounds-signs-end c = omega (arith, c.signs-signs.ensures.most_signs_value, c.requires.lent.signs)
+slice_bounds-signs-end c = omega (arith, c.signs-signs.ensures.most_signs_value, c.requires.accepted.signs)
 
 pub slice_bounds-search_from-end-2 : goal.slice_bounds-search_from-end-2
-slice_bounds-search_from-end-2 c = sym (length-take-le _ _ (omega (arith, c.signs-signs.ensures.most_signs_value, c.requires.lent.signs)))
+slice_bounds-search_from-end-2 c = sym (length-take-le _ _ (omega (arith, c.signs-signs.ensures.most_signs_value, c.requires.accepted.signs)))
 
 pub slice_bounds-best-end : goal.slice_bounds-best-end
-slice_bounds-best-end c = omega (arith, c.signs-best.ensures.most_signs_value, c.requires.lent.signs)
+slice_bounds-best-end c = omega (arith, c.signs-best.ensures.most_signs_value, c.requires.accepted.signs)
 
 pub slice_bounds-search_from-end-3 : goal.slice_bounds-search_from-end-3
-slice_bounds-search_from-end-3 c = sym (length-take-le _ _ (omega (arith, c.signs-best.ensures.most_signs_value, c.requires.lent.signs)))
+slice_bounds-search_from-end-3 c = sym (length-take-le _ _ (omega (arith, c.signs-best.ensures.most_signs_value, c.requires.accepted.signs)))
 
 pub search_from-requires : goal.search_from-requires
 search_from-requires c = record {
-  lent = c.requires.lent;
+  accepted = c.requires.accepted;
   choice_fits = (
     c.requires.choice_fits.0,
     length-take-le _ _ (omega (arith, c.direction-direction.ensures.most_rank_value, c.requires.choice_fits.1)),
-    length-take-le _ _ (omega (arith, c.signs-signs.ensures.most_signs_value, c.requires.lent.signs)) ∙ add-one _,
-    length-take-le _ _ (omega (arith, c.signs-best.ensures.most_signs_value, c.requires.lent.signs)) ∙ add-one _,
+    length-take-le _ _ (omega (arith, c.signs-signs.ensures.most_signs_value, c.requires.accepted.signs)) ∙ add-one _,
+    length-take-le _ _ (omega (arith, c.signs-best.ensures.most_signs_value, c.requires.accepted.signs)) ∙ add-one _,
   );
 }
 

@@ -1,13 +1,14 @@
--- `ieee::scale::raised` meets its contract. The loop's invariant: m * 2 ^ j stays the same. The measure is j. Assumes nothing.
-use Rattle.std.proofs.Common.{refl, ◌∙◌, arith}
-use Rattle.ieee.specs.Scale.{radicand}
-use Rattle.ieee.proofs.Powers.{move_one, above_52}
+-- `ieee::scale::raised` meets its contract. By where the leading digit stands. Assumes nothing.
+use Rattle.std.proofs.Common.{◌-◌, ◌*◌, ◌^◌, ◌<◌, arith, mod-eq_of_lt}
+use lib.Count.{count_leading_zeros}
+use Rattle.ieee.proofs.Scaling.{raised_is}
 use Rattle.ieee.proofs.scale.raised.Goals as goal
 
-pub loop-m-init : goal.loop-m-init
-loop-m-init c = (unfold radicand in refl, omega arith, omega arith, omega arith)
+pub overflow_sub-up : goal.overflow_sub-up
+overflow_sub-up c = omega (arith, (raised_is c.args.t c.requires.0 c.requires.1).0)
 
-pub loop-m-preserved : goal.loop-m-preserved
-loop-m-preserved c = let l = c.loop-m in
-    let room = above_52 c.args.t l.m l.j (omega arith) l.invariant.0 c.loop-m-test.true in
-    (move_one l.m l.j (omega arith) ∙ l.invariant.0, omega arith, omega arith, omega arith)
+pub returns : goal.returns
+returns c =
+    let raised = (raised_is c.args.t c.requires.0 c.requires.1).2 in
+    let fits : c.args.t * 2 ^ (count_leading_zeros 64 c.args.t - 11) < 2 ^ 64 = omega (arith, raised.most) in
+    rw (c.from.ensures, mod-eq_of_lt fits) raised

@@ -5,21 +5,21 @@ use Rattle.job_record.proofs.Accepted.{fields, settings_held, drawn_held}
 use Rattle.job_record.proofs.job.job_of.Goals as goal
 
 pub accepted_settings-f-requires : goal.accepted_settings-f-requires
-accepted_settings-f-requires c = (c.requires, c.accepted_pins-b.ensures.2)
+accepted_settings-f-requires c = (c.args.job.accepted, c.accepted_pins-b.ensures.2)
 
 pub overflow_cast-result : goal.overflow_cast-result
-overflow_cast-result c = let s = c.args.job.now in let t = settings_held s c.requires _ c.accepted_settings-f.ensures.0 in omega (arith, t.rule, (fields s c.requires).settings.rule)
+overflow_cast-result c = omega (arith, c.accepted_settings-f.ensures.1)
 
 pub overflow_cast-result-2 : goal.overflow_cast-result-2
-overflow_cast-result-2 c = omega (arith, c.accepted_settings-f.ensures.1)
+overflow_cast-result-2 c = omega (arith, c.accepted_settings-f.ensures.2)
 
-pub overflow_cast-result-3 : goal.overflow_cast-result-3
-overflow_cast-result-3 c = omega (arith, c.accepted_settings-f.ensures.2)
+pub of-requires : goal.of-requires
+of-requires c = let s = c.args.job.bytes.now in let t = settings_held s c.args.job.accepted _ c.accepted_settings-f.ensures.0 in omega (arith, t.rule, (fields s c.args.job.accepted).settings.rule)
 
-pub overflow_cast-result-4 : goal.overflow_cast-result-4
-overflow_cast-result-4 c = let s = c.args.job.now in let t = settings_held s c.requires _ c.accepted_settings-f.ensures.0 in omega (arith, t.start, (fields s c.requires).settings.start)
+pub of-requires-2 : goal.of-requires-2
+of-requires-2 c = let s = c.args.job.bytes.now in let t = settings_held s c.args.job.accepted _ c.accepted_settings-f.ensures.0 in omega (arith, t.start, (fields s c.args.job.accepted).settings.start)
 
 pub returns : goal.returns
 unfolding job_by
-returns c = let s = c.args.job.now in let t = settings_held s c.requires _ c.accepted_settings-f.ensures.0 in let d = drawn_held s c.requires c.parts_of-p.ensures.3 c.read_draw_count-drawn.ensures in
-    simp (c.accepted_head-head.ensures.n, c.accepted_head-head.ensures.count, c.accepted_pins-b.ensures.0, c.accepted_pins-b.ensures.1, t.rank, t.rule, c.double_of.ensures ∙ t.number, t.most, t.minimum, c.double_of-2.ensures ∙ t.objective, c.double_of-3.ensures ∙ t.stationarity, t.width, t.start, c.unwrap_or.ensures ∙ d)
+returns c = let s = c.args.job.bytes.now in let t = settings_held s c.args.job.accepted _ c.accepted_settings-f.ensures.0 in let d = drawn_held s c.args.job.accepted c.parts_of-p.ensures.3 c.field_at-drawn.ensures in
+    simp (c.accepted_head-head.ensures.n, c.accepted_head-head.ensures.count, c.accepted_pins-b.ensures.0, c.accepted_pins-b.ensures.1, t.rank, c.of.ensures ∙ t.rule, c.double_of.ensures ∙ t.number, t.most, t.minimum, c.double_of-2.ensures ∙ t.objective, c.double_of-3.ensures ∙ t.stationarity, t.width, c.of-2.ensures ∙ t.start, c.unwrap_or.ensures ∙ d)

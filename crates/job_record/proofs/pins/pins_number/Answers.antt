@@ -9,13 +9,13 @@ use Rattle.job_record.proofs.pins.pins_number.Goals as goal
 
 pub returns-in_err-count : goal.returns-in_err-count
 returns-in_err-count c = let p = passed c.from_residual.ensures.1 in
-    (past_end p c.in_err-count.ensures.ok_part c.in_err-count.ensures.value ∙ count_short c.args.job.now c.args.n c.args.at c.read_pin_count.ensures c.in_err-count.ensures.ok_part, λ z. absurd (refused p z))
+    (past_end p c.in_err-count.ensures.ok_part c.in_err-count.ensures.value ∙ count_short c.args.job.now c.args.n c.args.at c.field_at.ensures c.in_err-count.ensures.ok_part, λ z. absurd (refused p z))
 
 pub overflow_add-at : goal.overflow_add-at
-overflow_add-at c = omega (arith, count_fits c.args.job.now c.args.n c.args.at c.read_pin_count.ensures c.in_ok-count.ensures.ok_part)
+overflow_add-at c = omega (arith, count_fits c.args.job.now c.args.n c.args.at c.field_at.ensures c.in_ok-count.ensures.ok_part)
 
 pub returns : goal.returns
 returns c = let s = c.args.job.now in let n = c.args.n in let at = c.args.at in (
-  count_there s n at c.read_pin_count.ensures c.in_ok-count.ensures.ok_part c.each_pin.ensures.0,
-  λ z. c.each_pin.ensures.1 z ∙ ap (states_of s n (at + 1)) (count_is s n at c.read_pin_count.ensures c.in_ok-count.ensures.ok_part),
+  count_there s n at c.field_at.ensures c.in_ok-count.ensures.ok_part c.each_pin.ensures.0,
+  λ z. c.each_pin.ensures.1 z ∙ ap (states_of s n (at + 1)) (count_is s n at c.field_at.ensures c.in_ok-count.ensures.ok_part),
 )

@@ -1,11 +1,10 @@
 use native.Mathlib.Omega.{arith}
-use mathlib.Core.Path.{◌≡◌, ap, ◌∙◌}
+use mathlib.Core.Path.{ap, ◌∙◌}
 use mathlib.Core.Bool.{not}
-use Prim.Native.Nat.{ℕ, ◌-◌}
-use lib.ListN.{replicate}
+use Prim.Native.Nat.{ℕ}
 use Rattle.limits.specs.Limits.{most_wagons}
 use Rattle.job_record.specs.Fields.{wagons, free_state}
-use Rattle.job_record.proofs.Fronts.{front_replicate}
+use Rattle.std.proofs.lemmas.List.{take-replicate}
 use Rattle.laws.specs.Refusal.{first}
 use Rattle.job_record.specs.Number.{pins_numbers}
 use Rattle.job_record.proofs.Accepted.{costs_place, version_pinned, version_none, version_some}
@@ -18,8 +17,7 @@ pub costs_end-requires : goal.costs_end-requires
 costs_end-requires c = omega (arith, c.requires.0.n, c.requires.0.count, c.requires.1, c.requires.2)
 
 pub pins_number-requires : goal.pins_number-requires
-pins_number-requires c = let n = c.args.head.n in let e : n - 0 ≡ n = omega arith in
-    front_replicate free_state (n - 0) most_wagons (omega (arith, c.requires.0.n, c.requires.1)) ∙ ap (λ (k : ℕ). replicate k free_state) e
+pins_number-requires c = take-replicate c.args.head.n most_wagons free_state (omega (arith, c.requires.0.n, c.requires.1))
 
 pub returns : goal.returns
 returns c = let s = c.args.job.now in let h = c.requires.0 in

@@ -1,11 +1,13 @@
 use Prim.Native.Nat.{ℕ, ◌+◌, ◌*◌, ◌<◌, ◌≤◌}
 use mathlib.Core.Path.{◌≡◌, refl, sym, ap, ◌∙◌}
-use mathlib.Core.List.{List}
+use mathlib.Core.List.{List, [], ◌∷◌}
+use mathlib.Core.Logic.{◌⊎◌, inl, inr}
 use native.Mathlib.Omega.{arith}
 use borrow.Author.Tests.{lt-ltb, le-ltb, eq-eqb, ne_eqb}
 use lib.ListN.{length}
 use lib.Dec.{ltb}
-use Rattle.laws.specs.Refusal.{first}
+use Rattle.laws.specs.Refusal.{◌if◌, first}
+use Rattle.laws.proofs.Made.{below_or_not}
 use Rattle.laws.proofs.Following.{answers, moves_on, answers_if, moves_on_if, passes_last}
 use Rattle.limits.specs.Limits.{most_rank, most_draws}
 use Rattle.std.specs.Prelude.{Option, Some}
@@ -40,17 +42,24 @@ module _ (s : List ℕ) (at rank : ℕ) {drawn : Option ℕ} {count : ℕ} (k : 
   none z = moves_on_if 11 _ _ (le-ltb _ _ h) (moves_on _ _ {x = 0} (sym k.few) refl (answers_if 18 _ _ (eq-eqb _ _ (sym k.is ∙ z))))
 
   module _ (some : count ≡ 0 → ⊥) where
-    past_end : length s < at + 2 + count * rank * 8 → 11 ≡ first (draws_numbers s at rank)
+    -- up to the last two tests
+    past_count : {r : ℕ} → r ≡ first (11 if ltb (length s) (at + 2 + count * rank * 8) ∷ 11 if ltb (at + 2 + count * rank * 8) (length s) ∷ []) → r ≡ first (draws_numbers s at rank)
     unfolding draws_numbers
-    past_end l = moves_on_if 11 _ _ (le-ltb _ _ h) (moves_on _ _ {x = 0} (sym k.few) refl (rw (← k.is) (moves_on_if 19 _ _ (ne_eqb _ _ some) (answers_if 10 _ _ (lt-ltb _ _ l)))))
+    past_count e = moves_on_if 11 _ _ (le-ltb _ _ h) (moves_on _ _ {x = 0} (sym k.few) refl (rw (← k.is) (moves_on_if 19 _ _ (ne_eqb _ _ some) e)))
 
-    left_over : at + 2 + count * rank * 8 ≤ length s → at + 2 + count * rank * 8 < length s → 11 ≡ first (draws_numbers s at rank)
-    unfolding draws_numbers
-    left_over l g = moves_on_if 11 _ _ (le-ltb _ _ h) (moves_on _ _ {x = 0} (sym k.few) refl (rw (← k.is) (moves_on_if 19 _ _ (ne_eqb _ _ some) (moves_on_if 11 _ _ (le-ltb _ _ l) (answers_if 10 _ _ (lt-ltb _ _ g))))))
+    not_whole : (length s ≡ at + 2 + count * rank * 8 → ⊥) → 11 ≡ first (draws_numbers s at rank)
+    not_whole n = past_count (go (below_or_not (length s) (at + 2 + count * rank * 8)))
+      where
+        go : (length s < at + 2 + count * rank * 8) ⊎ (at + 2 + count * rank * 8 ≤ length s) → 11 ≡ first (11 if ltb (length s) (at + 2 + count * rank * 8) ∷ 11 if ltb (at + 2 + count * rank * 8) (length s) ∷ [])
+        go (inl l) = answers_if 10 _ _ (lt-ltb _ _ l)
+        go (inr l) = moves_on_if 11 _ _ (le-ltb _ _ l) (above l (below_or_not (at + 2 + count * rank * 8) (length s)))
+          where
+            above : at + 2 + count * rank * 8 ≤ length s → (at + 2 + count * rank * 8 < length s) ⊎ (length s ≤ at + 2 + count * rank * 8) → 11 ≡ first (11 if ltb (at + 2 + count * rank * 8) (length s) ∷ [])
+            above l (inl b) = answers_if 10 _ _ (lt-ltb _ _ b)
+            above l (inr m) = absurd (n (omega arith))
 
-    whole : at + 2 + count * rank * 8 ≤ length s → length s ≤ at + 2 + count * rank * 8 → 0 ≡ first (draws_numbers s at rank)
-    unfolding draws_numbers
-    whole l g = moves_on_if 11 _ _ (le-ltb _ _ h) (moves_on _ _ {x = 0} (sym k.few) refl (rw (← k.is) (moves_on_if 19 _ _ (ne_eqb _ _ some) (moves_on_if 11 _ _ (le-ltb _ _ l) (passes_last 11 _ (le-ltb _ _ g))))))
+    whole : length s ≡ at + 2 + count * rank * 8 → 0 ≡ first (draws_numbers s at rank)
+    whole e = past_count (moves_on_if 11 _ _ (le-ltb _ _ (omega (arith, e))) (passes_last 11 _ (le-ltb _ _ (omega (arith, e)))))
 
 pub returns-then-job-at : goal.returns-then-job-at
 unfolding draws_numbers
@@ -59,25 +68,22 @@ returns-then-job-at c = answers_if _ _ _ (lt-ltb _ _ c.if-job-at.true)
 pub returns-in_err-limit_number : goal.returns-in_err-limit_number
 unfolding draws_numbers
 returns-in_err-limit_number c = let p = passed c.from_residual.ensures.1 in
-    moves_on_if _ _ _ (le-ltb _ _ c.if-job-at.false) (answers _ _ (field_limit c.args.job.now c.args.at 2 c.read_draw_count-drawn.ensures most_draws 19 (handed p c.in_err-limit_number.ensures)) (refused p))
+    moves_on_if _ _ _ (le-ltb _ _ c.if-job-at.false) (answers _ _ (field_limit c.args.job.now c.args.at 2 c.field_at-drawn.ensures most_draws 19 (handed p c.in_err-limit_number.ensures)) (refused p))
 
 pub returns-then-count-eq0 : goal.returns-then-count-eq0
-returns-then-count-eq0 c = let k = counted c.args.job.now c.args.at c.read_draw_count-drawn.ensures c.in_ok-limit_number.ensures c.unwrap_or-count.ensures in none c.args.job.now c.args.at c.args.rank k c.if-job-at.false c.if-count-eq0.true
+returns-then-count-eq0 c = let k = counted c.args.job.now c.args.at c.field_at-drawn.ensures c.in_ok-limit_number.ensures c.unwrap_or-count.ensures in none c.args.job.now c.args.at c.args.rank k c.if-job-at.false c.if-count-eq0.true
 
 pub overflow_mul-end : goal.overflow_mul-end
-overflow_mul-end c = let k = counted c.args.job.now c.args.at c.read_draw_count-drawn.ensures c.in_ok-limit_number.ensures c.unwrap_or-count.ensures in omega (arith, area c.unwrap_or-count.result c.args.rank most_draws most_rank k.low (omega arith))
+overflow_mul-end c = let k = counted c.args.job.now c.args.at c.field_at-drawn.ensures c.in_ok-limit_number.ensures c.unwrap_or-count.ensures in omega (arith, area c.unwrap_or-count.result c.args.rank most_draws most_rank k.low (omega arith))
 
 pub overflow_mul-end-2 : goal.overflow_mul-end-2
-overflow_mul-end-2 c = let k = counted c.args.job.now c.args.at c.read_draw_count-drawn.ensures c.in_ok-limit_number.ensures c.unwrap_or-count.ensures in omega (arith, area c.unwrap_or-count.result c.args.rank most_draws most_rank k.low (omega arith))
+overflow_mul-end-2 c = let k = counted c.args.job.now c.args.at c.field_at-drawn.ensures c.in_ok-limit_number.ensures c.unwrap_or-count.ensures in omega (arith, area c.unwrap_or-count.result c.args.rank most_draws most_rank k.low (omega arith))
 
 pub overflow_add-end : goal.overflow_add-end
-overflow_add-end c = let k = counted c.args.job.now c.args.at c.read_draw_count-drawn.ensures c.in_ok-limit_number.ensures c.unwrap_or-count.ensures in omega (arith, area c.unwrap_or-count.result c.args.rank most_draws most_rank k.low (omega arith))
+overflow_add-end c = let k = counted c.args.job.now c.args.at c.field_at-drawn.ensures c.in_ok-limit_number.ensures c.unwrap_or-count.ensures in omega (arith, area c.unwrap_or-count.result c.args.rank most_draws most_rank k.low (omega arith))
 
 pub returns-then-job-end : goal.returns-then-job-end
-returns-then-job-end c = let k = counted c.args.job.now c.args.at c.read_draw_count-drawn.ensures c.in_ok-limit_number.ensures c.unwrap_or-count.ensures in past_end c.args.job.now c.args.at c.args.rank k c.if-job-at.false c.if-count-eq0.false c.if-job-end.true
-
-pub returns-then-end-job : goal.returns-then-end-job
-returns-then-end-job c = let k = counted c.args.job.now c.args.at c.read_draw_count-drawn.ensures c.in_ok-limit_number.ensures c.unwrap_or-count.ensures in left_over c.args.job.now c.args.at c.args.rank k c.if-job-at.false c.if-count-eq0.false c.if-job-end.false c.if-end-job.true
+returns-then-job-end c = let k = counted c.args.job.now c.args.at c.field_at-drawn.ensures c.in_ok-limit_number.ensures c.unwrap_or-count.ensures in not_whole c.args.job.now c.args.at c.args.rank k c.if-job-at.false c.if-count-eq0.false c.if-job-end.true
 
 pub returns : goal.returns
-returns c = let k = counted c.args.job.now c.args.at c.read_draw_count-drawn.ensures c.in_ok-limit_number.ensures c.unwrap_or-count.ensures in whole c.args.job.now c.args.at c.args.rank k c.if-job-at.false c.if-count-eq0.false c.if-job-end.false c.if-end-job.false
+returns c = let k = counted c.args.job.now c.args.at c.field_at-drawn.ensures c.in_ok-limit_number.ensures c.unwrap_or-count.ensures in whole c.args.job.now c.args.at c.args.rank k c.if-job-at.false c.if-count-eq0.false c.if-job-end.false

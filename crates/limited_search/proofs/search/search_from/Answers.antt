@@ -1,6 +1,6 @@
 use mathlib.Core.Path.{◌∙◌}
 use native.Mathlib.Omega.{arith}
-use Rattle.tables.specs.Table.{table_of}
+use Rattle.tables.specs.Entries.{listed}
 use Rattle.finalize.proofs.Assembled.{room, sound}
 use Rattle.limited_search.proofs.Starts.{start_binary, leaves}
 use Rattle.limited_search.proofs.search.search_from.Goals as goal
@@ -17,5 +17,5 @@ qubo_binary_from_sign_solution-requires c = (omega (arith, c.search_within-searc
 
 pub returns : goal.returns
 returns c = let a = c.args in
-    leaves (table_of a.table.count a.table.rows.now a.table.cols.now a.table.values.now) a.n a.present.now a.k a.width c.start_signs.new.signs c.search_within-searched.new.kept a.found.now _ c.search_within-searched.result.least c.search_within-searched.result.rounds
+    leaves (listed a.table) a.n a.present.now a.k a.width c.start_signs.new.signs c.search_within-searched.new.kept a.found.now _ c.search_within-searched.result.least c.search_within-searched.result.rounds
     c.start_signs.ensures c.search_within-searched.ensures c.qubo_binary_from_sign_solution.ensures c.requires.1.found_room

@@ -9,41 +9,42 @@ use lib.ListN.{length, get_or}
 use mir.Facts.{to_z-of_z}
 use mir.Syntax.{w64}
 use mir.Val.{to_z, of_z}
+use Rattle.laws.proofs.Integer.{held}
 use Rattle.local_search.specs.SignSearch.{improves_c}
-use Rattle.local_search.specs.Children.{change_of, flip_w, parent_of}
+use Rattle.local_search.specs.Children.{change_of, flip_w, choice_of}
 use Rattle.local_search.specs.Level.{word_child, level_of}
 use Rattle.local_search.proofs.ExpandLaws.{child_appended, child_skipped}
 use Rattle.local_search.proofs.LevelLaws.{words_length, level_appended}
 use Rattle.local_search.proofs.children.append_child.Goals as goal
 
-pub overflow_add-objective : goal.overflow_add-objective
-overflow_add-objective c =
-    let changed : let a = c.args in to_z w64 (of_z w64 (get_or a.changes.now a.i (pos 0))) ≡ get_or a.changes.now a.i (pos 0) =
+pub overflow_add-start : goal.overflow_add-start
+overflow_add-start c =
+    let changed : let a = c.args in to_z w64 (of_z w64 (get_or a.start.changes.now a.i (pos 0))) ≡ get_or a.start.changes.now a.i (pos 0) =
     to_z-of_z {w = w64} (sfits_of c.change-1.given) in
-    rw (to_z-of_z c.ranges.objective, changed) (c.requires.0.safe c.args.i (omega arith))
+    rw (held c.args.start.objective c.struct_told-1.given.0.1, changed) (c.requires.0.safe c.args.i (omega arith))
 
 pub insert_row-requires : goal.insert_row-requires
-insert_row-requires c = let m = length c.args.start.now in
+insert_row-requires c = let m = length c.args.start.row.now in
     let h : suc c.args.count ≤ suc c.args.i = omega arith in
     (omega arith, omega (arith, mul-le-mul_right m h, c.requires.0.signs_room), omega (arith, c.requires.0.signs_held))
 
 pub returns-then-change-lt0 : goal.returns-then-change-lt0
 unfolding flip_w word_child
 returns-then-change-lt0 c =
-    let changed : let a = c.args in to_z w64 (of_z w64 (get_or a.changes.now a.i (pos 0))) ≡ get_or a.changes.now a.i (pos 0) =
+    let changed : let a = c.args in to_z w64 (of_z w64 (get_or a.start.changes.now a.i (pos 0))) ≡ get_or a.start.changes.now a.i (pos 0) =
     to_z-of_z {w = w64} (sfits_of c.change-1.given) in
     let a = c.args in
-    let m = length a.start.now in
-    let change = change_of a.changes.now in
+    let m = length a.start.row.now in
+    let change = change_of a.start.changes.now in
     let h : suc a.count ≤ suc a.i = omega arith in
-    let added = to_z-of_z {w = w64} (rw (to_z-of_z c.ranges.objective, changed) (c.requires.0.safe a.i (omega arith))) ∙ ap₂ ◌+ℤ◌ (to_z-of_z c.ranges.objective) (changed) in
-    let exists : improves_c change (parent_of a.objective a.start.now) a.i ≡ true = rw (changed) at c.if-change-lt0.true in record {
-      appended = child_appended _ _ a.count a.i a.changes.now (improves_c change) (parent_of a.objective a.start.now)
-          (word_child _ a.i a.start.now)
+    let added = to_z-of_z {w = w64} (rw (held c.args.start.objective c.struct_told-1.given.0.1, changed) (c.requires.0.safe a.i (omega arith))) ∙ ap₂ ◌+ℤ◌ (held c.args.start.objective c.struct_told-1.given.0.1) (changed) in
+    let exists : improves_c change (choice_of a.start) a.i ≡ true = rw (changed) at c.if-change-lt0.true in record {
+      appended = child_appended _ _ a.count a.i a.start.changes.now (improves_c change) (choice_of a.start)
+          (word_child _ a.i a.start.row.now)
           exists
-          (ap (λ (z : ℤ). word_child z a.i a.start.now) added)
+          (ap (λ (z : ℤ). word_child z a.i a.start.row.now) added)
           (ap₂ (level_of m (a.count + 1)) c.insert_objective.ensures c.insert_row.ensures
-          ∙ level_appended m a.objectives.now a.signs.now (word_child _ a.i a.start.now) a.count (words_length a.i a.start.now)
+          ∙ level_appended m a.objectives.now a.signs.now (word_child _ a.i a.start.row.now) a.count (words_length a.i a.start.row.now)
           (omega (arith, c.requires.0.objectives_room)) (omega (arith, mul-le-mul_right m h, c.requires.0.signs_room)))
           c.requires.1;
       stays_out = λ q. absurd (false≢true (sym q ∙ exists));
@@ -51,10 +52,10 @@ returns-then-change-lt0 c =
 
 pub returns : goal.returns
 returns c =
-    let changed : let a = c.args in to_z w64 (of_z w64 (get_or a.changes.now a.i (pos 0))) ≡ get_or a.changes.now a.i (pos 0) =
+    let changed : let a = c.args in to_z w64 (of_z w64 (get_or a.start.changes.now a.i (pos 0))) ≡ get_or a.start.changes.now a.i (pos 0) =
     to_z-of_z {w = w64} (sfits_of c.change-1.given) in
-    let change = change_of c.args.changes.now in record {
-      appended = child_skipped _ _ c.args.count c.args.i c.args.changes.now (improves_c change) (parent_of c.args.objective c.args.start.now)
+    let change = change_of c.args.start.changes.now in record {
+      appended = child_skipped _ _ c.args.count c.args.i c.args.start.changes.now (improves_c change) (choice_of c.args.start)
           (rw (changed) at c.if-change-lt0.false) refl c.requires.1;
       stays_out = λ q. record { objectives_stay = refl; signs_stay = refl; count_stays = refl };
     }

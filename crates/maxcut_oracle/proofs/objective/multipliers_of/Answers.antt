@@ -23,4 +23,4 @@ loop-i-preserved c = (omega arith, omega (arith, c.multiplier_at.auto.sums, c.lo
 pub returns : goal.returns
 returns c = let a = c.args in
     let e : c.loop-i.i ≡ a.m = omega arith in
-    (rw (tabulate_all _ _ _ c.requires.2) at (rw e at c.loop-i.invariant.3)) ∙ by_row a.cols.now a.values.now a.starts.now a.factor.now a.rank a.m
+    (rw (tabulate_all _ _ _ c.requires.2) at (rw e at c.loop-i.invariant.3)) ∙ by_row a.table.cols.now a.table.values.now a.table.starts.now a.factor.now a.rank a.m

@@ -7,7 +7,7 @@ use Rattle.maxcut_oracle.proofs.ByRow.{at_row}
 use Rattle.maxcut_oracle.proofs.objective.multipliers_of.Given as goal
 
 abbrev pub invariant-loop-i : goal.invariant-loop-i
-invariant-loop-i l = (l.i ≤ l.m) × (length l.sums ≡ length l.initial.sums) × (length l.dual ≡ length l.initial.dual) × (l.dual ≡ over (tabulate (at_row l.cols l.values l.starts l.factor l.rank) l.i) l.initial.dual)
+invariant-loop-i l = (l.i ≤ l.m) × (length l.sums ≡ length l.initial.sums) × (length l.dual ≡ length l.initial.dual) × (l.dual ≡ over (tabulate (at_row l.table.cols.now l.table.values.now l.table.starts.now l.factor l.rank) l.i) l.initial.dual)
 
 abbrev pub decreases-loop-i : goal.decreases-loop-i
 decreases-loop-i l = l.m - l.i

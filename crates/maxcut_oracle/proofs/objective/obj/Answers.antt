@@ -49,4 +49,4 @@ loop-e-preserved c = (omega arith, rw (c.index_at.ensures, c.index_at-in-loop-e.
 
 pub returns : goal.returns
 unfolding obj_of
-returns c = let e : c.loop-e.e ≡ length c.args.rows.now = omega arith in rw e at c.loop-e.invariant.1
+returns c = let e : c.loop-e.e ≡ length c.args.table.rows.now = omega arith in rw e at c.loop-e.invariant.1

@@ -8,7 +8,7 @@ use Rattle.maxcut_oracle.specs.Objective.{obj_turn}
 use Rattle.maxcut_oracle.proofs.objective.obj.Given as goal
 
 abbrev pub invariant-loop-e : goal.invariant-loop-e
-invariant-loop-e l = (l.e ≤ length l.rows) × (l.trace ≡ up_to (obj_turn l.rows l.cols l.values l.factor l.rank) l.e zero64)
+invariant-loop-e l = (l.e ≤ length l.table.rows.now) × (l.trace ≡ up_to (obj_turn l.table.rows.now l.table.cols.now l.table.values.now l.factor l.rank) l.e zero64)
 
 abbrev pub decreases-loop-e : goal.decreases-loop-e
-decreases-loop-e l = length l.rows - l.e
+decreases-loop-e l = length l.table.rows.now - l.e

@@ -1,14 +1,11 @@
 use Rattle.pinned.proofs.Walk.{last_found, last_none, last_further}
-use Prim.Native.Nat.{◌<◌, ◌-◌, ◌+◌}
+use Prim.Native.Nat.{◌-◌, ◌+◌}
 use native.Mathlib.Omega.{arith}
 use mathlib.Core.Path.{◌≡◌, sym, ◌∙◌}
 use Rattle.pinned.proofs.entries.free_end.Goals as goal
 
 pub loop-l-init : goal.loop-l-init
 loop-l-init c = λ l a b. absurd (omega arith)
-
-pub is_free_entry-requires : goal.is_free_entry-requires
-is_free_entry-requires c = let low : c.loop-l.l - 1 < c.args.count = omega arith in (omega (arith, c.requires.0), omega (arith, c.requires.1), (c.requires.2 _ low).0, (c.requires.2 _ low).1)
 
 pub returns-then-is_free_entry : goal.returns-then-is_free_entry
 returns-then-is_free_entry c = let e : c.loop-l.l - 1 + 1 ≡ c.loop-l.l = omega arith in rw e (last_found c.loop-l.auto.l c.loop-l.invariant (sym c.is_free_entry.ensures ∙ c.if-is_free_entry.true))

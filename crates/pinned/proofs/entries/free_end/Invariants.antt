@@ -6,4 +6,4 @@ use mathlib.Core.Bool.{false}
 use Rattle.pinned.proofs.entries.free_end.Given as goal
 
 abbrev pub invariant-loop-l : goal.invariant-loop-l
-invariant-loop-l l = (l' : ℕ) → l.l ≤ l' → l' < l.count → free_entry l.places (elem l.rows) (elem l.cols) l' ≡ false
+invariant-loop-l l = (l' : ℕ) → l.l ≤ l' → l' < l.from.table.count → free_entry l.from.places.now (elem l.from.table.rows.now) (elem l.from.table.cols.now) l' ≡ false

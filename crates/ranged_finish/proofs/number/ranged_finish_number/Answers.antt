@@ -9,17 +9,22 @@ use Rattle.ranged_finish.proofs.number.ranged_finish_number.Goals as goal
 pub returns-then-ranged_short : goal.returns-then-ranged_short
 returns-then-ranged_short c = sym (short_ranged _ _ _ _ _ (sym c.ranged_short.ensures ∙ c.if-ranged_short.true))
 
-pub returns-then-number_in-gt30 : goal.returns-then-number_in-gt30
-returns-then-number_in-gt30 c = let s = sym c.ranged_short.ensures ∙ c.if-ranged_short.false in
-    c.finish_number-finish.ensures ∙ by_state _ _ _ _ _ s (omega (arith, c.number_in.ensures, c.finish_number-finish.ensures, c.if-number_in-gt30.true))
+pub returns-then-number-number_in : goal.returns-then-number-number_in
+returns-then-number-number_in c =
+    let s = sym c.ranged_short.ensures ∙ c.if-ranged_short.false in
+    let n = rw c.high_hall.ensures at c.finish_number-finish.ensures in
+    n ∙ by_state _ _ _ _ _ s (omega (arith, c.number.ensures, c.number_in.ensures, n, c.if-number-number_in.true))
 
 pub ranged_number-requires : goal.ranged_number-requires
-ranged_number-requires c = slices_lent _ _ _ _ _ _ _ _ (sym c.ranged_short.ensures ∙ c.if-ranged_short.false)
+ranged_number-requires c = slices_lent _ (sym c.ranged_short.ensures ∙ c.if-ranged_short.false)
 
 pub returns-in_err-ranged_number : goal.returns-in_err-ranged_number
-returns-in_err-ranged_number c = let s = sym c.ranged_short.ensures ∙ c.if-ranged_short.false in
-    handed_on _ _ c.from_residual.ensures.1 c.in_err-ranged_number.ensures ∙ by_table _ _ _ _ _ s (omega (arith, c.number_in.ensures, c.finish_number-finish.ensures, c.if-number_in-gt30.false)) (some_refusal _ c.in_err-ranged_number.ensures)
+returns-in_err-ranged_number c =
+    let s = sym c.ranged_short.ensures ∙ c.if-ranged_short.false in
+    let n = rw c.high_hall.ensures at c.finish_number-finish.ensures in
+    handed_on _ _ c.from_residual.ensures.1 c.in_err-ranged_number.ensures
+    ∙ by_table _ _ _ _ _ s (omega (arith, c.number.ensures, c.number_in.ensures, n, c.if-number-number_in.false)) (some_refusal _ c.in_err-ranged_number.ensures)
 
 pub returns : goal.returns
 returns c = let s = sym c.ranged_short.ensures ∙ c.if-ranged_short.false in
-    c.finish_number-finish.ensures ∙ by_settings _ _ _ _ _ s (sym c.in_ok-ranged_number.ensures)
+    rw c.high_hall.ensures at c.finish_number-finish.ensures ∙ by_settings _ _ _ _ _ s (sym c.in_ok-ranged_number.ensures)

@@ -1,28 +1,17 @@
 -- `ranged_finish::ranges::above` meets its contract. Assumes nothing.
-use mathlib.Core.Path.{refl, sym, ap₂, ◌∙◌}
-use native.Mathlib.Omega.{arith}
+use Rattle.std.proofs.Common.{◌∙◌, rules, tests, take}
+use Rattle.std.proofs.lemmas.Iterator.{YieldsList-from_slice, YieldsList-from_zip}
+use Rattle.std.proofs.lemmas.Iterator.Search.{any_from_yields_List}
 use lib.Signed.{lt_z}
-use Rattle.laws.specs.Lists.{elem_z, any_below}
-use Rattle.laws.proofs.Any.{below_at, below_passed, below_ended}
-use Rattle.laws.proofs.Integer.{held}
 use Rattle.ranged_finish.specs.Numbers.{above}
+use Rattle.ranged_finish.proofs.Found.{any_pairs}
 use Rattle.ranged_finish.proofs.ranges.above.Goals as goal
-
-pub loop-k-init : goal.loop-k-init
-unfolding any_below
-loop-k-init c = (omega arith, refl)
-
-pub returns-then-turned : goal.returns-then-turned
-unfolding above
-returns-then-turned c = let a = c.args in
-    let e = ap₂ lt_z (held (elem_z a.high.now c.loop-k.k) c.turned-arg-in-loop-k-1.given) (held (elem_z a.low.now c.loop-k.k) c.turned-arg-1.given) in
-    sym (below_at (λ i. lt_z (elem_z a.high.now i) (elem_z a.low.now i)) _ c.loop-k.k c.loop-k-test.true (sym (c.turned.ensures ∙ e) ∙ c.if-turned.true))
-
-pub loop-k-preserved : goal.loop-k-preserved
-loop-k-preserved c = let a = c.args in
-    let e = ap₂ lt_z (held (elem_z a.high.now c.loop-k.k) c.turned-arg-in-loop-k-1.given) (held (elem_z a.low.now c.loop-k.k) c.turned-arg-1.given) in
-    (omega arith, below_passed _ _ c.loop-k.invariant.1 (sym (c.turned.ensures ∙ e) ∙ c.if-turned.false))
 
 pub returns : goal.returns
 unfolding above
-returns c = below_ended _ _ _ c.loop-k.invariant.1 c.loop-k.invariant.0 c.loop-k-test.false
+returns c =
+    let a = c.args in
+    any_from_yields_List (λ p. lt_z p.1 p.0) c.any.new.self _ _ c.any.ensures.ran
+    (YieldsList-from_zip {s = c.zip.result} (YieldsList-from_slice (take a.count a.low.now) cc) (YieldsList-from_slice (take a.count a.high.now) cc))
+    (λ x b q k. search (rules, tests))
+    ∙ any_pairs (λ p. lt_z p.1 p.0) a.count a.low.now a.high.now c.requires.0 c.requires.1

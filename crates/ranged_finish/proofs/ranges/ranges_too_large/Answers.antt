@@ -7,5 +7,5 @@ use Rattle.ranged_finish.proofs.ranges.ranges_too_large.Goals as goal
 
 pub returns : goal.returns
 returns c = let a = c.args in
-    capped_tests a.limit (total a.count (λ l. larger (elem_z a.low.now l) (elem_z a.high.now l)))
-    (total a.n (λ l. larger (elem_z a.low_c.now l) (elem_z a.high_c.now l))) c.ranges_capped-entries.ensures c.ranges_capped-costs.ensures
+    capped_tests a.limit (total a.ranged.count (λ l. larger (elem_z a.ranged.low.now l) (elem_z a.ranged.high.now l)))
+    (total a.ranged.n (λ l. larger (elem_z a.ranged.low_c.now l) (elem_z a.ranged.high_c.now l))) c.ranges_capped-entries.ensures c.ranges_capped-costs.ensures

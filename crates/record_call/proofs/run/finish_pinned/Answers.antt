@@ -1,7 +1,10 @@
+use mathlib.Core.Path.{ap}
 use native.Mathlib.Omega.{arith}
-use Rattle.record_call.proofs.Decoding.{fronts_fit}
+use Rattle.tables.specs.CostTable.{CostTable}
+use Rattle.record_call.proofs.Freed.{job_hall}
 use Rattle.record_call.proofs.run.finish_pinned.Goals as goal
 
-pub finish_reduced-requires : goal.finish_reduced-requires
-finish_reduced-requires c = let f = fronts_fit c.args.job.now c.requires.0.accepted c.args.j c.requires.0.job_is in
-    (c.requires.0, c.requires.1, c.requires.2, c.requires.3, c.requires.4, record { rows_room = omega (arith, f.0); cols_room = omega (arith, f.0); values_room = omega (arith, f.0) }, omega arith)
+pub finish_within-requires-else-hall-le-FEW_ENTRIES : goal.finish_within-requires-else-hall-le-FEW_ENTRIES
+finish_within-requires-else-hall-le-FEW_ENTRIES c =
+    let count = ap (λ (t : CostTable). t.count) c.args.pinned.own.own.costs_are in
+    (c.requires.0, c.requires.1, c.requires.2, omega (arith, count, (job_hall c.args.pinned.own.record.bytes.now c.args.pinned.own.own.accepted).entries), omega arith)

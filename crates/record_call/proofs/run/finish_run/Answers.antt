@@ -1,14 +1,14 @@
 -- `record_call::run::finish_run` meets its contract: nothing refuses the job's finish. Assumes nothing.
 use mathlib.Core.Path.{refl}
-use Rattle.record_call.proofs.Decoding.{finishes_now, finished, resulted}
+use Rattle.record_call.proofs.Decoding.{finishes_now, finished, same_ok}
 use Rattle.record_call.proofs.run.finish_run.Goals as goal
 
 pub run_job-run-requires : goal.run_job-run-requires
-run_job-run-requires c = (c.requires.0, c.requires.2)
+run_job-run-requires c = c.requires.1
 
 pub finish_accepted-requires : goal.finish_accepted-requires
-finish_accepted-requires c = finishes_now c.requires.0 c.args.b.now c.args.dual.now c.args.workspace.now c.run_job-run.ensures.0 c.requires.1 c.run_job-run.ensures.1 c.requires.3 c.requires.4 c.requires.5
+finish_accepted-requires c = finishes_now c.args.job.decoded c.args.b.now c.args.dual.now c.args.workspace.now c.run_job-run.ensures.0 c.requires.0 c.run_job-run.ensures.1 c.requires.2 c.requires.3 c.requires.4
 
 pub returns : goal.returns
-returns c = let f = finished c.requires.0 c.run_job-run.ensures.0 c.requires.1 c.run_job-run.ensures.1 c.requires.3 c.requires.4 c.requires.5 c.finish_accepted.ensures in
-    (resulted refl f.0, f.1)
+returns c = let f = finished c.args.job.decoded c.run_job-run.ensures.0 c.requires.0 c.run_job-run.ensures.1 c.requires.2 c.requires.3 c.requires.4 c.finish_accepted.ensures in
+    (same_ok refl f.0, f.1)

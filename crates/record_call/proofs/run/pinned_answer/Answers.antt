@@ -1,36 +1,39 @@
 use mathlib.Core.Path.{sym}
 use native.Mathlib.Omega.{arith}
 use lib.Seq.{length-take-le}
-use Rattle.record_call.proofs.Decoding.{fronts_fit, job_n, states_cut, free_fits, free_cut, lift_asks, lifted_choice}
+use Rattle.record_call.proofs.Decoding.{own_n, own_few, own_states, free_fits, free_cut, lift_asks, lifted_choice}
 use Rattle.record_call.proofs.run.pinned_answer.Goals as goal
 
 pub read_states-requires : goal.read_states-requires
-read_states-requires c = (c.requires.0.accepted, omega arith)
+read_states-requires c = omega arith
 
 pub slice_bounds-states-end : goal.slice_bounds-states-end
-slice_bounds-states-end c = omega (arith, (fronts_fit c.args.job.now c.requires.0.accepted c.args.j c.requires.0.job_is).1, c.read_states.auto.states)
+slice_bounds-states-end c = omega (arith, own_few c.args.job.own, c.read_states.auto.states)
 
-pub slice_bounds-finish_pinned-end : goal.slice_bounds-finish_pinned-end
-slice_bounds-finish_pinned-end c = sym (length-take-le _ _ (omega (arith, (fronts_fit c.args.job.now c.requires.0.accepted c.args.j c.requires.0.job_is).1, c.read_states.auto.states)))
+pub slice_bounds-pinned-end : goal.slice_bounds-pinned-end
+slice_bounds-pinned-end c = sym (length-take-le _ _ (omega (arith, own_few c.args.job.own, c.read_states.auto.states)))
+
+pub invariant_of-pinned : goal.invariant_of-pinned
+invariant_of-pinned c = record { states_are = own_states c.args.job.own _ _ c.read_states.ensures }
 
 pub finish_pinned-fields-requires : goal.finish_pinned-fields-requires
-finish_pinned-fields-requires c = (c.requires.0, states_cut c.args.job.now c.requires.0.accepted c.args.j.n _ _ (job_n c.args.job.now c.requires.0.accepted c.args.j c.requires.0.job_is) c.read_states.ensures, omega arith, omega arith, c.requires.2)
+finish_pinned-fields-requires c = (omega arith, omega arith, c.requires.1)
 
 pub slice_bounds-states-end-2 : goal.slice_bounds-states-end-2
-slice_bounds-states-end-2 c = omega (arith, (fronts_fit c.args.job.now c.requires.0.accepted c.args.j c.requires.0.job_is).1, c.read_states.auto.states)
+slice_bounds-states-end-2 c = omega (arith, own_few c.args.job.own, c.read_states.auto.states)
 
 pub slice_bounds-lift_choice-end : goal.slice_bounds-lift_choice-end
-slice_bounds-lift_choice-end c = sym (length-take-le _ _ (omega (arith, (fronts_fit c.args.job.now c.requires.0.accepted c.args.j c.requires.0.job_is).1, c.read_states.auto.states)))
+slice_bounds-lift_choice-end c = sym (length-take-le _ _ (omega (arith, own_few c.args.job.own, c.read_states.auto.states)))
 
 pub slice_bounds-free-end : goal.slice_bounds-free-end
-slice_bounds-free-end c = omega (arith, free_fits c.args.job.now c.requires.0.accepted c.args.j c.requires.0.job_is, c.finish_pinned-fields.auto.free)
+slice_bounds-free-end c = omega (arith, free_fits c.args.job.record.bytes.now c.args.job.own.accepted c.args.job.settings c.args.job.own.job_is, c.finish_pinned-fields.auto.free)
 
 pub slice_bounds-lift_choice-end-2 : goal.slice_bounds-lift_choice-end-2
-slice_bounds-lift_choice-end-2 c = sym (length-take-le _ _ (omega (arith, free_fits c.args.job.now c.requires.0.accepted c.args.j c.requires.0.job_is, c.finish_pinned-fields.auto.free)))
+slice_bounds-lift_choice-end-2 c = sym (length-take-le _ _ (omega (arith, free_fits c.args.job.record.bytes.now c.args.job.own.accepted c.args.job.settings c.args.job.own.job_is, c.finish_pinned-fields.auto.free)))
 
 pub lift_choice-requires : goal.lift_choice-requires
-lift_choice-requires c = let a = lift_asks c.args.job.now c.requires.0.accepted c.args.j.n (job_n c.args.job.now c.requires.0.accepted c.args.j c.requires.0.job_is) (states_cut c.args.job.now c.requires.0.accepted c.args.j.n _ _ (job_n c.args.job.now c.requires.0.accepted c.args.j c.requires.0.job_is) c.read_states.ensures) (free_cut c.args.job.now c.requires.0.accepted c.args.j c.requires.0.job_is _ _ c.finish_pinned-fields.ensures.wagons_are) in
-    (a.0, a.1, omega (arith, a.2, c.finish_pinned-fields.auto.chosen), omega (arith, a.3, c.requires.1))
+lift_choice-requires c = let a = lift_asks c.args.job.record.bytes.now c.args.job.own.accepted c.args.job.settings.n (own_n c.args.job.own) (own_states c.args.job.own _ _ c.read_states.ensures) (free_cut c.args.job.record.bytes.now c.args.job.own.accepted c.args.job.settings c.args.job.own.job_is _ _ c.finish_pinned-fields.ensures.wagons_are) in
+    (a.0, a.1, omega (arith, a.2, c.finish_pinned-fields.auto.chosen), omega (arith, a.3, c.requires.0))
 
 pub returns : goal.returns
-returns c = (c.finish_pinned-fields.ensures.fields_are, lifted_choice c.args.job.now c.requires.0.accepted c.args.j.n _ _ _ _ _ (job_n c.args.job.now c.requires.0.accepted c.args.j c.requires.0.job_is) (states_cut c.args.job.now c.requires.0.accepted c.args.j.n _ _ (job_n c.args.job.now c.requires.0.accepted c.args.j c.requires.0.job_is) c.read_states.ensures) c.finish_pinned-fields.ensures.choice_is c.lift_choice.ensures)
+returns c = (c.finish_pinned-fields.ensures.fields_are, lifted_choice c.args.job.record.bytes.now c.args.job.own.accepted c.args.job.settings.n _ _ _ _ _ (own_n c.args.job.own) (own_states c.args.job.own _ _ c.read_states.ensures) c.finish_pinned-fields.ensures.choice_is c.lift_choice.ensures)

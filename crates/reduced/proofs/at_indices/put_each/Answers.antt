@@ -10,7 +10,7 @@ unfolding up_to
 loop-j-init g c = λ d. refl
 
 pub loop-j-preserved : goal.loop-j-preserved
-loop-j-preserved g c = λ d. put_next _ _ _ _ (c.loop-j.invariant d) c.wide-index.ensures (get_or_read c.args.values.now _ _ (omega (arith, c.requires.1)) c.index-values-j.is d)
+loop-j-preserved g c = λ d. put_next _ _ _ _ (c.loop-j.invariant d) c.from-index.ensures (get_or_read c.args.values.now _ _ (omega (arith, c.requires.1)) c.index-values-j.is d)
 
 pub returns : goal.returns
 returns g c = λ d. put_all _ _ _ _ _ (c.loop-j.invariant d) c.loop-j.auto.j-end c.loop-j-test.false

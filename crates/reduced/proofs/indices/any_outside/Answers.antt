@@ -8,5 +8,5 @@ pub returns-then-indices-eq0 : goal.returns-then-indices-eq0
 returns-then-indices-eq0 c = none_outside c.args.size c.args.indices.now c.if-indices-eq0.true
 
 pub returns : goal.returns
-returns c = ap (leb c.args.size) (c.wide.ensures ∙ c.greatest.ensures)
+returns c = ap (leb c.args.size) (c.from.ensures ∙ c.greatest.ensures)
     ∙ greatest_outside c.args.size c.args.indices.now c.if-indices-eq0.false

@@ -9,19 +9,19 @@ use Rattle.reduced.proofs.Distinct.{index_low, twice_next}
 use Rattle.reduced.proofs.Put.{put_next}
 use Rattle.reduced.proofs.indices.any_twice.Goals as goal
 
-pub loop-j-init : goal.loop-j-init
+pub loop-original-init : goal.loop-original-init
 unfolding any_below up_to
-loop-j-init c = (refl, refl)
+loop-original-init c = (omega arith, refl, refl)
 
 pub bounds-seen-index : goal.bounds-seen-index
-bounds-seen-index c = index_low c.args.variable_map.now c.requires _ c.loop-j-test.true c.loop-j.invariant.1 c.wide-index.ensures
+bounds-seen-index c = index_low c.args.variable_map.now c.requires c.loop-original.original-index (omega arith) c.loop-original.invariant.2 c.from-index.ensures
 
-pub bounds-seen-index-in-loop-j : goal.bounds-seen-index-in-loop-j
-bounds-seen-index-in-loop-j c = index_low c.args.variable_map.now c.requires _ c.loop-j-test.true c.loop-j.invariant.1 c.wide-index.ensures
+pub bounds-seen-index-in-loop-original : goal.bounds-seen-index-in-loop-original
+bounds-seen-index-in-loop-original c = index_low c.args.variable_map.now c.requires c.loop-original.original-index (omega arith) c.loop-original.invariant.2 c.from-index.ensures
 
-pub loop-j-preserved : goal.loop-j-preserved
-loop-j-preserved c = (twice_next c.args.variable_map.now c.requires _ c.loop-j-test.true c.loop-j.invariant.1 c.wide-index.ensures c.loop-j.invariant.0, put_next _ _ _ _ c.loop-j.invariant.1 c.wide-index.ensures refl)
+pub loop-original-preserved : goal.loop-original-preserved
+loop-original-preserved c = (omega arith, twice_next c.args.variable_map.now c.requires c.loop-original.original-index (omega arith) c.loop-original.invariant.2 c.from-index.ensures c.loop-original.invariant.1, put_next _ _ _ _ c.loop-original.invariant.2 c.from-index.ensures refl)
 
 pub returns : goal.returns
 unfolding twice
-returns c = let e : c.loop-j.j ≡ length c.args.variable_map.now = omega arith in rw e at c.loop-j.invariant.0
+returns c = let e : c.loop-original.original-index ≡ length c.args.variable_map.now = omega arith in rw e at c.loop-original.invariant.1

@@ -8,13 +8,13 @@ use Rattle.laws.proofs.UpTo.{up_to_next}
 use Rattle.reduced.specs.Indices.{greatest}
 use Rattle.reduced.proofs.indices.greatest.Goals as goal
 
-pub loop-j-init : goal.loop-j-init
+pub loop-index-init : goal.loop-index-init
 unfolding up_to
-loop-j-init c = search rules
+loop-index-init c = (omega arith, search rules)
 
-pub loop-j-preserved : goal.loop-j-preserved
-loop-j-preserved c = c.max-most.ensures ∙ up_to_next _ _ _ _ c.loop-j.invariant
+pub loop-index-preserved : goal.loop-index-preserved
+loop-index-preserved c = (omega arith, c.max-most.ensures ∙ up_to_next _ _ _ _ c.loop-index.invariant.1)
 
 pub returns : goal.returns
 unfolding greatest
-returns c = let e : c.loop-j.j ≡ length c.args.indices.now = omega arith in rw e at c.loop-j.invariant
+returns c = let e : c.loop-index.index-index ≡ length c.args.indices.now = omega arith in rw e at c.loop-index.invariant.1

@@ -14,5 +14,5 @@ pub put_each-requires-2 : goal.put_each-requires-2
 put_each-requires-2 c = lift_map c.requires.lift_lent c.requires.mapped c.put_each.new.to (c.put_each.auto.to ∙ c.clear.auto.lifted)
 
 pub returns : goal.returns
-returns c = lifted_is c.args.size c.args.variable_map.now c.args.fixed_index.now c.args.fixed_value.now c.args.reduced_solution.now c.args.lifted.now
+returns c = lifted_is c.args.indices.size c.args.indices.variable_map.now c.args.indices.fixed_index.now c.args.fixed_value.now c.args.reduced_solution.now c.args.lifted.now
     c.clear.ensures (c.put_each.ensures nan) (c.put_each-2.ensures nan)

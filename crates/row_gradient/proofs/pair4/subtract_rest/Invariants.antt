@@ -6,7 +6,7 @@ use Rattle.row_gradient.specs.Columns.{block_to}
 use Rattle.row_gradient.proofs.pair4.subtract_rest.Given as goal
 
 abbrev pub invariant-loop-e : goal.invariant-loop-e
-invariant-loop-e l = (l.e ≤ length l.cols) × (l.sums ≡ block_to l.cols l.values l.factor l.vertex 4 0 4 l.e)
+invariant-loop-e l = (l.e ≤ length l.row.cols.now) × (l.sums ≡ block_to l.row.cols.now l.row.values.now l.factor l.vertex 4 0 4 l.e)
 
 abbrev pub decreases-loop-e : goal.decreases-loop-e
-decreases-loop-e l = length l.cols - l.e
+decreases-loop-e l = length l.row.cols.now - l.e

@@ -4,8 +4,8 @@ use native.Mathlib.Omega.{arith}
 use Rattle.row_gradient.proofs.ByColumns.{whole_block}
 use Rattle.row_gradient.proofs.ranks.one_block.Goals as goal
 
-pub gradient_block-requires : goal.gradient_block-requires
-gradient_block-requires g c = record { out_len = c.requires.g_len; by_index = λ e l. omega (arith, (rw c.requires.g_len.0 at (c.requires.columns_within e l))) }
+pub block-requires : goal.block-requires
+block-requires g c = record { out_len = c.requires.g_len; by_index = λ e l. omega (arith, (rw c.requires.g_len at (c.requires.columns_within e l))) }
 
 pub returns : goal.returns
-returns g c = rw c.requires.g_len.0 (c.gradient_block.ensures ∙ whole_block _ _ _ _ g.row.N)
+returns g c = rw c.requires.g_len (c.block.ensures ∙ whole_block _ _ _ _ g.row.N)

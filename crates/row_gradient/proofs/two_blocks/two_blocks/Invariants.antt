@@ -6,7 +6,7 @@ use Rattle.row_gradient.specs.Columns.{block_to}
 use Rattle.row_gradient.proofs.two_blocks.two_blocks.Given as goal
 
 abbrev pub invariant-loop-e : goal.invariant-loop-e
-invariant-loop-e g l = (l.e ≤ length l.cols) × (l.e-end ≡ length l.cols) × (l.low ≡ block_to l.cols l.values l.factor l.vertex l.rank 0 g.row.N l.e) × (l.high ≡ block_to l.cols l.values l.factor l.vertex l.rank l.second g.row.M l.e)
+invariant-loop-e g l = (l.e ≤ length l.row.cols.now) × (l.e-end ≡ length l.row.cols.now) × (l.low ≡ block_to l.row.cols.now l.row.values.now l.factor l.vertex l.rank 0 g.row.N l.e) × (l.high ≡ block_to l.row.cols.now l.row.values.now l.factor l.vertex l.rank l.second g.row.M l.e)
 
 abbrev pub decreases-loop-e : goal.decreases-loop-e
-decreases-loop-e g l = length l.cols - l.e
+decreases-loop-e g l = length l.row.cols.now - l.e

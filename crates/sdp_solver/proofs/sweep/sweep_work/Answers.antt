@@ -1,81 +1,48 @@
 -- `sdp_solver::sweep::sweep_work` meets its contract. The arrays are cut to the factor's rows. Assumes nothing.
-use Prim.Native.Nat.{◌*◌, ◌≤◌}
+use Prim.Native.Nat.{ℕ, ◌*◌, ◌≤◌}
 use mathlib.Core.Path.{sym}
 use native.Mathlib.Nat.{mul-le-mul}
 use native.Mathlib.Omega.{arith}
-use lib.ListN.{length}
 use lib.Seq.{length-take-le}
 use Rattle.limits.specs.Limits.{most_signs, most_rank}
 use Rattle.sdp_solver.proofs.sweep.sweep_work.Goals as goal
 
+-- the factor is no longer than the longest
+size_few : {m rank : ℕ} → m ≤ most_signs → rank ≤ most_rank → m * rank ≤ most_signs * most_rank
+size_few h k = mul-le-mul h k
+
 pub overflow_mul-size : goal.overflow_mul-size
-overflow_mul-size c =
-    let size_few : c.args.run.size * c.args.run.rank ≤ most_signs * most_rank =
-    mul-le-mul c.requires.running.1 c.requires.running.3 in
-    omega (arith, size_few)
+overflow_mul-size c = omega (arith, size_few c.requires.running.1 c.requires.running.3)
 
 pub slice_bounds-product-end : goal.slice_bounds-product-end
-slice_bounds-product-end c =
-    let size_few : c.args.run.size * c.args.run.rank ≤ most_signs * most_rank =
-    mul-le-mul c.requires.running.1 c.requires.running.3 in
-    let product-fits : c.args.run.size * c.args.run.rank ≤ length c.rows_of_sums-product.result =
-    omega (arith, size_few, c.rows_of_sums-product.ensures.most_factor_value) in
-    product-fits
+slice_bounds-product-end c = omega (arith, size_few c.requires.running.1 c.requires.running.3, c.rows_of_sums-product.ensures.most_factor_value)
 
 pub slice_bounds-sweeps_up_to-end : goal.slice_bounds-sweeps_up_to-end
-slice_bounds-sweeps_up_to-end c =
-    let size_few : c.args.run.size * c.args.run.rank ≤ most_signs * most_rank =
-    mul-le-mul c.requires.running.1 c.requires.running.3 in
-    let product-fits : c.args.run.size * c.args.run.rank ≤ length c.rows_of_sums-product.result =
-    omega (arith, size_few, c.rows_of_sums-product.ensures.most_factor_value) in
-    sym (length-take-le _ _ (product-fits))
+slice_bounds-sweeps_up_to-end c = sym (length-take-le _ _ (omega (arith, size_few c.requires.running.1 c.requires.running.3, c.rows_of_sums-product.ensures.most_factor_value)))
 
 pub slice_bounds-moved-end : goal.slice_bounds-moved-end
-slice_bounds-moved-end c =
-    let size_few : c.args.run.size * c.args.run.rank ≤ most_signs * most_rank =
-    mul-le-mul c.requires.running.1 c.requires.running.3 in
-    let moved-fits : c.args.run.size * c.args.run.rank ≤ length c.rows_of_numbers-moved.result =
-    omega (arith, size_few, c.rows_of_numbers-moved.ensures.most_factor_value) in
-    moved-fits
+slice_bounds-moved-end c = omega (arith, size_few c.requires.running.1 c.requires.running.3, c.rows_of_numbers-moved.ensures.most_factor_value)
 
 pub slice_bounds-sweeps_up_to-end-2 : goal.slice_bounds-sweeps_up_to-end-2
-slice_bounds-sweeps_up_to-end-2 c =
-    let size_few : c.args.run.size * c.args.run.rank ≤ most_signs * most_rank =
-    mul-le-mul c.requires.running.1 c.requires.running.3 in
-    let moved-fits : c.args.run.size * c.args.run.rank ≤ length c.rows_of_numbers-moved.result =
-    omega (arith, size_few, c.rows_of_numbers-moved.ensures.most_factor_value) in
-    sym (length-take-le _ _ (moved-fits))
+slice_bounds-sweeps_up_to-end-2 c = sym (length-take-le _ _ (omega (arith, size_few c.requires.running.1 c.requires.running.3, c.rows_of_numbers-moved.ensures.most_factor_value)))
 
 pub slice_bounds-dual-end : goal.slice_bounds-dual-end
-slice_bounds-dual-end c =
-    let dual-fits : c.args.run.size ≤ length c.numbers-dual.result =
-    omega (arith, c.requires.running.1, c.numbers-dual.ensures.most_signs_value) in
-    dual-fits
+slice_bounds-dual-end c = omega (arith, c.requires.running.1, c.numbers-dual.ensures.most_signs_value)
 
 pub slice_bounds-sweeps_up_to-end-3 : goal.slice_bounds-sweeps_up_to-end-3
-slice_bounds-sweeps_up_to-end-3 c =
-    let dual-fits : c.args.run.size ≤ length c.numbers-dual.result =
-    omega (arith, c.requires.running.1, c.numbers-dual.ensures.most_signs_value) in
-    sym (length-take-le _ _ (dual-fits))
+slice_bounds-sweeps_up_to-end-3 c = sym (length-take-le _ _ (omega (arith, c.requires.running.1, c.numbers-dual.ensures.most_signs_value)))
 
 pub sweeps_up_to-requires : goal.sweeps_up_to-requires
 sweeps_up_to-requires c =
-    let size_few : c.args.run.size * c.args.run.rank ≤ most_signs * most_rank =
-    mul-le-mul c.requires.running.1 c.requires.running.3 in
-    let product-fits : c.args.run.size * c.args.run.rank ≤ length c.rows_of_sums-product.result =
-    omega (arith, size_few, c.rows_of_sums-product.ensures.most_factor_value) in
-    let moved-fits : c.args.run.size * c.args.run.rank ≤ length c.rows_of_numbers-moved.result =
-    omega (arith, size_few, c.rows_of_numbers-moved.ensures.most_factor_value) in
-    let dual-fits : c.args.run.size ≤ length c.numbers-dual.result =
-    omega (arith, c.requires.running.1, c.numbers-dual.ensures.most_signs_value) in
+    let size = size_few c.requires.running.1 c.requires.running.3 in
     let row : 1 * c.args.run.rank ≤ c.args.run.size * c.args.run.rank = mul-le-mul c.requires.running.2 (omega arith) in (
       c.requires.running.0,
       record {
         shaped = c.requires.shaped.0;
         fits = c.requires.shaped.1;
-        product_is = length-take-le _ _ (product-fits);
-        moved_is = length-take-le _ _ (moved-fits);
-        dual_is = length-take-le _ _ (dual-fits);
+        product_is = length-take-le _ _ (omega (arith, size, c.rows_of_sums-product.ensures.most_factor_value));
+        moved_is = length-take-le _ _ (omega (arith, size, c.rows_of_numbers-moved.ensures.most_factor_value));
+        dual_is = length-take-le _ _ (omega (arith, c.requires.running.1, c.numbers-dual.ensures.most_signs_value));
         some = omega (arith, row);
         few = c.requires.running.1;
       },

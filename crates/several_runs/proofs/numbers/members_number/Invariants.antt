@@ -2,13 +2,14 @@
 use Prim.Native.Nat.{◌≤◌, ◌-◌}
 use mathlib.Core.Path.{◌≡◌}
 use Rattle.laws.specs.Refusal.{first_of}
-use Rattle.several_runs.specs.Turn.{run_at, tables_of, number_at}
+use Rattle.several_runs.specs.Lent.{lent_tables}
+use Rattle.several_runs.specs.Turn.{run_at, number_at}
 use Rattle.several_runs.proofs.Cursors.{Cursor}
 use Rattle.several_runs.proofs.numbers.members_number.Given as goal
 
 abbrev pub invariant-loop-i : goal.invariant-loop-i
-invariant-loop-i l = (l.i ≤ l.run_count) × Cursor (run_at l.runs) (tables_of l.halls l.rows l.cols l.values l.c) l.factors l.i l.entries l.costs l.at
-    × (first_of (number_at (run_at l.runs) (tables_of l.halls l.rows l.cols l.values l.c) l.factors) l.i ≡ 0)
+invariant-loop-i l = (l.i ≤ l.run_count) × Cursor (run_at l.runs) (lent_tables l.halls l.lent) l.factors l.i l.at.entries l.at.costs l.at.factor
+    × (first_of (number_at (run_at l.runs) (lent_tables l.halls l.lent) l.factors) l.i ≡ 0)
 
 abbrev pub decreases-loop-i : goal.decreases-loop-i
 decreases-loop-i l = l.run_count - l.i

@@ -1,14 +1,24 @@
--- `several_runs::shares::open_below` meets its contract. Assumes nothing.
+-- `several_runs::shares::open_below` meets its contract: `filter` keeps the open ones of the first runs. Assumes nothing.
+use Rattle.std.proofs.Common.{◌∙◌, rules, tests, take}
 use native.Mathlib.Omega.{arith}
-use Rattle.several_runs.proofs.Counted.{open_below_none, open_below_next}
-use Rattle.several_runs.proofs.Counted.{found_few}
+use Rattle.std.proofs.lemmas.Iterator.{YieldsList-from_slice}
+use Rattle.std.proofs.lemmas.Iterator.Consumers.{YieldsList-from_filter, count_from_yields_List}
+use Rattle.several_runs.specs.Turn.{run_at}
+use Rattle.several_runs.proofs.Counted.{is_open, open_counted, open_below_le}
 use Rattle.several_runs.proofs.shares.open_below.Goals as goal
 
-pub loop-i-init : goal.loop-i-init
-loop-i-init c = (omega arith, open_below_none _)
+pub overflow_cast-result : goal.overflow_cast-result
+overflow_cast-result c =
+    let a = c.args in
+    let found = count_from_yields_List c.filter.result _ c.count.ensures.ran
+    (YieldsList-from_filter _ is_open (YieldsList-from_slice (take a.end a.runs) cc) c.filter.ensures.closure (λ x b q k. search (rules, tests)))
+    ∙ open_counted a.end a.runs (omega arith) in
+    let few = open_below_le (run_at a.runs) a.end in
+    omega (arith, found, few, c.requires)
 
-pub overflow_add-found : goal.overflow_add-found
-overflow_add-found c = let few = found_few _ c.loop-i.i c.loop-i.invariant.1 c.open_one-found.ensures (omega (arith, c.loop-i.invariant.0, c.requires)) in omega (arith, few)
-
-pub loop-i-preserved : goal.loop-i-preserved
-loop-i-preserved c = (omega arith, open_below_next _ _ c.loop-i.invariant.1 c.open_one-found.ensures)
+pub returns : goal.returns
+returns c =
+    let a = c.args in
+    count_from_yields_List c.filter.result _ c.count.ensures.ran
+    (YieldsList-from_filter _ is_open (YieldsList-from_slice (take a.end a.runs) cc) c.filter.ensures.closure (λ x b q k. search (rules, tests)))
+    ∙ open_counted a.end a.runs (omega arith)

@@ -3,7 +3,7 @@ use mathlib.Core.Path.{refl, ◌∙◌}
 use native.Mathlib.Omega.{arith}
 use Rattle.laws.proofs.MapFirst.{fill_none, fill_more}
 use Rattle.several_runs.proofs.Counted.{open_below_none, open_below_next, found_few, count_few, turn_few, open_counts}
-use Rattle.several_runs.proofs.Cursors.{cursor_start, cursor_number, cursor_next}
+use Rattle.several_runs.proofs.Cursors.{cursor_start, cut_number, cursor_next}
 use Rattle.several_runs.proofs.OnTurns.{turn_good, count_good, number_good}
 use Rattle.several_runs.proofs.Moving.{start, step}
 use Rattle.several_runs.proofs.turn.turn_accepted.Goals as goal
@@ -12,7 +12,7 @@ pub open_below-open-requires : goal.open_below-open-requires
 open_below-open-requires c = count_few _ (count_good _ _ _ _ _ c.requires)
 
 pub loop-i-init : goal.loop-i-init
-loop-i-init c = (omega arith, cursor_start _ _ _, open_below_none _, fill_none _ _, start _ _ _ _ _ c.requires, refl)
+loop-i-init c = (omega arith, rw (c.default-at.ensures.0, c.default-at.ensures.1.0, c.default-at.ensures.1.1) (cursor_start _ _ _), open_below_none _, fill_none _ _, start _ _ _ _ _ c.requires, refl)
 
 pub offset_bounds-runs-i : goal.offset_bounds-runs-i
 offset_bounds-runs-i c = let eight = count_few _ (count_good _ _ _ _ _ c.requires) in omega (arith, eight, c.loop-i-test.true)
@@ -29,8 +29,16 @@ bounds-halls-i c = let eight = count_few _ (count_good _ _ _ _ _ c.requires) in 
 pub share_of-k-requires : goal.share_of-k-requires
 share_of-k-requires c = (rw c.open_below-open.ensures (open_counts _ _ _ c.loop-i-test.true), turn_few _ (turn_good _ _ _ _ _ c.requires))
 
+pub hall_from-table-requires : goal.hall_from-table-requires
+hall_from-table-requires c = let k = c.loop-i.invariant.1 in (k.rows_room, k.cols_room, k.values_room, k.costs_room)
+
 pub turn_one-requires : goal.turn_one-requires
-turn_one-requires c = record { entries_in_bounds = (c.loop-i.invariant.1.rows_room, c.loop-i.invariant.1.cols_room, c.loop-i.invariant.1.values_room, c.loop-i.invariant.1.costs_room, rw c.loop-i.invariant.5 c.loop-i.invariant.1.factors_room); at_value = rw c.loop-i.invariant.5 (cursor_number _ _ _ c.loop-i.invariant.1 ∙ number_good _ _ _ _ _ c.requires _ c.loop-i-test.true) }
+turn_one-requires c =
+    let number = cut_number _ _ _ c.loop-i.invariant.1 c.hall_from-table.ensures ∙ number_good _ _ _ _ _ c.requires _ c.loop-i-test.true in
+    record {
+      start_in_bounds = rw c.loop-i.invariant.5 c.loop-i.invariant.1.factors_room;
+      accepted = rw c.loop-i.invariant.5 number;
+    }
 
 pub offset_bounds-next-i : goal.offset_bounds-next-i
 offset_bounds-next-i c = let eight = count_few _ (count_good _ _ _ _ _ c.requires) in omega (arith, eight, c.loop-i-test.true)
@@ -41,19 +49,10 @@ bounds-next-i c = let eight = count_few _ (count_good _ _ _ _ _ c.requires) in o
 pub overflow_add-before : goal.overflow_add-before
 overflow_add-before c = let eight = count_few _ (count_good _ _ _ _ _ c.requires) in let few = found_few _ _ c.loop-i.invariant.2 c.open_one-before.ensures (omega (arith, eight, c.loop-i-test.true)) in omega (arith, few)
 
-pub overflow_add-entries : goal.overflow_add-entries
-overflow_add-entries c = let k = cursor_next _ _ _ c.loop-i.invariant.1 (number_good _ _ _ _ _ c.requires _ c.loop-i-test.true) in omega (arith, k.rows_room)
-
-pub overflow_add-costs : goal.overflow_add-costs
-overflow_add-costs c = let k = cursor_next _ _ _ c.loop-i.invariant.1 (number_good _ _ _ _ _ c.requires _ c.loop-i-test.true) in omega (arith, k.costs_room)
-
-pub overflow_mul-at : goal.overflow_mul-at
-overflow_mul-at c = let k = cursor_next _ _ _ c.loop-i.invariant.1 (number_good _ _ _ _ _ c.requires _ c.loop-i-test.true) in omega (arith, k.factors_room)
-
-pub overflow_add-at : goal.overflow_add-at
-overflow_add-at c = let k = cursor_next _ _ _ c.loop-i.invariant.1 (number_good _ _ _ _ _ c.requires _ c.loop-i-test.true) in omega (arith, k.factors_room)
+pub behind-at-requires : goal.behind-at-requires
+behind-at-requires c = let k = cursor_next _ _ _ c.loop-i.invariant.1 (number_good _ _ _ _ _ c.requires _ c.loop-i-test.true) in (omega (arith, k.rows_room), omega (arith, k.costs_room), omega (arith, k.factors_room))
 
 pub loop-i-preserved : goal.loop-i-preserved
 loop-i-preserved c = let k = cursor_next _ _ _ c.loop-i.invariant.1 (number_good _ _ _ _ _ c.requires _ c.loop-i-test.true) in
-    let st = step _ _ _ _ _ c.requires c.loop-i-test.true c.loop-i.invariant.1 c.open_below-open.ensures c.loop-i.invariant.2 c.loop-i.invariant.4 c.share_of-k.ensures c.turn_one.ensures in
-    (omega (arith, c.loop-i-test.true), k, open_below_next _ _ c.loop-i.invariant.2 c.open_one-before.ensures, fill_more _ _ _ c.loop-i.invariant.3 st.0, st.1, c.turn_one.auto.factors ∙ c.loop-i.invariant.5)
+    let st = step _ _ _ _ _ c.requires c.loop-i-test.true c.loop-i.invariant.1 c.open_below-open.ensures c.loop-i.invariant.2 c.loop-i.invariant.4 c.share_of-k.ensures c.hall_from-table.ensures c.turn_one.ensures in
+    (omega (arith, c.loop-i-test.true), rw (c.behind-at.ensures.0, c.behind-at.ensures.1, c.behind-at.ensures.2) k, open_below_next _ _ c.loop-i.invariant.2 c.open_one-before.ensures, fill_more _ _ _ c.loop-i.invariant.3 st.0, st.1, c.turn_one.auto.factors ∙ c.loop-i.invariant.5)

@@ -3,14 +3,15 @@ use Prim.Native.Nat.{◌≤◌, ◌-◌}
 use mathlib.Core.Path.{◌≡◌}
 use lib.ListN.{length}
 use Rattle.laws.specs.Lists.{over, fill}
-use Rattle.several_runs.specs.Turn.{run_at, tables_of, open_below, turned_at, joined}
+use Rattle.several_runs.specs.Lent.{lent_tables}
+use Rattle.several_runs.specs.Turn.{run_at, open_below, turned_at, joined}
 use Rattle.several_runs.proofs.Cursors.{Cursor}
 use Rattle.several_runs.proofs.turn.turn_accepted.Given as goal
 
 abbrev pub invariant-loop-i : goal.invariant-loop-i
-invariant-loop-i l = (l.i ≤ l.run_count) × Cursor (run_at l.runs) (tables_of l.halls l.rows l.cols l.values l.c) (length l.initial.factors) l.i l.entries l.costs l.at × (l.before ≡ open_below (run_at l.runs) l.i)
-    × (l.next ≡ fill (λ j. (turned_at l.sweeps l.run_count (run_at l.runs) (tables_of l.halls l.rows l.cols l.values l.c) l.initial.factors j).run) l.i l.runs)
-    × (l.factors ≡ over (joined (λ j. (turned_at l.sweeps l.run_count (run_at l.runs) (tables_of l.halls l.rows l.cols l.values l.c) l.initial.factors j).factor) l.i) l.initial.factors) × (length l.factors ≡ length l.initial.factors)
+invariant-loop-i l = (l.i ≤ l.run_count) × Cursor (run_at l.runs) (lent_tables l.halls l.lent) (length l.initial.factors) l.i l.at.entries l.at.costs l.at.factor × (l.before ≡ open_below (run_at l.runs) l.i)
+    × (l.next ≡ fill (λ j. (turned_at l.sweeps l.run_count (run_at l.runs) (lent_tables l.halls l.lent) l.initial.factors j).run) l.i l.runs)
+    × (l.factors ≡ over (joined (λ j. (turned_at l.sweeps l.run_count (run_at l.runs) (lent_tables l.halls l.lent) l.initial.factors j).factor) l.i) l.initial.factors) × (length l.factors ≡ length l.initial.factors)
 
 abbrev pub decreases-loop-i : goal.decreases-loop-i
 decreases-loop-i l = l.run_count - l.i

@@ -1,15 +1,14 @@
 -- `sum_rows` meets its contract: the sums over the first k entries, the last row's still held.
 -- Assumes nothing.
 use Prim.Native.Nat.{◌-◌, ◌≤◌}
-use Rattle.tables.specs.Table.{table_of}
 use mathlib.Core.Path.{◌≡◌}
 use lib.ListN.{length, drop}
-use Rattle.tables.specs.Table.{table_of}
+use Rattle.tables.specs.Entries.{listed}
 use Rattle.sign_search.specs.Clauses.{Summed}
 use Rattle.sign_search.proofs.changes.sum_rows.Given as goal
 
 abbrev pub invariant-loop-k : goal.invariant-loop-k
-invariant-loop-k l = (l.k ≤ l.table.count) × (length l.changes ≡ length l.initial.changes) × Summed (table_of l.table.count l.table.rows.now l.table.cols.now l.table.values.now) l.signs l.k l.row (l.held) l.changes
+invariant-loop-k l = (l.k ≤ l.table.count) × (length l.changes ≡ length l.initial.changes) × Summed (listed l.table) l.signs l.k l.row (l.held) l.changes
     × (drop (length l.signs) l.changes ≡ drop (length l.signs) l.initial.changes)
 
 abbrev pub decreases-loop-k : goal.decreases-loop-k

@@ -5,11 +5,11 @@ use mathlib.Core.List.{[]}
 use mathlib.Core.Path.{refl, sym, ◌∙◌}
 use lib.ListN.{length}
 use mir.Facts.{to_z-of_z}
-use Rattle.tables.specs.Table.{table_of}
 use Rattle.sign_words.specs.Packed.{unpacked}
 use Rattle.local_search.specs.Level.{Choice, decoded, sign_level}
 use Rattle.local_search.proofs.ExpandLaws.{parents_none, parents_one_more, part_long, parent_is}
 use Rattle.local_search.proofs.Decoded.{sign_level_empty, sign_rising, tidy_none, tidy_part}
+use Rattle.tables.specs.Entries.{listed}
 use Rattle.sign_search.specs.Within.{bounds}
 use Rattle.sign_search.specs.Clauses.{table_children}
 use Rattle.sign_search.proofs.ExpandLaws.{parent_expands, parent_kept, part_tidy, next_level_lem, row_room}
@@ -17,7 +17,7 @@ use Rattle.sign_search.proofs.levels.expand_level.Goals as goal
 
 pub loop-k-init : goal.loop-k-init
 loop-k-init c = let a = c.args in
-    let t = (table_of a.table.count a.table.rows.now a.table.cols.now a.table.values.now) in
+    let t = listed a.table in
     let m = length a.current.now in (
       omega arith,
       refl,
@@ -25,7 +25,7 @@ loop-k-init c = let a = c.args in
       refl,
       refl,
       refl,
-      parents_none a.width a.words (λ (x : Choice). table_children t (bounds a.flips a.most (unpacked (length a.current.now) a.origin.now)) m (decoded m x)) a.from_objectives.now a.from_signs.now
+      parents_none a.width a.words (λ (x : Choice). table_children t (bounds a.reach.leeway.flips a.reach.leeway.most (unpacked (length a.current.now) a.reach.origin.now)) m (decoded m x)) a.from_objectives.now a.from_signs.now
           (sign_level a.words m 0 a.objectives.now a.signs.now) (sign_level_empty a.words m a.objectives.now a.signs.now),
       c.requires.2,
       λ t. tidy_none a.words m a.objectives.now a.signs.now,
@@ -59,7 +59,7 @@ expand_row-kept-requires c = let a = c.args in
     let m = length a.current.now in
     let room = row_room a.words a.from_count l.k (length a.from_signs.now) (omega arith) c.requires.0.from_signs_room in (
       rw l.invariant.4
-          (parent_expands (table_of a.table.count a.table.rows.now a.table.cols.now a.table.values.now) a.words m a.from_objectives.now a.from_signs.now l.k room
+          (parent_expands (listed a.table) a.words m a.from_objectives.now a.from_signs.now l.k room
           _ a.from_count a.width l.kept (length l.changes) (length l.objectives) (length l.signs) (to_z-of_z {w = w64} (sfits_of c.objective-1.given)) (omega arith) l.invariant.6.room
           (rw (l.invariant.1, l.invariant.2, l.invariant.3) c.requires.0)),
       l.invariant.5 ∙ c.requires.1 ∙ sym (part_long a.words a.from_objectives.now a.from_signs.now l.k room),
@@ -74,7 +74,7 @@ pub loop-k-preserved : goal.loop-k-preserved
 loop-k-preserved c = let a = c.args in
     let l = c.loop-k in
     let v = c.expand_row-kept in
-    let t = (table_of a.table.count a.table.rows.now a.table.cols.now a.table.values.now) in
+    let t = listed a.table in
     let m = length a.current.now in
     let room = row_room a.words a.from_count l.k (length a.from_signs.now) c.loop-k-test.true c.requires.0.from_signs_room in
     let long = part_long a.words a.from_objectives.now a.from_signs.now l.k room in (
@@ -84,9 +84,9 @@ loop-k-preserved c = let a = c.args in
       v.auto.signs ∙ l.invariant.3,
       v.auto.current ∙ l.invariant.4,
       v.auto.current_row ∙ l.invariant.5,
-      parents_one_more a.width a.words (λ (x : Choice). table_children t (bounds a.flips a.most (unpacked (length a.current.now) a.origin.now)) m (decoded m x)) a.from_objectives.now a.from_signs.now l.k _ _ l.kept v.result
+      parents_one_more a.width a.words (λ (x : Choice). table_children t (bounds a.reach.leeway.flips a.reach.leeway.most (unpacked (length a.current.now) a.reach.origin.now)) m (decoded m x)) a.from_objectives.now a.from_signs.now l.k _ _ l.kept v.result
           (omega (arith, c.requires.0.from_objectives_room, c.loop-k-test.true)) l.invariant.6
-          (parent_kept t (bounds a.flips a.most (unpacked (length a.current.now) a.origin.now)) a.width m a.words _ _ _ _ _ _ _ _ _ long
+          (parent_kept t (bounds a.reach.leeway.flips a.reach.leeway.most (unpacked (length a.current.now) a.reach.origin.now)) a.width m a.words _ _ _ _ _ _ _ _ _ long
           (parent_is a.words a.from_objectives.now a.from_signs.now l.k room _ (to_z-of_z {w = w64} (sfits_of c.objective-1.given)))
           (rw l.invariant.4 at v.ensures.kept)),
       v.ensures.at_hand,
@@ -112,7 +112,7 @@ shape_of-signs c = c.loop-k.invariant.3
 pub returns : goal.returns
 returns c = let l = c.loop-k in
     let a = c.args in record {
-      next_level = next_level_lem (table_of a.table.count a.table.rows.now a.table.cols.now a.table.values.now) (bounds a.flips a.most (unpacked (length a.current.now) a.origin.now)) a.words (length a.current.now) a.width l.k a.from_count l.kept a.from_objectives.now a.from_signs.now
+      next_level = next_level_lem (listed a.table) (bounds a.reach.leeway.flips a.reach.leeway.most (unpacked (length a.current.now) a.reach.origin.now)) a.words (length a.current.now) a.width l.k a.from_count l.kept a.from_objectives.now a.from_signs.now
           (sign_level a.words (length a.current.now) l.kept l.objectives l.signs) (omega arith) l.invariant.6;
       at_hand = l.invariant.7;
       tidy = l.invariant.8;

@@ -4,9 +4,9 @@ use mathlib.Core.List.{List}
 use mathlib.Core.Path.{subst}
 use lib.ListN.{length}
 use mir.Facts.{to_z-of_z}
-use Rattle.tables.specs.Table.{table_of}
 use Rattle.sign_words.specs.Packed.{unpacked}
 use Rattle.sign_words.proofs.PackedLaws.{length_unpacked}
+use Rattle.tables.specs.Entries.{listed}
 use Rattle.sign_search.specs.Within.{bounds}
 use Rattle.sign_search.specs.Clauses.{Changes}
 use Rattle.sign_search.proofs.NearLaws.{both_packed}
@@ -23,13 +23,13 @@ expand_near-requires c = let k = c.move_to in
     let a = c.args in
     let changes = k.new.changes in (
       rw (to_z-of_z c.ranges.objective)
-          (row_expands (table_of a.table.count a.table.rows.now a.table.cols.now a.table.values.now) (length a.current.now) a.objective a.parent.now changes
-          (subst (λ (x : List ℕ). Changes (table_of a.table.count a.table.rows.now a.table.cols.now a.table.values.now) x changes) k.ensures.current_after k.ensures.at_hand.changes_are)
-          (bounds a.flips a.most (unpacked (length a.current.now) a.origin.now)) c.requires.4.flips_few
+          (row_expands (listed a.table) (length a.current.now) a.objective a.parent.now changes
+          (subst (λ (x : List ℕ). Changes (listed a.table) x changes) k.ensures.current_after k.ensures.at_hand.changes_are)
+          (bounds a.reach.leeway.flips a.reach.leeway.most (unpacked (length a.current.now) a.reach.origin.now)) c.requires.4.flips_few
           a.count a.width (length a.objectives.now) (length a.signs.now) (rw k.auto.changes c.requires.0)),
       c.requires.3,
       omega (arith, c.requires.4.flips_few, k.auto.current),
-      both_packed (length a.current.now) k.new.current a.parent.now a.origin.now a.flips k.auto.current k.ensures.current_after c.requires.4 c.requires.5
+      both_packed (length a.current.now) k.new.current a.parent.now a.reach.origin.now a.reach.leeway.flips k.auto.current k.ensures.current_after c.requires.4 c.requires.5
           (omega (arith, c.requires.0.signs_held, length_unpacked (length a.current.now) a.parent.now)) c.requires.0.words_few,
     )
 
@@ -52,9 +52,9 @@ pub returns : goal.returns
 returns c = let e = c.expand_near in
     let k = c.move_to in
     let a = c.args in
-    let t = (table_of a.table.count a.table.rows.now a.table.cols.now a.table.values.now) in
+    let t = listed a.table in
     let m = length a.current.now in
-    let b = bounds a.flips a.most (unpacked (length a.current.now) a.origin.now) in
+    let b = bounds a.reach.leeway.flips a.reach.leeway.most (unpacked (length a.current.now) a.reach.origin.now) in
     let changes = k.new.changes in
     let is = subst (λ (x : List ℕ). Changes t x changes) k.ensures.current_after k.ensures.at_hand.changes_are in
     let held : m ≤ 64 * length a.parent.now = omega (arith, c.requires.0.signs_held, length_unpacked m a.parent.now) in

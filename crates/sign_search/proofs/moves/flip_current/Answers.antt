@@ -9,7 +9,7 @@ use mir.Syntax.{w64}
 use mir.Val.{SFits, to_z, of_z}
 use mir.Facts.{to_z-of_z}
 use Rattle.laws.proofs.Integer.{negation_fits, held}
-use Rattle.tables.specs.Table.{table_of}
+use Rattle.tables.specs.Entries.{listed}
 use Rattle.sign_search.proofs.TurnLaws.{usable_of, change_abs, changes_flipped}
 use Rattle.sign_search.proofs.moves.flip_current.Goals as goal
 
@@ -20,10 +20,10 @@ pub slice_copy_out-own : goal.slice_copy_out-own
 slice_copy_out-own c = omega (arith, c.requires.1, c.requires.2.many)
 
 pub row_start-from-requires : goal.row_start-from-requires
-row_start-from-requires c = (c.args.table.lent.rows_there, c.requires.0.climbs)
+row_start-from-requires c = c.requires.0.climbs
 
 pub row_start-to-requires : goal.row_start-to-requires
-row_start-to-requires c = (c.args.table.lent.rows_there, c.requires.0.climbs)
+row_start-to-requires c = c.requires.0.climbs
 
 pub turn_entries-requires : goal.turn_entries-requires
 turn_entries-requires c = record { usable = usable_of c.requires.0; sign = c.requires.1; starts = c.row_start-from.ensures; ends = rw (add-one c.args.i) at c.row_start-to.ensures; changes_are = c.requires.2 }
@@ -55,6 +55,6 @@ returns c = let a = c.args in
     let fits : SFits w64 (pos 0 -ℤ to_z w64 (of_z w64 v)) = rw (held v c.own-1.given) (negation_fits v (omega (arith, small))) in (
       c.flip_sign.ensures,
       rw c.flip_sign.ensures
-          (changes_flipped (table_of a.table.count a.table.rows.now a.table.cols.now a.table.values.now) a.current.now a.i a.changes.now c.turn_entries.new.changes _ c.requires.0.mirrors c.requires.1 c.requires.2 c.turn_entries.ensures
+          (changes_flipped (listed a.table) a.current.now a.i a.changes.now c.turn_entries.new.changes _ c.requires.0.mirrors c.requires.1 c.requires.2 c.turn_entries.ensures
           (to_z-of_z fits ∙ ap (λ (u : ℤ). pos 0 -ℤ u) (held v c.own-1.given) ∙ +ℤ_idl (neg_ℤ v))),
     )

@@ -1,13 +1,13 @@
-use Prim.Native.Nat.{◌-◌}
+use Prim.Native.Nat.{ℕ, ◌*◌, ◌-◌, ◌≤◌, ◌<◌}
 use mathlib.Core.Path.{◌≡◌}
 use lib.ListN.{length}
-use Rattle.tables.specs.Table.{table_of}
-use Rattle.sign_words.specs.Distance.{SignApart}
+use Rattle.sign_words.specs.Packed.{sign_in}
+use Rattle.tables.specs.Entries.{listed}
 use Rattle.sign_search.specs.Clauses.{AtHand}
 use Rattle.sign_search.proofs.moves.move_to.Given as goal
 
 abbrev pub invariant-loop-i : goal.invariant-loop-i
-invariant-loop-i l = (length l.current ≡ length l.initial.current) × (length l.current_row ≡ length l.initial.current_row) × (length l.changes ≡ length l.initial.changes) × AtHand (table_of l.table.count l.table.rows.now l.table.cols.now l.table.values.now) l.current l.current_row l.changes × SignApart l.current_row l.target 0 l.i
+invariant-loop-i l = (length l.current ≡ length l.initial.current) × (length l.current_row ≡ length l.initial.current_row) × (length l.changes ≡ length l.initial.changes) × AtHand (listed l.table) l.current l.current_row l.changes × (l.from ≤ 64 * length l.target) × ((j : ℕ) → j < l.from → sign_in l.current_row j ≡ sign_in l.target j)
 
 abbrev pub decreases-loop-i : goal.decreases-loop-i
-decreases-loop-i l = l.m - l.i
+decreases-loop-i l = l.m - l.from

@@ -2,6 +2,7 @@ use Prim.Native.Nat.{ℕ, ◌*◌, ◌≤◌, ◌<◌}
 use native.Mathlib.Nat.{mul-le-mul_right}
 use native.Mathlib.Omega.{arith}
 use borrow.Author.Rules.{sfits_of}
+use mathlib.Core.Bool.{Bool}
 use mathlib.Core.List.{List, []}
 use mathlib.Core.Path.{◌≡◌, refl, sym, ap, ◌∙◌, subst}
 use lib.IntN.{ℤ}
@@ -9,19 +10,43 @@ use lib.ListN.{length}
 use mir.Syntax.{w64}
 use mir.Val.{to_z, of_z}
 use mir.Facts.{to_z-of_z}
-use Rattle.tables.specs.Table.{table_of}
 use Rattle.sign_words.specs.Packed.{unpacked}
 use Rattle.local_search.specs.LocalSearch.{best}
-use Rattle.local_search.specs.Level.{below, level_of, sign_level}
+use Rattle.local_search.specs.Level.{Choice, below, level_of, sign_level}
 use Rattle.local_search.specs.Children.{parent_of}
 use Rattle.local_search.proofs.Decoded.{length_sign_level, sign_level_empty, least_decoded, tidy_best}
 use Rattle.local_search.proofs.LoopLaws.{Searching, start_safe, searching_first, searching_next, searching_safe, searching_more, searching_end}
+use Rattle.tables.specs.Entries.{listed}
 use Rattle.sign_search.specs.Search.{change_in, height_in}
 use Rattle.sign_search.specs.Within.{bounds}
 use Rattle.sign_search.specs.Clauses.{exists_in, searched_in}
 use Rattle.sign_search.proofs.Searches.{table_searches}
 use Rattle.sign_search.proofs.TurnLaws.{usable_of}
 use Rattle.sign_search.proofs.search.search_levels.Goals as goal
+use Rattle.sign_search.proofs.search.search_levels.Goals.{After-append_row-count, After-advance-count}
+
+-- the search that the call makes
+module _ (c : After-append_row-count) where
+  abbrev start : Choice
+  start = parent_of (to_z w64 (of_z w64 c.args.objective)) c.args.current.now
+
+  abbrev exists : Choice → ℕ → Bool
+  exists = let a = c.args in exists_in (listed a.table) (bounds a.reach.leeway.flips a.reach.leeway.most a.current.now)
+
+-- the level in hand isn't empty, so that a round is left
+module _ (c : After-advance-count) where
+  filled : let l = c.loop-count in 0 < length (sign_level (length c.args.kept.now) (length c.args.current.now) l.count l.objectives l.signs)
+  filled = let l = c.loop-count in
+      omega (arith, length_sign_level (length c.args.kept.now) (length c.args.current.now) l.count l.objectives l.signs l.invariant.6)
+
+  left : let a = c.args in
+      let b = bounds a.reach.leeway.flips a.reach.leeway.most a.current.now in
+      c.loop-count.rounds < (searched_in (listed a.table) b a.width (parent_of (to_z w64 (of_z w64 a.objective)) a.current.now)).rounds
+  left = let a = c.args in
+      let t = listed a.table in
+      let b = bounds a.reach.leeway.flips a.reach.leeway.most a.current.now in
+      let start = parent_of (to_z w64 (of_z w64 a.objective)) a.current.now in
+      searching_more (change_in t) (exists_in t b) a.width (height_in t a.current.now) start _ _ c.loop-count.rounds filled c.loop-count.invariant.8
 
 pub append_row-count-requires : goal.append_row-count-requires
 append_row-count-requires c = let a = c.args in (
@@ -32,17 +57,17 @@ append_row-count-requires c = let a = c.args in (
         signs_room = c.requires.0.first_signs;
         signs_held = c.requires.0.signs_held;
         table = usable_of c.requires.1;
-        safe = start_safe _ _ _ _ (table_searches _ (bounds a.flips a.most a.current.now) (parent_of a.objective a.current.now) c.requires.1 c.requires.2);
+        safe = start_safe _ _ _ _ (table_searches _ (bounds a.reach.leeway.flips a.reach.leeway.most a.current.now) (parent_of a.objective a.current.now) c.requires.1 c.requires.2);
       }),
   c.requires.3.signs,
   c.requires.4,
 )
 
 pub loop-count-init : goal.loop-count-init
-loop-count-init c = let f = c.append_row-count in
+loop-count-init c = let w = (goal.at.loop-count-init c).After-append_row-count in
+    let f = c.append_row-count in
     let a = c.args in
-    let t = (table_of a.table.count a.table.rows.now a.table.cols.now a.table.values.now) in
-    let start = parent_of (to_z w64 (of_z w64 a.objective)) a.current.now in
+    let t = listed a.table in
     let n = length a.kept.now in (
       refl,
       refl,
@@ -52,9 +77,9 @@ loop-count-init c = let f = c.append_row-count in
       refl,
       omega (arith, f.ensures.appended.room, c.requires.0.first_objectives, f.auto.objectives),
       omega (arith, mul-le-mul_right n f.ensures.appended.room, c.requires.0.first_signs, f.auto.signs),
-      subst (λ (x : List ℕ). Searching (change_in t) (exists_in t (bounds a.flips a.most a.current.now)) a.width (height_in t a.current.now) start (sign_level n (length a.current.now) f.result f.new.objectives f.new.signs) (parent_of (to_z w64 (of_z w64 a.objective)) x) 0) (sym c.requires.3.signs)
-          (searching_first (change_in t) (exists_in t (bounds a.flips a.most a.current.now)) a.width (height_in t a.current.now) start _ f.ensures.appended.level c.requires.0.some
-          (table_searches t (bounds a.flips a.most a.current.now) start c.requires.1 (to_z-of_z c.ranges.objective ∙ c.requires.2))),
+      subst (λ (x : List ℕ). Searching (change_in t) (exists w) a.width (height_in t a.current.now) (start w) (sign_level n (length a.current.now) f.result f.new.objectives f.new.signs) (parent_of (to_z w64 (of_z w64 a.objective)) x) 0) (sym c.requires.3.signs)
+          (searching_first (change_in t) (exists w) a.width (height_in t a.current.now) (start w) _ f.ensures.appended.level c.requires.0.some
+          (table_searches t (bounds a.reach.leeway.flips a.reach.leeway.most a.current.now) (start w) c.requires.1 (to_z-of_z c.ranges.objective ∙ c.requires.2))),
       refl,
       record { changes_are = f.ensures.changes; row_is = ap (unpacked (length a.current.now)) c.requires.3.same ∙ c.requires.3.signs },
       f.ensures.tidy c.requires.3.tidy,
@@ -67,10 +92,11 @@ keep_least-least-requires c = let l = c.loop-count in
     (l.invariant.6, subst (λ (n : ℕ). l.count * n ≤ length l.signs) (sym l.invariant.0) l.invariant.7)
 
 pub advance-count-requires : goal.advance-count-requires
-advance-count-requires c = let l = c.loop-count in
+advance-count-requires c = let w = (goal.at.advance-count-requires c).After-append_row-count in
+    let l = c.loop-count in
     let a = c.args in
     let f = c.append_row-count in
-    let t = (table_of a.table.count a.table.rows.now a.table.cols.now a.table.values.now) in (
+    let t = listed a.table in (
       rw l.invariant.9
           (record {
             expands = record {
@@ -83,7 +109,7 @@ advance-count-requires c = let l = c.loop-count in
               signs_held = c.requires.0.signs_held;
               words_few = c.requires.0.words_few;
               table = c.requires.1;
-              safe = searching_safe (change_in t) (exists_in t (bounds a.flips a.most a.current.now)) a.width (height_in t a.current.now) (parent_of (to_z w64 (of_z w64 a.objective)) a.current.now) _ _ l.rounds l.invariant.8;
+              safe = searching_safe (change_in t) (exists w) a.width (height_in t a.current.now) (start w) _ _ l.rounds l.invariant.8;
             };
             objectives_room = omega (arith, l.invariant.2, f.auto.objectives, c.requires.0.objectives_room);
             signs_room = omega (arith, l.invariant.3, f.auto.signs, c.requires.0.signs_room);
@@ -95,43 +121,21 @@ advance-count-requires c = let l = c.loop-count in
     )
 
 pub overflow_add-rounds : goal.overflow_add-rounds
-overflow_add-rounds c =
-    let filled : let a = c.args in 0 < length (sign_level (length a.kept.now) (length a.current.now) c.loop-count.count c.loop-count.objectives c.loop-count.signs) =
-    let l = c.loop-count in
-    let a = c.args in
-    omega (arith, length_sign_level (length a.kept.now) (length a.current.now) l.count l.objectives l.signs l.invariant.6) in
-    let more-rounds : let a = c.args in c.loop-count.rounds < (searched_in (table_of a.table.count a.table.rows.now a.table.cols.now a.table.values.now) (bounds a.flips a.most a.current.now) a.width (parent_of (to_z w64 (of_z w64 a.objective)) a.current.now)).rounds =
-    let l = c.loop-count in
-    let a = c.args in
-    let t = (table_of a.table.count a.table.rows.now a.table.cols.now a.table.values.now) in
-    searching_more (change_in t) (exists_in t (bounds a.flips a.most a.current.now)) a.width (height_in t a.current.now) (parent_of (to_z w64 (of_z w64 a.objective)) a.current.now) _ _ l.rounds (filled) l.invariant.8 in
-    omega (arith, more-rounds, c.loop-count.invariant.8.few)
+overflow_add-rounds c = let more = left (goal.at.overflow_add-rounds c).After-advance-count in omega (arith, more, c.loop-count.invariant.8.few)
 
 pub loop-count-smaller : goal.loop-count-smaller
-loop-count-smaller c =
-    let filled : let a = c.args in 0 < length (sign_level (length a.kept.now) (length a.current.now) c.loop-count.count c.loop-count.objectives c.loop-count.signs) =
-    let l = c.loop-count in
-    let a = c.args in
-    omega (arith, length_sign_level (length a.kept.now) (length a.current.now) l.count l.objectives l.signs l.invariant.6) in
-    let more-rounds : let a = c.args in c.loop-count.rounds < (searched_in (table_of a.table.count a.table.rows.now a.table.cols.now a.table.values.now) (bounds a.flips a.most a.current.now) a.width (parent_of (to_z w64 (of_z w64 a.objective)) a.current.now)).rounds =
-    let l = c.loop-count in
-    let a = c.args in
-    let t = (table_of a.table.count a.table.rows.now a.table.cols.now a.table.values.now) in
-    searching_more (change_in t) (exists_in t (bounds a.flips a.most a.current.now)) a.width (height_in t a.current.now) (parent_of (to_z w64 (of_z w64 a.objective)) a.current.now) _ _ l.rounds (filled) l.invariant.8 in
-    omega (arith, more-rounds)
+loop-count-smaller c = let more = left (goal.at.loop-count-smaller c).After-advance-count in omega (arith, more)
 
 pub loop-count-preserved : goal.loop-count-preserved
 loop-count-preserved c =
-    let filled : let a = c.args in 0 < length (sign_level (length a.kept.now) (length a.current.now) c.loop-count.count c.loop-count.objectives c.loop-count.signs) =
-    let l = c.loop-count in
-    let a = c.args in
-    omega (arith, length_sign_level (length a.kept.now) (length a.current.now) l.count l.objectives l.signs l.invariant.6) in
+    let w = (goal.at.loop-count-preserved c).After-append_row-count in
+    let more = filled (goal.at.loop-count-preserved c).After-advance-count in
     let v = c.advance-count in
     let k = c.keep_least-least in
     let l = c.loop-count in
     let a = c.args in
     let f = c.append_row-count in
-    let t = (table_of a.table.count a.table.rows.now a.table.cols.now a.table.values.now) in
+    let t = listed a.table in
     let m = length a.current.now in
     let n = length a.kept.now in
     let next = rw (l.invariant.9, c.requires.5, c.requires.3.signs) at v.ensures.next_level in
@@ -144,8 +148,8 @@ loop-count-preserved c =
       v.auto.next_signs ∙ l.invariant.5,
       omega (arith, next.room, v.auto.objectives, l.invariant.2, f.auto.objectives, c.requires.0.objectives_room),
       omega (arith, mul-le-mul_right n next.room, v.auto.signs, l.invariant.3, f.auto.signs, c.requires.0.signs_room),
-      searching_next (change_in t) (exists_in t (bounds a.flips a.most a.current.now)) a.width (height_in t a.current.now) (parent_of (to_z w64 (of_z w64 a.objective)) a.current.now)
-          (sign_level n m l.count l.objectives l.signs) _ (parent_of (to_z w64 l.least-bits) (unpacked m l.kept)) _ l.rounds (filled) next.level
+      searching_next (change_in t) (exists w) a.width (height_in t a.current.now) (start w)
+          (sign_level n m l.count l.objectives l.signs) _ (parent_of (to_z w64 l.least-bits) (unpacked m l.kept)) _ l.rounds more next.level
           (least_decoded n m l.count l.objectives l.signs (parent_of (to_z w64 l.least-bits) l.kept) (parent_of (to_z w64 (of_z w64 k.result)) k.new.kept)
           (ap (λ (z : ℤ). parent_of z k.new.kept) (to_z-of_z {w = w64} (sfits_of k.type_inv)) ∙ k.ensures ∙ among))
           l.invariant.8,
@@ -181,13 +185,14 @@ pub shape_of-next_signs : goal.shape_of-next_signs
 shape_of-next_signs c = c.loop-count.invariant.5
 
 pub returns : goal.returns
-returns c = let l = c.loop-count in
+returns c = let w = (goal.at.returns c).After-append_row-count in
+    let l = c.loop-count in
     let a = c.args in
-    let t = (table_of a.table.count a.table.rows.now a.table.cols.now a.table.values.now) in
+    let t = listed a.table in
     let m = length a.current.now in
     let n = length a.kept.now in
     let none : l.count ≡ 0 = omega arith in
     let empty : sign_level n m l.count l.objectives l.signs ≡ [] = ap (λ (i : ℕ). sign_level n m i l.objectives l.signs) none ∙ sign_level_empty n m l.objectives l.signs in
     let done = rw (to_z-of_z c.ranges.objective) at
-    (searching_end (change_in t) (exists_in t (bounds a.flips a.most a.current.now)) a.width (height_in t a.current.now) (parent_of (to_z w64 (of_z w64 a.objective)) a.current.now) _ (parent_of (to_z w64 l.least-bits) (unpacked m l.kept)) l.rounds empty l.invariant.8) in
-    record { kept_after = done; tidy = l.invariant.12 }
+    (searching_end (change_in t) (exists w) a.width (height_in t a.current.now) (start w) _ (parent_of (to_z w64 l.least-bits) (unpacked m l.kept)) l.rounds empty l.invariant.8) in
+    record { kept_after = record { answer_is = done.0; rounds_are = done.1 }; tidy = l.invariant.12 }

@@ -1,11 +1,11 @@
 use Prim.Native.Nat.{◌*◌, ◌-◌, ◌≤◌}
 use mathlib.Core.Path.{◌≡◌}
 use lib.ListN.{length}
-use Rattle.tables.specs.Table.{table_of}
 use Rattle.sign_words.specs.Packed.{unpacked, Tidy}
 use Rattle.local_search.specs.Level.{sign_level, TidyLevel}
 use Rattle.local_search.specs.Children.{parent_of}
 use Rattle.local_search.proofs.LoopLaws.{Searching}
+use Rattle.tables.specs.Entries.{listed}
 use Rattle.sign_search.specs.Search.{change_in, height_in}
 use Rattle.sign_search.specs.Within.{bounds}
 use Rattle.sign_search.specs.Clauses.{exists_in, searched_in, AtHand}
@@ -15,9 +15,9 @@ abbrev pub invariant-loop-count : goal.invariant-loop-count
 invariant-loop-count l = (length l.kept ≡ length l.initial.kept) × (length l.changes ≡ length l.initial.changes) × (length l.objectives ≡ length l.initial.objectives) × (length l.signs ≡ length l.initial.signs)
     × (length l.next_objectives ≡ length l.initial.next_objectives) × (length l.next_signs ≡ length l.initial.next_signs)
     × (l.count ≤ length l.objectives) × (l.count * l.words ≤ length l.signs)
-    × Searching (change_in (table_of l.table.count l.table.rows.now l.table.cols.now l.table.values.now)) (exists_in (table_of l.table.count l.table.rows.now l.table.cols.now l.table.values.now) (bounds l.flips l.most l.initial.current)) l.width (height_in (table_of l.table.count l.table.rows.now l.table.cols.now l.table.values.now) l.initial.current) (parent_of (l.objective) l.initial.current) (sign_level l.words (length l.initial.current) l.count l.objectives l.signs) (parent_of (l.least) (unpacked (length l.initial.current) l.kept)) l.rounds
-    × (length l.current ≡ length l.initial.current) × AtHand (table_of l.table.count l.table.rows.now l.table.cols.now l.table.values.now) l.current l.current_row l.changes
+    × Searching (change_in (listed l.table)) (exists_in (listed l.table) (bounds l.reach.leeway.flips l.reach.leeway.most l.initial.current)) l.width (height_in (listed l.table) l.initial.current) (parent_of (l.objective) l.initial.current) (sign_level l.words (length l.initial.current) l.count l.objectives l.signs) (parent_of (l.least) (unpacked (length l.initial.current) l.kept)) l.rounds
+    × (length l.current ≡ length l.initial.current) × AtHand (listed l.table) l.current l.current_row l.changes
     × TidyLevel l.words (length l.initial.current) l.count l.objectives l.signs × Tidy (length l.initial.current) l.kept × (length l.current_row ≡ l.words)
 
 abbrev pub decreases-loop-count : goal.decreases-loop-count
-decreases-loop-count l = (searched_in (table_of l.table.count l.table.rows.now l.table.cols.now l.table.values.now) (bounds l.flips l.most l.initial.current) l.width (parent_of (l.objective) l.initial.current)).rounds - l.rounds
+decreases-loop-count l = (searched_in (listed l.table) (bounds l.reach.leeway.flips l.reach.leeway.most l.initial.current) l.width (parent_of (l.objective) l.initial.current)).rounds - l.rounds

@@ -2,7 +2,7 @@ use Prim.Native.Nat.{ℕ, ◌*◌, ◌-◌, ◌≤◌}
 use native.Mathlib.Nat.{le_trans, mul-le-mul}
 use native.Mathlib.Omega.{arith}
 use lib.ListN.{length}
-use mir.Facts.{to_z-of_z}
+use Rattle.laws.proofs.Integer.{held}
 use Rattle.limits.specs.Limits.{most_signs, most_words}
 use mathlib.Core.List.{List, ◌++◌}
 use mathlib.Core.Path.{◌≡◌, refl, ap, ◌∙◌}
@@ -18,38 +18,39 @@ part-fits : (m : ℕ) (start row rest : List ℕ) → length start ≡ m → row
 part-fits m start row rest long e = omega (arith, length-append row rest, ap length e, long)
 
 pub slice_bounds-origin-end : goal.slice_bounds-origin-end
-slice_bounds-origin-end c = omega (arith, c.requires.2)
+slice_bounds-origin-end c = omega (arith, c.requires.start_row.1)
 
-pub copy-requires : goal.copy-requires
-copy-requires c = simp length-take (omega (arith, c.requires.2))
+pub copy_from_slice-requires : goal.copy_from_slice-requires
+copy_from_slice-requires c = simp length-take (omega (arith, c.requires.start_row.1))
 
-pub slice_bounds-search_levels-end-5 : goal.slice_bounds-search_levels-end-5
-slice_bounds-search_levels-end-5 c = part-fits (length c.args.kept.now) c.args.kept.now c.copy.new.to _ refl c.copy.ensures
+pub slice_bounds-reach-end : goal.slice_bounds-reach-end
+slice_bounds-reach-end c = part-fits (length c.args.kept.now) c.args.kept.now c.copy_from_slice.new.self _ refl c.copy_from_slice.ensures.after
 
 pub search_levels-requires : goal.search_levels-requires
-search_levels-requires c = let r = c.requires.0 in
+search_levels-requires c = let q = c.requires.searchable in
+    let r = q.room in
     let a = c.args in
     let n : ℕ = length a.kept.now in
-    let first : length a.current.now * n ≤ most_signs * most_words = mul-le-mul r.signs_few c.requires.2 in
-    let wide : a.width * n ≤ most_signs * most_words = mul-le-mul r.width_few c.requires.2 in (
+    let first : length a.current.now * n ≤ most_signs * most_words = mul-le-mul r.signs_few c.requires.start_row.1 in
+    let wide : a.search.width * n ≤ most_signs * most_words = mul-le-mul r.width_few c.requires.start_row.1 in (
       record {
-        some = c.requires.1;
+        some = q.some;
         changes_room = omega (arith, r.signs_few);
         first_objectives = omega (arith, r.signs_few);
         first_signs = le_trans first r.level_room;
-        signs_held = c.requires.3;
-        words_few = omega (arith, c.requires.2);
+        signs_held = c.requires.start_row.2;
+        words_few = omega (arith, c.requires.start_row.1);
         objectives_room = omega (arith, r.width_few);
         signs_room = le_trans wide r.level_room;
         next_objectives_room = omega (arith, r.width_few);
         next_signs_room = omega (arith, wide);
       },
-      c.requires.4,
-      rw (to_z-of_z c.ranges.objective) c.requires.5,
-      c.requires.6,
-      c.requires.7,
-      part-again (length a.kept.now) a.kept.now _ _ refl c.copy.ensures,
+      q.sound,
+      rw (held a.search.objective (omega arith)) q.start_is,
+      c.requires.start_row.0,
+      q.flips_few,
+      part-again (length a.kept.now) a.kept.now _ _ refl c.copy_from_slice.ensures.after,
     )
 
 pub returns : goal.returns
-returns c = record { kept_after = rw (to_z-of_z c.ranges.objective) at c.search_levels.ensures.kept_after; tidy = c.search_levels.ensures.tidy }
+returns c = record { kept_after = rw (held c.args.search.objective (omega arith)) at c.search_levels.ensures.kept_after; tidy = c.search_levels.ensures.tidy }

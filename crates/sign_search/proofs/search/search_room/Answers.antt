@@ -1,7 +1,6 @@
 use native.Mathlib.Omega.{arith}
 use mathlib.Core.Path.{refl}
 use lib.ListN.{length, length-take, length-drop}
-use mir.Facts.{to_z-of_z}
 use Rattle.sign_words.proofs.Sizes.{few_words, enough_words}
 use Rattle.sign_search.proofs.search.search_room.Goals as goal
 
@@ -12,7 +11,10 @@ pub slice_bounds-current_row-end : goal.slice_bounds-current_row-end
 slice_bounds-current_row-end c = omega (arith, c.sign_words-words.ensures, few_words (length c.args.current.now))
 
 pub search_words-requires : goal.search_words-requires
-search_words-requires c = let m = length c.args.current.now in (c.requires.0, c.requires.1, simp (length-take, length-drop) (omega (arith, c.sign_words-words.ensures, few_words m)), simp (length-take, length-drop) (omega (arith, c.sign_words-words.ensures, few_words m, enough_words m c.requires.0.signs_few)), refl, c.requires.2, c.requires.3, rw (to_z-of_z c.ranges.objective) c.requires.4, c.requires.5)
+search_words-requires c = let m = length c.args.current.now in record {
+  searchable = c.requires;
+  words_held = (simp (length-take, length-drop) (omega (arith, c.sign_words-words.ensures, few_words m)), simp (length-take, length-drop) (omega (arith, c.sign_words-words.ensures, few_words m, enough_words m c.requires.0.room.signs_few)), refl);
+}
 
 pub shape_of-current : goal.shape_of-current
 shape_of-current c = c.search_words.auto.current
@@ -21,4 +23,4 @@ pub shape_of-level : goal.shape_of-level
 shape_of-level c = c.search_words.auto.level
 
 pub returns : goal.returns
-returns c = rw (to_z-of_z c.ranges.objective) at c.search_words.ensures
+returns c = c.search_words.ensures

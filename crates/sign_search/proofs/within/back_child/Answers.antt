@@ -5,14 +5,13 @@ use mathlib.Core.Path.{◌≡◌, refl, sym, ap, ◌∙◌, subst}
 use lib.Dec.{eqb}
 use lib.IntN.{ℤ}
 use lib.ListN.{length}
-use mir.Facts.{to_z-of_z}
 use Rattle.laws.specs.Lists.{elem}
 use Rattle.sign_words.specs.Signs.{sign_digit}
 use Rattle.sign_words.specs.Packed.{sign_in, unpacked}
 use Rattle.sign_words.proofs.PackedLaws.{elem_unpacked}
 use Rattle.local_search.specs.Level.{Choice, level_of}
 use Rattle.local_search.specs.SignSearch.{improves_c}
-use Rattle.local_search.specs.Children.{change_of, flip_w, parent_of, Kept}
+use Rattle.local_search.specs.Children.{change_of, choice_of, flip_w, Kept}
 use Rattle.local_search.proofs.ExpandLaws.{no_child}
 use Rattle.sign_search.specs.Within.{apart_at, goes_back}
 use Rattle.sign_search.proofs.NearLaws.{whole, never}
@@ -33,17 +32,16 @@ sign-is m x origin i h e is = e ∙ ap (λ (t : ℕ). cond (eqb (sign_digit (ele
 
 pub returns-then-not-differs : goal.returns-then-not-differs
 returns-then-not-differs c = let a = c.args in
-    no_child a.width _ _ a.count a.i a.changes.now (goes_back a.changes.now a.current.now (unpacked (length a.current.now) a.origin.now)) (parent_of a.objective a.parent.now)
-    (left_out a.changes.now a.current.now (unpacked (length a.current.now) a.origin.now) (parent_of a.objective a.parent.now) a.i (sign-is (length a.current.now) a.current.now a.origin.now a.i c.requires.2 c.differs.ensures c.sign_in-sign.ensures) c.if-not-differs.true) refl c.requires.0.used
+    no_child a.width _ _ a.count a.i a.parent.changes.now (goes_back a.parent.changes.now a.current.now (unpacked (length a.current.now) a.origin.now)) (choice_of a.parent)
+    (left_out a.parent.changes.now a.current.now (unpacked (length a.current.now) a.origin.now) (choice_of a.parent) a.i (sign-is (length a.current.now) a.current.now a.origin.now a.i c.requires.2 c.differs.ensures c.sign_in-sign.ensures) c.if-not-differs.true) refl c.requires.0.used
 
 pub consider_child-requires : goal.consider_child-requires
-consider_child-requires c = (rw (to_z-of_z c.ranges.objective) c.requires.0, c.requires.1)
+consider_child-requires c = (c.requires.0, c.requires.1)
 
 pub returns : goal.returns
 returns c = let a = c.args in
     let k = c.consider_child in
-    let parent = parent_of a.objective a.parent.now in
-    let taken = rw (to_z-of_z c.ranges.objective) at k.ensures.kept in
-    subst (λ (b : Bool). Kept a.width (level_of (length a.parent.now) a.count a.objectives.now a.signs.now) (cond b (flip_w a.changes.now a.i parent ∷ []) [])
-    (level_of (length a.parent.now) k.result k.new.objectives k.new.signs) k.result)
-    (taken_in a.changes.now a.current.now (unpacked (length a.current.now) a.origin.now) parent a.i (sign-is (length a.current.now) a.current.now a.origin.now a.i c.requires.2 c.differs.ensures c.sign_in-sign.ensures) c.if-not-differs.false) taken
+    let parent = choice_of a.parent in
+    subst (λ (b : Bool). Kept a.width (level_of (length a.parent.row.now) a.count a.objectives.now a.signs.now) (cond b (flip_w a.parent.changes.now a.i parent ∷ []) [])
+    (level_of (length a.parent.row.now) k.result k.new.objectives k.new.signs) k.result)
+    (taken_in a.parent.changes.now a.current.now (unpacked (length a.current.now) a.origin.now) parent a.i (sign-is (length a.current.now) a.current.now a.origin.now a.i c.requires.2 c.differs.ensures c.sign_in-sign.ensures) c.if-not-differs.false) k.ensures.kept

@@ -21,7 +21,7 @@ loop-i-init c = (λ t e. last_total (last_begin _ _ _) e, refl, refl, refl)
 
 pub row_sum-s-requires : goal.row_sum-s-requires
 row_sum-s-requires c = let p = c.requires in
-    (p.0.rows_there, p.0.values_there, omega (arith, p.1), omega (arith, p.2.small), linear_small p.2 c.loop-i.i c.loop-i-test.true, row_start_lem (c.loop-i.invariant.0 c.loop-i.total-bits refl).cursor, row_asks (c.loop-i.invariant.0 c.loop-i.total-bits refl).cursor)
+    (omega (arith, p.1), omega (arith, p.2.small), linear_small p.2 c.loop-i.i c.loop-i-test.true, row_start_lem (c.loop-i.invariant.0 c.loop-i.total-bits refl).cursor, row_asks (c.loop-i.invariant.0 c.loop-i.total-bits refl).cursor)
 
 pub put_negated-at-requires : goal.put_negated-at-requires
 put_negated-at-requires c = let p = c.requires in

@@ -1,6 +1,6 @@
 -- `sign_table::sign_matrix::put_row` meets its contract.
 use Rattle.sign_table.proofs.Built.{RowInv}
-use Rattle.tables.specs.Table.{table_of}
+use Rattle.tables.specs.Entries.{listed}
 use Rattle.laws.specs.Lists.{elem_z}
 use lib.ListN.{length}
 use mathlib.Core.Path.{◌≡◌}
@@ -8,8 +8,8 @@ use Prim.Native.Nat.{◌-◌}
 use Rattle.sign_table.proofs.sign_matrix.put_row.Given as goal
 
 abbrev pub invariant-loop-j : goal.invariant-loop-j
-invariant-loop-j l = RowInv l.n (table_of l.count l.rows l.cols l.values) (elem_z l.c) l.i l.len l.k l.at l.j l.initial.to_rows l.initial.to_cols l.initial.to_values l.to_rows l.to_cols l.to_values
+invariant-loop-j l = RowInv l.n (listed l.table) (elem_z l.c) l.i l.len l.k l.at l.from l.initial.to_rows l.initial.to_cols l.initial.to_values l.to_rows l.to_cols l.to_values
     × (length l.to_rows ≡ length l.initial.to_rows) × (length l.to_cols ≡ length l.initial.to_cols) × (length l.to_values ≡ length l.initial.to_values)
 
 abbrev pub decreases-loop-j : goal.decreases-loop-j
-decreases-loop-j l = l.n - l.j
+decreases-loop-j l = l.n - l.from

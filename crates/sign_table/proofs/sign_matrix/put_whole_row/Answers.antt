@@ -4,7 +4,7 @@ use Rattle.sign_table.proofs.Built.{row_asks, room_less, room_on, sum_small, who
 use Rattle.tables.proofs.Writing.{row_length_le}
 use Rattle.sign_table.proofs.Cursor.{row_start_lem}
 use Rattle.sign_table.proofs.Bounds.{linear_small}
-use Rattle.tables.specs.Table.{table_of}
+use Rattle.tables.specs.Entries.{listed}
 use Rattle.sign_table.specs.SignTable.{kept_of}
 use Rattle.laws.specs.Lists.{elem_z}
 use native.Mathlib.Omega.{arith}
@@ -14,12 +14,12 @@ use Rattle.sign_table.proofs.sign_matrix.put_whole_row.Goals as goal
 
 pub row_sum-s-requires : goal.row_sum-s-requires
 row_sum-s-requires c = let p = c.requires in
-    (p.0.rows_there, p.0.values_there, omega (arith, p.1), omega (arith, p.2.small), linear_small p.2 c.args.i p.3, row_start_lem p.4, row_asks p.4)
+    (omega (arith, p.1), omega (arith, p.2.small), linear_small p.2 c.args.i p.3, row_start_lem p.4, row_asks p.4)
 
 pub put_row-at-requires : goal.put_row-at-requires
 put_row-at-requires c = let a = c.args in
     let p = c.requires in
-    (p.0, p.1, p.2, p.3, p.4, room_less p.5 (row_length_le (kept_of a.n (table_of a.count a.rows.now a.cols.now a.values.now) (elem_z a.c.now)) a.i a.n (suc a.n) (omega arith)))
+    (p.0, p.1, p.2, p.3, p.4, room_less p.5 (row_length_le (kept_of a.n (listed a.table) (elem_z a.c.now)) a.i a.n (suc a.n) (omega arith)))
 
 pub put_negated-end-requires : goal.put_negated-end-requires
 put_negated-end-requires c = let p = c.requires in

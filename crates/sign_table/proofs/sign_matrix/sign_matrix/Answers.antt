@@ -1,7 +1,7 @@
 -- `sign_table::sign_matrix::sign_matrix` meets its contract.
 use Rattle.sign_table.proofs.Sizes.{sign_count}
 use Rattle.sign_table.proofs.Built.{all_count, all_wrote, total_back, room_less, room_on}
-use Rattle.tables.specs.Table.{table_of}
+use Rattle.tables.specs.Entries.{listed}
 use Rattle.laws.specs.Lists.{elem_z}
 use native.Mathlib.Omega.{arith}
 use Rattle.sign_table.proofs.sign_matrix.sign_matrix.Goals as goal
@@ -10,29 +10,29 @@ pub put_rows-len-requires : goal.put_rows-len-requires
 put_rows-len-requires c = let a = c.args in
     let lin = elem_z a.c.now in
     let p = c.requires in
-    (p.0, p.1, p.2, room_less (room_less p.3 (sign_count lin p.2.in_range)) (omega (arith, all_count a.n (table_of a.count a.rows.now a.cols.now a.values.now) lin)))
+    (p.0, p.1, p.2, room_less (room_less p.3 (sign_count lin p.2.in_range)) (omega (arith, all_count a.n (listed a.table) lin)))
 
 pub put_last_row-last-requires : goal.put_last_row-last-requires
 put_last_row-last-requires c = let a = c.args in
     let lin = elem_z a.c.now in
     let p = c.requires in
-    (p.0, p.1, p.2, room_on (room_less p.3 (sign_count lin p.2.in_range)) (omega (arith, all_count a.n (table_of a.count a.rows.now a.cols.now a.values.now) lin, c.put_rows-len.ensures.1)) (omega arith) (omega arith) (omega arith))
+    (p.0, p.1, p.2, room_on (room_less p.3 (sign_count lin p.2.in_range)) (omega (arith, all_count a.n (listed a.table) lin, c.put_rows-len.ensures.1)) (omega arith) (omega arith) (omega arith))
 
 pub put-requires : goal.put-requires
 put-requires c = let a = c.args in
     let lin = elem_z a.c.now in
     let p = c.requires in
-    (room_on (room_less p.3 (sign_count lin p.2.in_range)) (omega (arith, all_count a.n (table_of a.count a.rows.now a.cols.now a.values.now) lin, c.put_rows-len.ensures.1, c.put_last_row-last.ensures.1)) (omega arith) (omega arith) (omega arith), omega (arith, p.2.low), omega (arith, p.2.low))
+    (room_on (room_less p.3 (sign_count lin p.2.in_range)) (omega (arith, all_count a.n (listed a.table) lin, c.put_rows-len.ensures.1, c.put_last_row-last.ensures.1)) (omega arith) (omega arith) (omega arith), omega (arith, p.2.low), omega (arith, p.2.low))
 
 pub overflow_add-result : goal.overflow_add-result
 overflow_add-result c = let a = c.args in
     let lin = elem_z a.c.now in
     let p = c.requires in
-    omega (arith, all_count a.n (table_of a.count a.rows.now a.cols.now a.values.now) lin, c.put_rows-len.ensures.1, c.put_last_row-last.ensures.1, (room_less p.3 (sign_count lin p.2.in_range)).rows_room, c.well_formed.1.1.1.1.1.1.0.0)
+    omega (arith, all_count a.n (listed a.table) lin, c.put_rows-len.ensures.1, c.put_last_row-last.ensures.1, (room_less p.3 (sign_count lin p.2.in_range)).rows_room, c.well_formed.1.1.1.0.0)
 
 pub returns : goal.returns
 returns c = let a = c.args in
-    let t = table_of a.count a.rows.now a.cols.now a.values.now in
+    let t = listed a.table in
     let lin = elem_z a.c.now in
     let p = c.requires in
     let first = c.put_rows-len.ensures in

@@ -21,4 +21,4 @@ pub returns-then-r-lt64 : goal.returns-then-r-lt64
 returns-then-r-lt64 c = apart_inside c.args.a c.args.b c.args.from c.if-r-lt64.true
 
 pub returns-else-r-lt64 : goal.returns-else-r-lt64
-returns-else-r-lt64 c = apart_nowhere c.args.a c.args.b c.args.from c.requires (omega arith)
+returns-else-r-lt64 c = apart_nowhere c.args.a c.args.b c.args.from (omega arith)

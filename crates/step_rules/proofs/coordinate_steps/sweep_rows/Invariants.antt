@@ -6,7 +6,7 @@ use Rattle.step_rules.specs.Steps.{coord_to}
 use Rattle.step_rules.proofs.coordinate_steps.sweep_rows.Given as goal
 
 abbrev pub invariant-loop-i : goal.invariant-loop-i
-invariant-loop-i l = (l.i ≤ l.m) × (l.factor ≡ coord_to l.cols l.values l.starts (length l.initial.g) l.alpha l.initial.factor l.i) × (length l.factor ≡ length l.initial.factor) × (length l.g ≡ length l.initial.g)
+invariant-loop-i l = (l.i ≤ l.m) × (l.factor ≡ coord_to l.table.cols.now l.table.values.now l.table.starts.now (length l.initial.g) l.alpha l.initial.factor l.i) × (length l.factor ≡ length l.initial.factor) × (length l.g ≡ length l.initial.g)
 
 abbrev pub decreases-loop-i : goal.decreases-loop-i
 decreases-loop-i l = l.m - l.i

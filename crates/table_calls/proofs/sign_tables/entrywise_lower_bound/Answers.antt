@@ -1,7 +1,11 @@
 -- `table_calls::sign_tables::entrywise_lower_bound` meets its contract.
 use Rattle.std.specs.Prelude.{Ok}
-use mathlib.Core.Path.{refl, sym, ◌∙◌, ap}
+use mathlib.Core.Path.{refl, sym, ◌∙◌, ap, subst}
+use Prim.Native.Nat.{◌≤◌}
 use native.Mathlib.Omega.{arith}
+use Rattle.limits.specs.Limits.{most_sign_magnitude}
+use Rattle.tables.specs.Table.{Table, magnitude_of}
+use Rattle.tables.specs.Bound.{entrywise}
 use Rattle.tables.proofs.Checks.{table_lent}
 use Rattle.refusal.proofs.Passed.{passed, some_number}
 use Rattle.refusal.specs.Number.{in_numbers}
@@ -11,17 +15,11 @@ use Rattle.table_calls.proofs.sign_tables.entrywise_lower_bound.Goals as goal
 pub checked_table-requires : goal.checked_table-requires
 checked_table-requires c = λ e h. table_lent (sym c.short_table-short.ensures ∙ e) h
 
-pub returns-in_err-checked_table : goal.returns-in_err-checked_table
-returns-in_err-checked_table c = let a = c.args in
-    ap in_numbers (passed c.from_residual.ensures.1) ∙ refused_is _ _ _ (floor_numbered a.m a.count a.rows.now a.cols.now a.values.now c.short_table-short.ensures c.in_err-checked_table.ensures) (some_number _)
-
-pub invariant_of-table : goal.invariant_of-table
-invariant_of-table c = let a = c.args in
-    let (lent, ok) = floor_accepted a.m a.count a.rows.now a.cols.now a.values.now (sym (floor_numbered a.m a.count a.rows.now a.cols.now a.values.now c.short_table-short.ensures c.in_ok-checked_table.ensures)) in record { lent = lent }
+pub returns-in_err-entries : goal.returns-in_err-entries
+returns-in_err-entries c = ap in_numbers (passed c.from_residual.ensures.1) ∙ refused_is _ _ _ (floor_numbered _ _ _ _ _ c.short_table-short.ensures c.in_err-entries.ensures.number) (some_number _)
 
 pub entrywise_lower_bound-requires : goal.entrywise_lower_bound-requires
-entrywise_lower_bound-requires c = let a = c.args in
-    let (lent, ok) = floor_accepted a.m a.count a.rows.now a.cols.now a.values.now (sym (floor_numbered a.m a.count a.rows.now a.cols.now a.values.now c.short_table-short.ensures c.in_ok-checked_table.ensures)) in (ok.magnitude, omega (arith, ok.entries))
+entrywise_lower_bound-requires c = let (lent, ok) = floor_accepted _ _ _ _ _ (sym (floor_numbered _ _ _ _ _ c.short_table-short.ensures c.in_ok-entries.ensures.number)) in (subst (λ (t : Table). magnitude_of t ≤ most_sign_magnitude) (sym c.in_ok-entries.ensures.entries) ok.magnitude, omega (arith, ok.entries, ap (λ (t : Table). t.count) c.in_ok-entries.ensures.entries))
 
 pub returns : goal.returns
-returns c = let a = c.args in ap Ok c.entrywise_lower_bound.ensures ∙ accepted_is _ _ _ (floor_numbered a.m a.count a.rows.now a.cols.now a.values.now c.short_table-short.ensures c.in_ok-checked_table.ensures) refl
+returns c = ap Ok (c.entrywise_lower_bound.ensures ∙ ap entrywise c.in_ok-entries.ensures.entries) ∙ accepted_is _ _ _ (floor_numbered _ _ _ _ _ c.short_table-short.ensures c.in_ok-entries.ensures.number) refl

@@ -1,22 +1,15 @@
 -- `tables::check::bad_order` meets its contract.
-use mathlib.Core.Path.{refl, sym, ◌∙◌}
+use mathlib.Core.Path.{refl}
 use native.Mathlib.Omega.{arith}
-use Rattle.laws.specs.Lists.{any_below}
-use Rattle.laws.proofs.Any.{below_at, below_passed, below_ended}
-use Rattle.tables.specs.Check.{bad_order}
+use Rattle.std.proofs.Common.{◌∙◌, rules, tests}
+use Rattle.std.proofs.lemmas.Iterator.{YieldsList-from_range}
+use Rattle.std.proofs.lemmas.Iterator.Search.{any_from_yields_List}
+use Rattle.laws.specs.Lists.{elem}
+use Rattle.tables.specs.Check.{bad_entry, bad_order}
+use Rattle.tables.proofs.Anys.{any_ranged}
 use Rattle.tables.proofs.check.bad_order.Goals as goal
-
-pub loop-k-init : goal.loop-k-init
-unfolding any_below
-loop-k-init c = (omega arith, refl)
-
-pub returns-then-bad_entry : goal.returns-then-bad_entry
-unfolding bad_order
-returns-then-bad_entry c = sym (below_at _ _ _ c.loop-k-test.true (sym c.bad_entry.ensures ∙ c.if-bad_entry.true))
-
-pub loop-k-preserved : goal.loop-k-preserved
-loop-k-preserved c = (omega arith, below_passed _ _ c.loop-k.invariant.1 (sym c.bad_entry.ensures ∙ c.if-bad_entry.false))
 
 pub returns : goal.returns
 unfolding bad_order
-returns c = below_ended _ _ _ c.loop-k.invariant.1 c.loop-k.invariant.0 c.loop-k-test.false
+returns c = let a = c.args in let bad = bad_entry a.size (elem a.rows.now) (elem a.cols.now) in
+    any_from_yields_List bad _ _ _ c.any.ensures.ran (YieldsList-from_range 0 a.count a.count refl (omega arith)) (λ x b q k. search (rules, tests)) ∙ any_ranged bad a.count

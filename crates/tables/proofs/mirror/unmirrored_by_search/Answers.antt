@@ -1,22 +1,18 @@
 -- `tables::mirror::unmirrored_by_search` meets its contract.
-use mathlib.Core.Path.{refl, sym}
+use mathlib.Core.Path.{refl}
 use native.Mathlib.Omega.{arith}
+use Prim.Native.Nat.{ℕ}
+use mathlib.Core.Bool.{not}
+use Rattle.std.proofs.Common.{◌∙◌, rules, tests}
+use Rattle.std.proofs.lemmas.Iterator.{YieldsList-from_range}
+use Rattle.std.proofs.lemmas.Iterator.Search.{any_from_yields_List}
 use Rattle.laws.specs.Lists.{any_below}
-use Rattle.laws.proofs.Any.{below_at, below_passed, below_ended}
-use Rattle.tables.specs.Check.{unmirrored}
+use Rattle.tables.specs.Check.{is_mirror, unmirrored}
+use Rattle.tables.specs.Entries.{listed}
+use Rattle.tables.proofs.Anys.{any_ranged}
 use Rattle.tables.proofs.mirror.unmirrored_by_search.Goals as goal
-
-pub loop-k-init : goal.loop-k-init
-unfolding any_below
-loop-k-init c = (omega arith, refl)
-
-pub returns-then-not-has_mirror : goal.returns-then-not-has_mirror
-unfolding unmirrored
-returns-then-not-has_mirror c = sym (below_at _ _ _ c.loop-k-test.true (simp (← c.has_mirror.ensures, c.if-not-has_mirror.true)))
-
-pub loop-k-preserved : goal.loop-k-preserved
-loop-k-preserved c = (omega arith, below_passed _ _ c.loop-k.invariant.1 (simp (← c.has_mirror.ensures, c.if-not-has_mirror.false)))
 
 pub returns : goal.returns
 unfolding unmirrored
-returns c = below_ended _ _ _ c.loop-k.invariant.1 c.loop-k.invariant.0 c.loop-k-test.false
+returns c = let t = listed c.args.table in let alone = λ (k : ℕ). not (any_below t.count (is_mirror t k)) in
+    any_from_yields_List alone _ _ _ c.any.ensures.ran (YieldsList-from_range 0 t.count t.count refl (omega arith)) (λ x b q k. search (rules, tests)) ∙ any_ranged alone t.count

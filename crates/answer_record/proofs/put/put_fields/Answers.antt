@@ -1,0 +1,33 @@
+use mathlib.Core.Path.{◌≡◌, refl, sym, ap, ◌∙◌}
+use native.Mathlib.Omega.{arith}
+use native.Mathlib.Nat.{zero-add}
+use lib.ListN.{length, length-append, take}
+use lib.Seq.{take-length}
+use Rattle.job_reader.proofs.Encode.{length_bytes_of}
+use Rattle.answer_record.specs.Put.{put, bytes_in}
+use Rattle.answer_record.proofs.Written.{put_next, fields_next, fields_within}
+use Rattle.answer_record.proofs.put.put_fields.Goals as goal
+
+pub loop-width-init : goal.loop-width-init
+unfolding put
+loop-width-init c = (omega arith, refl, refl, refl)
+
+pub put_number-requires : goal.put_number-requires
+put_number-requires c = omega (arith, fields_within c.args.fields.now c.loop-width.width-index c.loop-width-test.true)
+
+pub overflow_add-at : goal.overflow_add-at
+overflow_add-at c = omega (arith, fields_within c.args.fields.now c.loop-width.width-index c.loop-width-test.true)
+
+pub loop-width-preserved : goal.loop-width-preserved
+loop-width-preserved c = let l = c.loop-width in
+    let next = fields_next c.args.fields.now l.width-index c.loop-width-test.true in (
+      omega arith,
+      rw next (put_next c.args.out.now 0 l.at _ _ l.invariant.1 c.put_number.ensures (omega arith) (zero-add _ ∙ sym l.invariant.2)),
+      rw next (simp (length-append, length_bytes_of) (omega arith)),
+      omega arith,
+    )
+
+pub returns : goal.returns
+returns c = let a = c.args in let l = c.loop-width in
+    let all : take l.width-index a.fields.now ≡ a.fields.now = let e : l.width-index ≡ length a.fields.now = omega arith in rw (e, take-length a.fields.now) in
+    l.invariant.1 ∙ ap (λ (fs : _). put a.out.now 0 (bytes_in fs)) all

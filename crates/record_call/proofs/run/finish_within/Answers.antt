@@ -1,0 +1,5 @@
+use native.Mathlib.Omega.{arith}
+use Rattle.record_call.proofs.run.finish_within.Goals as goal
+
+pub finish_reduced-requires : goal.finish_reduced-requires
+finish_reduced-requires g c = (c.requires.0, c.requires.1, c.requires.2, record { rows_room = omega (arith, c.requires.3); cols_room = omega (arith, c.requires.3); values_room = omega (arith, c.requires.3) }, omega arith)
