@@ -1,4 +1,5 @@
 // The answer record, and a refusal.
+// An answer's status is the record's number (01) and may be any byte: an enum would ask more of the caller.
 ghost use Rattle.std.specs.Prelude.{◌≡◌, ◌+◌, ◌≤◌, length};
 ghost use Rattle.laws.specs.Lists.{over};
 ghost use Rattle.answer_record.specs.Answer.{answer_bytes, refusal_bytes};

@@ -4,7 +4,7 @@ ghost use Rattle.job_reader.specs.Encode.{bytes_of};
 ghost use Rattle.answer_record.specs.Put.{put, bytes_in};
 
 // The low `width` bytes of `value` from `at` on, big-endian. Indexed: `to_be_bytes` has eight bytes, and a width above 8 is allowed here; under `iter_mut` and
-// `rev` the loop's invariant can't name `out`.
+// `rev` the loop's invariant can't name `out`. A remainder by 256 fits the `as u8`.
 pub fn put_number(out: &mut [u8], at: usize, width: usize, value: u64)
     requires { at + width ≤ length out.old }
     ensures { out.new ≡ put out.old at (bytes_of width value) }

@@ -20,6 +20,7 @@ use Rattle.laws.specs.Turns.{up_to}
 use Rattle.laws.specs.Lists.{elem, tabulate, over}
 use Rattle.laws.proofs.Made.{below_or_not, tabulate_get_d, length_tabulate, over_all}
 use Rattle.laws.proofs.Any.{never}
+use Rattle.laws.proofs.Totals.{total_front}
 use Rattle.laws.proofs.UpTo.{up_to_next}
 use Rattle.laws.proofs.Integer.{integers, add_parts, neg-⁺, neg-⁻}
 use Rattle.tables.specs.Table.{Table}
@@ -43,11 +44,6 @@ block_ends f k (suc n) h = go (below_or_not k n) (λ l. block_ends f k n l)
     go : (k < n) ⊎ (n ≤ k) → (k < n → total k f + f k ≤ total n f) → total k f + f k ≤ total n f + f n
     go (inl l) ih = omega (arith, ih l)
     go (inr l) ih = let e : k ≡ n = omega arith in rw e (le_refl _)
-
-total_front : (n : ℕ) (f : ℕ → ℕ) → total (suc n) f ≡ f 0 + total n (λ k. f (suc k))
-unfolding total
-total_front zero f = omega arith
-total_front (suc n) f = omega (arith, total_front n f)
 
 -- all sizes in one sum
 pub sizes_summed : (sizes : List ℕ) → sum_by (λ x. x) sizes ≡ total (length sizes) (elem sizes)

@@ -1,6 +1,6 @@
 // The first choice, the blocks in turn, and then the house.
+// Arrays have a fixed size: no heap, a rule of the project (limits/src/lib.rt).
 ghost use Rattle.std.specs.Prelude.{◌≡◌, cond, ◌<◌, ◌≤◌, length};
-ghost use Rattle.laws.specs.Sum.{total};
 ghost use Rattle.laws.specs.Lists.{elem, elem_z, over, tabulate};
 ghost use Rattle.limits.specs.Limits.{most_blocks};
 ghost use Rattle.tables.specs.Entries.{listed};
@@ -8,12 +8,15 @@ ghost use Rattle.block_search.specs.Blocks.{named, held, block_moves, searched_f
 ghost use Rattle.block_search.specs.Call.{call_of};
 ghost use Rattle.block_search.specs.Clauses.{HouseFits, PinsFit, ClearFits, moved_by};
 
-use crate::lent::{Blocks, Pins, Request};
+use crate::lent::{Pins, Request, WholeBlocks};
 use crate::search::search_held;
 use limits::MOST_WAGONS;
 use pinned::lift::copy_states;
 use reduced::at_indices::put_each;
 use tables::judged::JudgedHall;
+
+// The state of a wagon that moves. `pinned` takes any byte above 1 for one and has no name for it, and no edge leads to `job_record`, which has FREE for its own.
+const FREE: u8 = 2;
 
 // Whether a list names wagon i.
 fn names(list: &[u16], i: usize) -> bool
@@ -22,55 +25,63 @@ fn names(list: &[u16], i: usize) -> bool
     list.iter().any(|wagon| usize::from(*wagon) == i)
 }
 
-// Whether wagon i is free: the block names it, or there is none and the whole house is searched, and it isn't pinned.
-fn is_free(pinned: &[u16], block: Option<&[u16]>, i: usize) -> bool
-    ensures { result ≡ moved_by pinned.now block.entry i }
-{
-    if names(pinned, i) {
-        return false;
+// Whom a search moves: the wagons that the block names, or, where there is none and the whole house is searched, all; but no pinned one.
+#[derive(Clone, Copy)]
+struct Moving<'a> {
+    pinned: &'a [u16],
+    block: Option<&'a [u16]>,
+}
+
+impl<'a> Moving<'a> {
+    // Whether wagon i is free.
+    fn is_free(self, i: usize) -> bool
+        ensures { result ≡ moved_by self.entry.pinned.now self.entry.block i }
+    {
+        if names(self.pinned, i) {
+            return false;
+        }
+        match self.block {
+            Some(list) => names(list, i),
+            None => true,
+        }
     }
-    match block {
-        Some(list) => names(list, i),
-        None => true,
+
+    // The state of wagon i: FREE, else its byte of b.
+    fn state_of(self, b: &[u8], i: usize) -> u8
+        requires { i < length b.now }
+        ensures { result ≡ cond (moved_by self.entry.pinned.now self.entry.block i) 2 (elem b.now i) }
+    {
+        if self.is_free(i) {
+            return FREE;
+        }
+        b[i]
+    }
+
+    // The states of n wagons.
+    fn hold(self, n: usize, b: &[u8], states: &mut [u8])
+        requires { (n ≤ length b.now) × (n ≤ length states.old) }
+        ensures { states.new ≡ over (held n (moved_by self.entry.pinned.now self.entry.block) b.now) states.old }
+    {
+        for i in 0..n {
+            states[i] = self.state_of(b, i);
+        }
     }
 }
 
-// The state of wagon i: 2 where it is free, else its byte of b.
-fn state_of(pinned: &[u16], block: Option<&[u16]>, b: &[u8], i: usize) -> u8
-    requires { i < length b.now }
-    ensures { result ≡ cond (moved_by pinned.now block.entry i) 2 (elem b.now i) }
-{
-    if is_free(pinned, block, i) {
-        return 2;
-    }
-    b[i]
-}
-
-// The states of n wagons.
-fn hold(n: usize, pinned: &[u16], block: Option<&[u16]>, b: &[u8], states: &mut [u8])
-    requires { (n ≤ length b.now) × (n ≤ length states.old) }
-    ensures { states.new ≡ over (held n (moved_by pinned.now block.entry) b.now) states.old }
-{
-    for i in 0..n {
-        states[i] = state_of(pinned, block, b, i);
-    }
-}
-
-// The wagons of a block, or all, but no pinned one, searched from b, which takes the choice found. The fall in eighths.
+// The wagons that move searched from b, which takes the choice found. The fall in eighths.
 fn search_moving(
     hall: JudgedHall,
-    pinned: &[u16],
-    block: Option<&[u16]>,
+    moving: Moving,
     width: usize,
     b: &mut [u8],
     workspace: &mut [u64],
 ) -> i64
     requires { HouseFits hall.n width b.old (length workspace.old) }
-    ensures { let h = hall.entry in let moves = moved_by pinned.now block.entry in (result ≡ fall_from h.n (listed h.table) (elem_z h.c.now) width moves b.old)
+    ensures { let h = hall.entry in let moves = moved_by moving.entry.pinned.now moving.entry.block in (result ≡ fall_from h.n (listed h.table) (elem_z h.c.now) width moves b.old)
         × (b.new ≡ searched_from h.n (listed h.table) (elem_z h.c.now) width moves b.old) }
 {
     let mut states = [0u8; MOST_WAGONS];
-    hold(hall.n, pinned, block, b, &mut states);
+    moving.hold(hall.n, b, &mut states);
     search_held(hall, &states[..hall.n], width, b, workspace)
 }
 
@@ -78,22 +89,26 @@ fn search_moving(
 fn search_blocks(
     hall: JudgedHall,
     pinned: &[u16],
-    blocks: Blocks,
+    blocks: WholeBlocks,
     width: usize,
     b: &mut [u8],
     falls: &mut [i64],
     workspace: &mut [u64],
 )
     requires house_fits { HouseFits hall.n width b.old (length workspace.old) }
-    requires sizes_in_bounds { (total (length blocks.sizes.now) (elem blocks.sizes.now) ≤ length blocks.wagons.now) × (length blocks.sizes.now ≤ length falls.old) × (length blocks.sizes.now ≤ most_blocks) }
-    ensures { let h = hall.entry in let moves = block_moves pinned.now blocks.entry.sizes.now blocks.entry.wagons.now in
-        (b.new ≡ choice_from h.n (listed h.table) (elem_z h.c.now) width moves b.old (length blocks.entry.sizes.now))
-        × (falls.new ≡ over (tabulate (block_fall h.n (listed h.table) (elem_z h.c.now) width moves b.old) (length blocks.entry.sizes.now)) falls.old) }
+    requires sizes_in_bounds { (length blocks.lent.sizes.now ≤ length falls.old) × (length blocks.lent.sizes.now ≤ most_blocks) }
+    ensures { let h = hall.entry in let moves = block_moves pinned.now blocks.entry.lent.sizes.now blocks.entry.lent.wagons.now in
+        (b.new ≡ choice_from h.n (listed h.table) (elem_z h.c.now) width moves b.old (length blocks.entry.lent.sizes.now))
+        × (falls.new ≡ over (tabulate (block_fall h.n (listed h.table) (elem_z h.c.now) width moves b.old) (length blocks.entry.lent.sizes.now)) falls.old) }
 {
     let mut at = 0;
-    for k in 0..blocks.sizes.len() {
+    for k in 0..blocks.lent.sizes.len() {
         let block = blocks.block(k, at);
-        falls[k] = search_moving(hall, pinned, Some(block), width, b, workspace);
+        let moving = Moving {
+            pinned,
+            block: Some(block),
+        };
+        falls[k] = search_moving(hall, moving, width, b, workspace);
         at += block.len();
     }
 }
@@ -124,6 +139,13 @@ pub fn clear_house(
     let pinned = request.pins.wagons;
     let width = request.width;
     first_choice(hall.n, request.pins, request.present, b);
-    search_blocks(hall, pinned, request.blocks, width, b, falls, workspace);
-    search_moving(hall, pinned, None, width, b, workspace);
+    let blocks = WholeBlocks {
+        lent: request.blocks,
+    };
+    search_blocks(hall, pinned, blocks, width, b, falls, workspace);
+    let moving = Moving {
+        pinned,
+        block: None,
+    };
+    search_moving(hall, moving, width, b, workspace);
 }

@@ -7,7 +7,7 @@ ghost use Rattle.limits.specs.Limits.{most_wagons, most_blocks};
 ghost use Rattle.tables.specs.Lent.{costs_of};
 ghost use Rattle.block_search.specs.Numbers.{above_one, bad_list, bad_pins, bad_block, bad_blocks, bad_width, list_number, choices_short, blocks_short, lists_short, call_short, block_number};
 
-use crate::lent::{Blocks, Pins, Request};
+use crate::lent::{Blocks, Pins, Request, WholeBlocks};
 use limits::{MOST_BLOCKS, MOST_ENTRIES, MOST_WAGONS, MOST_WIDTH, SEARCH_WORKSPACE};
 use reduced::indices::{Indices, index_refusal};
 use refusal::Refusal;
@@ -23,53 +23,6 @@ pub fn any_above(count: usize, bytes: &[u8]) -> bool
     bytes[..count].iter().any(|byte| 1 < *byte)
 }
 
-// Whether a wagon of the list is out of range or named twice.
-fn bad_list(n: usize, list: &[u16]) -> bool
-    requires { n ≤ most_wagons }
-    ensures { result ≡ bad_list n list.now }
-{
-    let indices = Indices {
-        size: n,
-        variable_map: list,
-        fixed_index: list,
-    };
-    index_refusal(indices).is_err()
-}
-
-// 21.
-#[tactic(auto, unfolding(crate::specs::Numbers::bad_pins, laws::specs::Refusal::any_of))]
-fn bad_pins(n: usize, pins: Pins) -> bool
-    requires { (n ≤ most_wagons) × (length pins.wagons.now ≤ length pins.stores.now) }
-    ensures { result ≡ bad_pins n pins.entry.wagons.now pins.entry.stores.now }
-{
-    bad_list(n, pins.wagons) || any_above(pins.wagons.len(), pins.stores)
-}
-
-// Whether a block has a wagon out of range or twice.
-fn bad_block(n: usize, blocks: Blocks) -> bool
-    requires { (n ≤ most_wagons) × (total (length blocks.sizes.now) (elem blocks.sizes.now) ≤ length blocks.wagons.now) }
-    ensures { result ≡ bad_block n blocks.entry.sizes.now blocks.entry.wagons.now }
-{
-    let mut at = 0;
-    for k in 0..blocks.sizes.len() {
-        let block = blocks.block(k, at);
-        if bad_list(n, block) {
-            return true;
-        }
-        at += block.len();
-    }
-    false
-}
-
-// 22.
-#[tactic(auto, unfolding(crate::specs::Numbers::bad_blocks, laws::specs::Refusal::any_of))]
-fn bad_blocks(n: usize, present: &[u8], blocks: Blocks) -> bool
-    requires { (n ≤ most_wagons) × (n ≤ length present.now) × (length blocks.sizes.now ≤ most_blocks → total (length blocks.sizes.now) (elem blocks.sizes.now) ≤ length blocks.wagons.now) }
-    ensures { result ≡ bad_blocks n present.now blocks.entry.sizes.now blocks.entry.wagons.now }
-{
-    any_above(n, present) || MOST_BLOCKS < blocks.sizes.len() || bad_block(n, blocks)
-}
-
 // 19.
 #[tactic(auto, unfolding(crate::specs::Numbers::bad_width, laws::specs::Refusal::any_of))]
 pub fn bad_width(width: usize) -> bool
@@ -78,24 +31,82 @@ pub fn bad_width(width: usize) -> bool
     width < 1 || MOST_WIDTH < width
 }
 
-// 21, 22, 19.
-#[tactic(auto, unfolding(crate::specs::Numbers::list_number, laws::specs::Refusal::first, laws::specs::Refusal::or_else))]
-fn list_number(n: usize, request: Request) -> Result<(), Refusal>
-    requires { let q = request in (n ≤ most_wagons) × (length q.pins.wagons.now ≤ length q.pins.stores.now) × (n ≤ length q.present.now)
-        × (length q.blocks.sizes.now ≤ most_blocks → total (length q.blocks.sizes.now) (elem q.blocks.sizes.now) ≤ length q.blocks.wagons.now) }
-    ensures { let q = request.entry in numbered result ≡ list_number n q.pins.wagons.now q.pins.stores.now q.present.now
-        q.blocks.sizes.now q.blocks.wagons.now q.width }
-{
-    if bad_pins(n, request.pins) {
-        return Err(Refusal::Pin);
+// A request for n wagons, no more than 13 takes, whose slices are as long as 31 asks. Of the blocks it holds only where 22 takes so many.
+#[derive(Clone, Copy)]
+struct LongRequest<'a> {
+    n: usize,
+    lent: Request<'a>,
+    ghost wagons_few: { n ≤ most_wagons },
+    ghost stores_there: { length lent.pins.wagons.now ≤ length lent.pins.stores.now },
+    ghost present_there: { n ≤ length lent.present.now },
+    ghost wagons_there: { length lent.blocks.sizes.now ≤ most_blocks → total (length lent.blocks.sizes.now) (elem lent.blocks.sizes.now) ≤ length lent.blocks.wagons.now },
+}
+
+impl<'a> LongRequest<'a> {
+    // Whether a wagon of the list is out of range or named twice.
+    fn bad_list(self, list: &[u16]) -> bool
+        ensures { result ≡ bad_list self.entry.n list.now }
+    {
+        let indices = Indices {
+            size: self.n,
+            variable_map: list,
+            fixed_index: list,
+        };
+        index_refusal(indices).is_err()
     }
-    if bad_blocks(n, request.present, request.blocks) {
-        return Err(Refusal::Block);
+
+    // 21.
+    #[tactic(auto, unfolding(crate::specs::Numbers::bad_pins, laws::specs::Refusal::any_of))]
+    fn bad_pins(self) -> bool
+        ensures { let q = self.entry.lent in result ≡ bad_pins self.entry.n q.pins.wagons.now q.pins.stores.now }
+    {
+        let pins = self.lent.pins;
+        self.bad_list(pins.wagons) || any_above(pins.wagons.len(), pins.stores)
     }
-    if bad_width(request.width) {
-        return Err(Refusal::Search);
+
+    // Whether a block has a wagon out of range or twice.
+    fn bad_block(self, blocks: WholeBlocks) -> bool
+        ensures { result ≡ bad_block self.entry.n blocks.entry.lent.sizes.now blocks.entry.lent.wagons.now }
+    {
+        let mut at = 0;
+        for k in 0..blocks.lent.sizes.len() {
+            let block = blocks.block(k, at);
+            if self.bad_list(block) {
+                return true;
+            }
+            at += block.len();
+        }
+        false
     }
-    Ok(())
+
+    // 22.
+    #[tactic(auto, unfolding(crate::specs::Numbers::bad_blocks, laws::specs::Refusal::any_of))]
+    fn bad_blocks(self) -> bool
+        ensures { let q = self.entry.lent in result ≡ bad_blocks self.entry.n q.present.now q.blocks.sizes.now q.blocks.wagons.now }
+    {
+        let lent = self.lent.blocks;
+        any_above(self.n, self.lent.present)
+            || MOST_BLOCKS < lent.sizes.len()
+            || self.bad_block(WholeBlocks { lent })
+    }
+
+    // 21, 22, 19.
+    #[tactic(auto, unfolding(crate::specs::Numbers::list_number, laws::specs::Refusal::first, laws::specs::Refusal::or_else))]
+    fn list_number(self) -> Result<(), Refusal>
+        ensures { let q = self.entry.lent in numbered result ≡ list_number self.entry.n q.pins.wagons.now q.pins.stores.now q.present.now
+            q.blocks.sizes.now q.blocks.wagons.now q.width }
+    {
+        if self.bad_pins() {
+            return Err(Refusal::Pin);
+        }
+        if self.bad_blocks() {
+            return Err(Refusal::Block);
+        }
+        if bad_width(self.lent.width) {
+            return Err(Refusal::Search);
+        }
+        Ok(())
+    }
 }
 
 // 31 of c, the present choice and the choice, by their lengths.
@@ -168,5 +179,9 @@ pub fn block_number(
         return Err(Refusal::Slice);
     }
     hall_number(hall)?;
-    list_number(hall.table.size, request)
+    let long = LongRequest {
+        n: hall.table.size,
+        lent: request,
+    };
+    long.list_number()
 }

@@ -1,6 +1,4 @@
-// What a call is lent beside (H, c): slices whose lengths may be any.
-// None of these holds a fact of its lengths: each is made of what is lent, before 31 is judged of it. A second struct for each, once judged, would be made
-// by copying the first, and the clauses that speak of the lengths would be its fields: no plainer.
+// What a call is lent beside (H, c): slices whose lengths may be any, and the blocks once 31 is judged of them.
 ghost use Rattle.std.specs.Prelude.{◌≡◌, ◌<◌, ◌≤◌, length};
 ghost use Rattle.laws.specs.Sum.{total};
 ghost use Rattle.laws.specs.Lists.{elem};
@@ -20,15 +18,22 @@ pub struct Blocks<'a> {
     pub wagons: &'a [u16],
 }
 
-impl<'a> Blocks<'a> {
+// Blocks that name no more wagons than are lent.
+#[derive(Clone, Copy)]
+pub(crate) struct WholeBlocks<'a> {
+    pub(crate) lent: Blocks<'a>,
+    ghost wagons_there: { total (length lent.sizes.now) (elem lent.sizes.now) ≤ length lent.wagons.now },
+}
+
+impl<'a> WholeBlocks<'a> {
     // The wagons of block k, the first of which stands at `at`.
     pub(crate) fn block(self, k: usize, at: usize) -> &'a [u16]
-        requires { (k < length self.sizes.now) × (at ≡ total k (elem self.sizes.now)) × (total (length self.sizes.now) (elem self.sizes.now) ≤ length self.wagons.now) }
-        ensures wagons { result.now ≡ block_of self.entry.sizes.now self.entry.wagons.now k }
-        ensures many { length result.now ≡ elem self.entry.sizes.now k }
+        requires { (k < length self.lent.sizes.now) × (at ≡ total k (elem self.lent.sizes.now)) }
+        ensures wagons { result.now ≡ block_of self.entry.lent.sizes.now self.entry.lent.wagons.now k }
+        ensures many { length result.now ≡ elem self.entry.lent.sizes.now k }
     {
-        let end = at + usize::from(self.sizes[k]);
-        &self.wagons[at..end]
+        let end = at + usize::from(self.lent.sizes[k]);
+        &self.lent.wagons[at..end]
     }
 }
 

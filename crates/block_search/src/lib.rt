@@ -34,7 +34,7 @@ pub fn block_search(
         choice.new falls.new workspace.new (numbered result) }
 {
     block_number(hall, request, choice.len(), falls.len(), workspace.len())?;
-    // No `judged_hall`, which tells the table in the slices: here clauses tell of the slices themselves. (Tried: `returns` then has no equation for them.)
+    // No `judged_hall`, which says what table it is: the clauses here speak of its slices. (Tried: `returns` then has no equation for them.)
     let table = Entries {
         count: hall.table.count,
         rows: hall.table.rows,

@@ -1,8 +1,8 @@
 // One search: the wagons of state 2 from a choice, all others held in their stores.
+// Arrays have a fixed size: no heap, a rule of the project (limits/src/lib.rt).
 ghost use Rattle.std.specs.Prelude.{◌≡◌, suc, ◌≤◌, length, ◌-ℤ◌};
 ghost use Rattle.laws.specs.Lists.{elem_z, over};
-ghost use Rattle.limits.specs.Limits.{most_signs, most_sign_entries, most_sign_magnitude, most_width, search_workspace};
-ghost use Rattle.tables.specs.Check.{Accepted};
+ghost use Rattle.limits.specs.Limits.{most_width, search_workspace};
 ghost use Rattle.reduced.specs.Indices.{Within};
 ghost use Rattle.sign_table.specs.SignTable.{sign_table};
 ghost use Rattle.sign_search.specs.Search.{objective_in, beam_search};
@@ -31,31 +31,7 @@ fn start_signs(free: &[u16], b: &[u8], signs: &mut [u8])
     signs[free.len()] = 0;
 }
 
-// The search on a sign table of f + 1 signs, from the free wagons of b; `found` takes what the answer decodes to. The fall in eighths. That the table is
-// accepted is asked here alone, for the reason at `search_from` of limited_search.
-fn search_from(
-    f: usize,
-    table: Entries,
-    width: usize,
-    free: &[u16],
-    b: &[u8],
-    signs: &mut [u8],
-    found: &mut [u8],
-    workspace: &mut [u64],
-) -> i64
-    requires accepted { Accepted most_signs most_sign_entries most_sign_magnitude (suc f) (listed table) }
-    requires search_fits { SearchFits f width free.now b.now (length found.old) (length workspace.old) × (length signs.old ≡ suc f) }
-    ensures { let t = listed table.entry in let start = start_signs free.now b.now in let answer = (beam_search t width start).answer in
-        (result ≡ objective_in t start -ℤ objective_in t answer) × (found.new ≡ over (choice_of f answer) found.old) }
-{
-    start_signs(free, b, signs);
-    let start = obj_rounded(table, signs);
-    let searched = search_signs(table, width, signs, workspace);
-    qubo_binary_from_sign_solution(f, signs, found);
-    start - searched.least
-}
-
-// The same on (H, c) of f wagons, whose sign table is made.
+// The search on the sign table of (H, c), which is made, from the free wagons of b; `found` takes what the answer decodes to. The fall in eighths.
 fn search_reduced(
     hall: JudgedHall,
     width: usize,
@@ -70,18 +46,15 @@ fn search_reduced(
 {
     let mut sign_table = SignTable::new();
     sign_table.make(hall);
+    let table = sign_table.entries();
     let mut signs = [0u8; MOST_SIGNS];
     let m = hall.n + 1;
-    search_from(
-        hall.n,
-        sign_table.entries(),
-        width,
-        free,
-        b,
-        &mut signs[..m],
-        found,
-        workspace,
-    )
+    let signs = &mut signs[..m];
+    start_signs(free, b, signs);
+    let start = obj_rounded(table, signs);
+    let searched = search_signs(table, width, signs, workspace);
+    qubo_binary_from_sign_solution(hall.n, signs, found);
+    start - searched.least
 }
 
 // The free wagons searched from b, all others held; b takes the choice found. The fall in eighths.
@@ -96,6 +69,8 @@ pub fn search_held(
     ensures { let h = hall.entry in (result ≡ fall_held h.n (listed h.table) (elem_z h.c.now) width states.now b.old)
         × (b.new ≡ searched_held h.n (listed h.table) (elem_z h.c.now) width states.now b.old) }
 {
+    // No struct that owns these arrays, as `SignTable` does its own: this function alone would hold one, and what makes it and what reads it would say the clauses
+    // of `reduce` again, of fields instead of slices. `record_call`, which reduces too, has shorter arrays for a table of few entries.
     let mut free = [0u16; MOST_WAGONS];
     let mut to_rows = [0u16; MOST_ENTRIES];
     let mut to_cols = [0u16; MOST_ENTRIES];

@@ -10,7 +10,7 @@ ghost use Rattle.factor.specs.Norms.{squared_norm};
 ghost use Rattle.factor.specs.Shapes.{RowFits, Shaped};
 ghost use Rattle.coordinate_sweep.specs.Sweep.{exact_row, momentum_row, normalized, wrote, update_row, gradient_at, row_to, swept_row, meets_next, SweepsOn, sweep_to, norm_at, stands, standing_to, StandsOn};
 
-use factor::rows::{clear, scale, update_with};
+use factor::rows::{at_row, clear, scale, update_with};
 use factor::sums::squared_norm;
 use factor::table::Prepared;
 use pairs::{next_apart, renew_pair};
@@ -24,8 +24,7 @@ struct Went {
     left: usize,
 }
 
-// Whether a row whose gradient has this norm is written. `update_row` answers so too; who counts rows asks here, and the compiler then leaves that
-// answer out of the update.
+// Whether a row whose gradient has this norm is written.
 fn writes(norm: f64) -> bool
     ensures { result ≡ wrote norm }
 {
@@ -90,16 +89,14 @@ fn update_row(row: &mut [f64], g: &[f64], norm: f64, beta: f64) -> bool
     false
 }
 
-// Row i of the factor, lent on as the part that starts at i × rank, by its gradient g, of norm `norm`. Whether it was written.
+// Row i of the factor, by its gradient g, of norm `norm`. Whether it was written.
+#[tactic(auto, unfolding(crate::specs::Sweep::row_to))]
 fn update_at(factor: &mut [f64], g: &[f64], i: usize, norm: f64, beta: f64) -> bool
     requires { i * length g.now + length g.now ≤ length factor.old }
     ensures value { result ≡ wrote norm }
     ensures factor_after { factor.new ≡ row_to (length g.now) factor.old i (update_row beta g.now norm) }
 {
-    let rank = g.len();
-    let start = i * rank;
-    let end = start + rank;
-    update_row(&mut factor[start..end], g, norm, beta)
+    at_row(factor, g.len(), i, |row| update_row(row, g, norm, beta))
 }
 
 // The gradient of row i.
@@ -110,7 +107,7 @@ fn gradient_at(table: Prepared, factor: &[f64], i: usize, g: &mut [f64])
     gradient(table.row(i), factor, i, g);
 }
 
-// The gradients of rows i and i + 1.
+// The gradients of rows i and i + 1. `i < 65536` here and in `sweep_pair`: see the head of pairs.rt.
 fn gradients_at(table: Prepared, factor: &[f64], i: usize, g: &mut [f64], h: &mut [f64])
     requires row_fits { RowFits table.cols.now table.values.now table.starts.now factor.now (length g.old) i }
     requires row_fits_2 { RowFits table.cols.now table.values.now table.starts.now factor.now (length g.old) (i + 1) }
@@ -135,8 +132,7 @@ fn sweep_row(table: Prepared, factor: &mut [f64], g: &mut [f64], i: usize, beta:
 {
     gradient_at(table, factor, i, g);
     let norm = ieee::sqrt(squared_norm(g));
-    update_at(factor, g, i, norm, beta);
-    writes(norm)
+    update_at(factor, g, i, norm, beta)
 }
 
 // Rows i and i + 1 of the factor anew, where no entry of the second lies in column i; g and h are left at their gradients. How many of the two

@@ -1,4 +1,5 @@
 // The numbers of the call: 31, 13 to 16, 24. Nothing is written.
+// Arrays have a fixed size: no heap, a rule of the project (limits/src/lib.rt).
 ghost use Rattle.std.specs.Prelude.{◌≡◌, length, ltb};
 ghost use Rattle.laws.specs.Lists.{elem_z};
 ghost use Rattle.refusal.specs.Number.{numbered};

@@ -1,10 +1,10 @@
 // Blocks of wagons, then the house.
 ghost use Rattle.block_search.specs.Call.{BlockSearches};
 
+use crate::lent::lent_hall;
 use block_search::block_search;
 use block_search::lent::{Blocks, Pins, Request};
 use refusal::number_in;
-use tables::lent::{LentHall, LentTable};
 
 #[unsafe(no_mangle)]
 pub extern "C" fn wagonplan_raw_block_search(
@@ -28,16 +28,7 @@ pub extern "C" fn wagonplan_raw_block_search(
         present.now block_sizes.now block_wagons.now width choice.old falls.old workspace.old
         choice.new falls.new workspace.new result }
 {
-    let hall = LentHall {
-        table: LentTable {
-            size: n,
-            count,
-            rows,
-            cols,
-            values,
-        },
-        c,
-    };
+    let hall = lent_hall(n, count, rows, cols, values, c);
     let request = Request {
         pins: Pins {
             wagons: pinned,

@@ -1,8 +1,9 @@
-// A table as C lends it. An (H, c) stays a literal: the proofs of its calls speak of the `cost_table` of what is lent, which the literal computes to; of a
-// function's result they would have to rewrite six equations.
+// A table, and an (H, c), as C lends them.
 ghost use Rattle.std.specs.Prelude.{◌≡◌};
+ghost use Rattle.tables.specs.CostTable.{cost_table};
+ghost use Rattle.tables.specs.Lent.{costs_of};
 
-use tables::lent::LentTable;
+use tables::lent::{LentHall, LentTable};
 
 pub fn lent_table<'a>(
     size: usize,
@@ -20,4 +21,20 @@ pub fn lent_table<'a>(
         cols,
         values,
     }
+}
+
+pub fn lent_hall<'a>(
+    n: usize,
+    count: usize,
+    rows: &'a [u16],
+    cols: &'a [u16],
+    values: &'a [i64],
+    c: &'a [i64],
+) -> LentHall<'a>
+    ensures fields { (result.table.size ≡ n) × (result.table.count ≡ count) × (result.table.rows.now ≡ rows.now) × (result.table.cols.now ≡ cols.now)
+        × (result.table.values.now ≡ values.now) × (result.c.now ≡ c.now) }
+    ensures costs { costs_of result ≡ cost_table n count rows.now cols.now values.now c.now }
+{
+    let table = lent_table(n, count, rows, cols, values);
+    LentHall { table, c }
 }

@@ -7,7 +7,7 @@ pub mod blocks; // blocks.rt: blocks of wagons, then the house
 pub mod choices; // choices.rt: the calls on choices in words
 pub mod exchange; // exchange.rt: another rule for a run that is open
 pub mod factors; // factors.rt: the calls on a sign table and a factor
-mod lent; // lent.rt: a table as C lends it
+mod lent; // lent.rt: a table, and an (H, c), as C lends them
 pub mod moves; // moves.rt: at most k wagons moved
 pub mod numbers; // numbers.rt: root, eighths, bits, default rank; version and sizes
 pub mod pair; // pair.rt: the reduced pair

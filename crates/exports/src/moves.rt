@@ -3,8 +3,9 @@ ghost use Rattle.limited_search.specs.Call.{LimitedSearches};
 ghost use Rattle.exports.specs.Answers.{by_number, Stays};
 
 use crate::answers::hand_both;
+use crate::lent::lent_hall;
+use limited_search::lent::Request;
 use limited_search::limited_search;
-use tables::lent::{LentHall, LentTable};
 
 #[unsafe(no_mangle)]
 pub extern "C" fn wagonplan_raw_limited_search(
@@ -26,16 +27,12 @@ pub extern "C" fn wagonplan_raw_limited_search(
         choice.new workspace.new (by_number result (cost.new, rounds.new)) }
     ensures stays { Stays result cost.old cost.new × Stays result rounds.old rounds.new }
 {
-    let hall = LentHall {
-        table: LentTable {
-            size: n,
-            count,
-            rows,
-            cols,
-            values,
-        },
-        c,
+    let hall = lent_hall(n, count, rows, cols, values, c);
+    let request = Request {
+        present,
+        most: k,
+        width,
     };
-    let searched = limited_search(hall, present, k, width, choice, workspace);
+    let searched = limited_search(hall, request, choice, workspace);
     hand_both(searched, cost, rounds)
 }

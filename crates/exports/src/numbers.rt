@@ -57,7 +57,7 @@ pub extern "C" fn wagonplan_raw_version() -> u32
     12
 }
 
-// The size that is asked for, 0 where there is none.
+// The size that is asked for, 0 where there is none. u32 to usize by `as`: the library has no From for it.
 #[unsafe(no_mangle)]
 #[tactic(auto, unfolding(crate::specs::Sizes::size_of, sign_words::specs::Size::sign_words))]
 pub extern "C" fn wagonplan_raw_size(which: u32) -> usize

@@ -1,4 +1,5 @@
 // The ranged finish, record and result in words.
+// Arrays have a fixed size: no heap, a rule of the project (limits/src/lib.rt).
 ghost use Rattle.std.specs.Prelude.{◌≡◌};
 ghost use Rattle.ranged_finish.specs.Ranged.{ranged_table};
 ghost use Rattle.exports.specs.RangedWords.{ranged_words_of, RangedFinishesWords};

@@ -3,6 +3,7 @@ ghost use Rattle.tables.specs.CostTable.{cost_table};
 ghost use Rattle.exports.specs.Answers.{OpensWords, SweepsWords, FinishesWords};
 
 use crate::answers::hand_words;
+use crate::lent::lent_hall;
 use crate::words::{
     RESULT_WORDS, RUN_WORDS, SETTING_WORDS, hand_run, result_words, run_in, settings_in,
 };
@@ -11,7 +12,6 @@ use run_limits::Draws;
 use sdp_solver::finish::finish;
 use sdp_solver::open::open;
 use sdp_solver::sweep::sweep_run;
-use tables::lent::{LentHall, LentTable};
 
 #[unsafe(no_mangle)]
 pub extern "C" fn wagonplan_raw_open(
@@ -35,16 +35,7 @@ pub extern "C" fn wagonplan_raw_open(
     if words.len() < RUN_WORDS {
         return Refusal::Slice.number();
     }
-    let hall = LentHall {
-        table: LentTable {
-            size: n,
-            count,
-            rows,
-            cols,
-            values,
-        },
-        c,
-    };
+    let hall = lent_hall(n, count, rows, cols, values, c);
     hand_run(open(hall, settings_in(settings), numbers, factor), words)
 }
 
@@ -66,16 +57,7 @@ pub extern "C" fn wagonplan_raw_sweep(
     if words.len() < RUN_WORDS {
         return Refusal::Slice.number();
     }
-    let hall = LentHall {
-        table: LentTable {
-            size: n,
-            count,
-            rows,
-            cols,
-            values,
-        },
-        c,
-    };
+    let hall = lent_hall(n, count, rows, cols, values, c);
     let run = run_in(words);
     hand_run(sweep_run(run, hall, k, factor), words)
 }
@@ -108,16 +90,7 @@ pub extern "C" fn wagonplan_raw_finish(
     if res.len() < RESULT_WORDS {
         return Refusal::Slice.number();
     }
-    let hall = LentHall {
-        table: LentTable {
-            size: n,
-            count,
-            rows,
-            cols,
-            values,
-        },
-        c,
-    };
+    let hall = lent_hall(n, count, rows, cols, values, c);
     let finished = finish(
         run_in(words),
         hall,

@@ -3,8 +3,8 @@ ghost use Rattle.exhaustive.specs.Contract.{Walks};
 ghost use Rattle.exports.specs.Answers.{by_number, Stays};
 
 use crate::answers::hand_both;
+use crate::lent::lent_hall;
 use exhaustive::least_choice;
-use tables::lent::{LentHall, LentTable};
 
 #[unsafe(no_mangle)]
 pub extern "C" fn wagonplan_raw_least_choice(
@@ -21,16 +21,7 @@ pub extern "C" fn wagonplan_raw_least_choice(
     ensures walks { Walks n count rows.now cols.now values.now c.now b.old (by_number result (record { cost = cost.new; visited = visited.new })) b.new }
     ensures stays { Stays result cost.old cost.new × Stays result visited.old visited.new }
 {
-    let hall = LentHall {
-        table: LentTable {
-            size: n,
-            count,
-            rows,
-            cols,
-            values,
-        },
-        c,
-    };
+    let hall = lent_hall(n, count, rows, cols, values, c);
     let walked = least_choice(hall, b);
     let told = walked.map(|found| (found.cost, found.visited));
     hand_both(told, cost, visited)

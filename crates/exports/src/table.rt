@@ -11,10 +11,9 @@ ghost use Rattle.table_calls.specs.Numbers.{floor_number, objective_number, cost
 ghost use Rattle.exports.specs.Answers.{by_number, Stays};
 
 use crate::answers::hand_over;
-use crate::lent::lent_table;
+use crate::lent::{lent_hall, lent_table};
 use refusal::number_in;
 use table_calls::{choices, halls, sign_tables};
-use tables::lent::{LentHall, LentTable};
 
 #[unsafe(no_mangle)]
 pub extern "C" fn wagonplan_raw_obj_rounded(
@@ -83,16 +82,7 @@ pub extern "C" fn wagonplan_raw_eval_qubo_objective(
         (cost_eighths n (value_at (table_of count rows.now cols.now values.now)) (elem_z c.now) (choice_at b.now)) }
     ensures stays { Stays result value.old value.new }
 {
-    let hall = LentHall {
-        table: LentTable {
-            size: n,
-            count,
-            rows,
-            cols,
-            values,
-        },
-        c,
-    };
+    let hall = lent_hall(n, count, rows, cols, values, c);
     hand_over(halls::eval_qubo_objective(hall, b), value)
 }
 
@@ -115,16 +105,7 @@ pub extern "C" fn wagonplan_raw_qubo_sign_table(
         to_rows.old to_cols.old to_values.old (by_number result entries.new) to_rows.new to_cols.new to_values.new }
     ensures stays { Stays result entries.old entries.new }
 {
-    let hall = LentHall {
-        table: LentTable {
-            size: n,
-            count,
-            rows,
-            cols,
-            values,
-        },
-        c,
-    };
+    let hall = lent_hall(n, count, rows, cols, values, c);
     hand_over(
         halls::qubo_sign_table(hall, to_rows, to_cols, to_values),
         entries,

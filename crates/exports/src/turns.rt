@@ -1,4 +1,7 @@
 // The turn that several runs share, their records and the sizes of their tables in words.
+// Arrays have a fixed size: no heap, a rule of the project (limits/src/lib.rt).
+// `run_count ≤ most_runs` stands in three contracts, beside a slice's length: a struct of the count with that as its ghost field would be opened in
+// each, and save none of the other clauses.
 ghost use Rattle.std.specs.Prelude.{◌≡◌, ℕ, ◌*◌, ◌≤◌, ◌<◌, length};
 ghost use Rattle.laws.specs.Lists.{over};
 ghost use Rattle.limits.specs.Limits.{most_runs};
@@ -72,7 +75,7 @@ fn runs_in(run_count: usize, words: &[u64]) -> [Run; MOST_RUNS]
     runs
 }
 
-// The sizes of their tables.
+// The sizes of their tables. u64 to usize by `as`: the library has no From for it.
 fn halls_in(run_count: usize, sizes: &[u64]) -> [HallSize; MOST_RUNS]
     requires { (run_count ≤ most_runs) × (hall_words * run_count ≤ length sizes.now) }
     ensures { result ≡ halls_in run_count sizes.now }

@@ -1,4 +1,6 @@
-// The run record, the settings of an open and the result of a finish as words: by functions, since `From` is not open to other crates' types.
+// The run record, the settings of an open and the result of a finish as words, by functions: a `From` between the array of words and another crate's record is
+// refused as an orphan impl (tried), and a struct around the array would be taken apart again by `hand_words`, which takes an array.
+// `as` between u64 and usize: std has no `From`; of a stage: a derive gives no number of an enum.
 ghost use Rattle.std.specs.Prelude.{◌≡◌, ◌≤◌, List, Float, length};
 ghost use Rattle.step_rules.specs.Rule.{rule_number};
 ghost use Rattle.tables.specs.CostTable.{CostTable};
@@ -19,7 +21,8 @@ pub const SETTING_WORDS: usize = 8;
 
 pub const RESULT_WORDS: usize = 11;
 
-// A word as a byte.
+// A word as a byte. This and `count_in` are no generic function: of any T `TryFrom` doesn't say which words it refuses, and a trait of our own that does would be
+// longer than the two bodies.
 #[tactic(auto, unfolding(crate::specs::Words::within))]
 pub fn byte_in(word: u64) -> u8
     ensures { result ≡ byte_in word }
@@ -52,7 +55,7 @@ fn stage_word(stage: Stage) -> u64
     stage as u64
 }
 
-// The rule of a word; one above 4 is a momentum that 18 refuses.
+// The rule of a word; one above 4 is a momentum that 18 refuses. At most 4 fits a byte: by `byte_in` the proof would have to show that it stays.
 #[tactic(auto, unfolding(crate::specs::Words::rule_in))]
 fn rule_in(word: u64, number: f64) -> StepRule
     ensures { result ≡ rule_in word number }
@@ -80,16 +83,16 @@ fn rule_value(rule: StepRule) -> f64
     ensures { result ≡ rule_value rule }
 {
     match rule {
-        StepRule::Grad(alpha) => alpha,
-        StepRule::GradAdv(alpha) => alpha,
-        StepRule::Coord(alpha) => alpha,
+        StepRule::Grad(x)
+        | StepRule::GradAdv(x)
+        | StepRule::Coord(x)
+        | StepRule::CoordMomentum(x) => x,
         StepRule::CoordNoStep => 0.0,
-        StepRule::CoordMomentum(beta) => beta,
     }
 }
 
 // The run record that words hold. Each call tests itself that they are long enough: a reader that answers 31 by `?` would need, beside each call in C, a function of
-// its up to 17 parameters that answers a Result.
+// its up to 17 parameters that answers a Result; one that answers an Option, a `let .. else` in the test's place.
 #[tactic(auto, unfolding(crate::specs::Words::run_in))]
 pub fn run_in(words: &[u64]) -> Run
     requires { run_words ≤ length words.now }

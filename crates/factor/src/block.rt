@@ -1,7 +1,7 @@
 // A block of N columns of the sums over a row of the table, which stay in registers (002, `grad`; 001, `gradient_block::<N>`). The row and the factor stay
 // two parameters, here and in columns.rt and blocks.rt: the rank is most often the length of g, so that a value of both, with its rank and what is asked of
-// its columns, would have each function ask that its rank is that length, a clause for a clause. Columns are widened by `as`: tried, of `usize::from` the
-// proof knows the result by its clause alone, which each answer then hands on.
+// its columns, would have each function ask that its rank is that length, a clause for a clause. The term and the row stay two as well: `add`,
+// `add_entry` and `with_entry` take the term alone, and of a value of both each clause would say `both.entry.row.cols.now` for `row.entry.cols.now`.
 
 ghost use Rattle.std.specs.Prelude.{◌≡◌, false, ℕ, ◌+◌, ◌*◌, ◌≤◌, ◌<◌, length, get_or, take, drop};
 ghost use Rattle.laws.specs.Rows.{map_first};
@@ -46,7 +46,8 @@ pub fn copy<const N: usize>(out: &mut [f64], sums: &[f64; N])
     requires { length out.old ≡ N }
     ensures { out.new ≡ map_first (λ j old. at sums.now j) N out.old }
 {
-    // a loop over N, which the compiler lays out: `copy_from_slice` goes by the length of `out`, which the compiler doesn't know to be N, and is a call
+    // A loop: with `copy_from_slice` a product (transcribed to Rust, callgrind) took 0.996 of the instructions at rank 4, 1.0014 at 17 and 1.0022 at 32, and no
+    // product may take more than it did.
     for j in 0..N {
         out[j] = sums[j];
     }
@@ -68,7 +69,7 @@ pub fn block<T: Term, const N: usize>(
 {
     let mut sums = [0.0; N];
     for e in 0..row.cols.len() {
-        let k = row.cols[e] as usize;
+        let k = usize::from(row.cols[e]);
         let start = k * rank + offset;
         add_entry(term, &mut sums, factor, k, row.values[e], start);
     }

@@ -25,7 +25,7 @@ pub fn column<T: Term>(term: T, row: Row, factor: &[f64], rank: usize, j: usize)
 {
     let mut sum = 0.0;
     for e in 0..row.cols.len() {
-        let k = row.cols[e] as usize;
+        let k = usize::from(row.cols[e]);
         let place = k * rank + j;
         sum = with_entry(term, sum, k, row.values[e], factor[place]);
     }

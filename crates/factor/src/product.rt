@@ -1,6 +1,5 @@
 // The table times the factor (002). The factor and its rank stay two parameters: as one value (`Factor { rank, numbers }`, tried in `multiply` and `grad`) each clause
 // says `factor.entry.numbers.now factor.entry.rank` for `factor.now rank`, and callers, who write the slice between calls, make the value anew at each.
-// A row that is written is cut where it is used, as in rows.rt.
 
 ghost use Rattle.std.specs.Prelude.{◌≡◌, ◌+◌, ◌*◌, ◌≤◌, length};
 ghost use Rattle.laws.specs.Rows.{set_row};
@@ -21,6 +20,7 @@ pub fn multiply_row(row: Row, factor: &[f64], out: &mut [f64])
 }
 
 // Row i of the matrix times the factor, written to row i of `out`.
+// Tried by `at_row`: of a closure that captures a `Row` nothing is known after the call, and with two clauses of its own it is longer than the cut.
 fn multiply_at(table: Prepared, factor: &[f64], rank: usize, i: usize, out: &mut [f64])
     requires row_fits { RowFits table.cols.now table.values.now table.starts.now factor.now rank i }
     requires rank_in_bounds { i * rank + rank ≤ length out.old }

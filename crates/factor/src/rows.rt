@@ -1,7 +1,8 @@
 // Lists of floats changed in place, element by element, and the projection (005).
 
 ghost use Rattle.std.specs.Prelude.{◌≡◌, ◌+◌, ◌*◌, ◌≤◌, length, replicate};
-ghost use Rattle.laws.specs.Rows.{row_of};
+ghost use Rattle.std.specs.Fn.{FnOnceReturnsAtMut};
+ghost use Rattle.laws.specs.Rows.{row_of, set_row};
 ghost use Rattle.ieee.specs.Floats.{zero64};
 ghost use Rattle.factor.specs.Vectors.{Updated, UpdatedWith, add_scaled, sub_scaled, scaled, multiplied, divided, added, norm, unit, unit_row, projected};
 
@@ -18,7 +19,20 @@ pub fn row(s: &[f64], rank: usize, i: usize) -> &[f64]
     &s[start..end]
 }
 
-// Every element x becomes f(x).
+// What f answers of row i, which it may write in its place. A function can't hand such a row out as `row` does: tried with `Lends` and `set_row`, which the check proves
+// of a field or of a call's result alone, and not of `&mut s[start..end]`.
+pub fn at_row<T, R, F: FnOnce(&mut [T]) -> R>(s: &mut [T], rank: usize, i: usize, f: F) -> R
+    requires in_bounds { i * rank + rank ≤ length s.old }
+    requires callable { (row : _) → length row.now ≡ rank → F.pre f row }
+    ensures { (row : _) × FnOnceReturnsAtMut F.FnOnce f (row_of rank s.old i) result row × (s.new ≡ set_row rank s.old i row) }
+{
+    let start = i * rank;
+    let end = start + rank;
+    f(&mut s[start..end])
+}
+
+// Every element x becomes f(x). A loop by index: as `iter_mut`, which proves, a sweep with momentum (transcribed to Rust, callgrind) took 1.0016 of the
+// instructions at rank 4 and 1.0008 at rank 17, and a sweep may take no more than it did.
 fn update<F: Fn(f64) -> f64>(row: &mut [f64], f: F)
     requires { F.IsAlwaysCallable f }
     ensures { Updated (F.post f) row.old row.new }
@@ -116,14 +130,12 @@ pub fn normalize(row: &mut [f64])
     divide(row, norm);
 }
 
-// Row i divided by its norm. The cut of a row that is written stands where it is used: a function that lends it on (`&mut s[start..end]`, with `Lends` and `set_row`) got no proof.
+// Row i divided by its norm.
 fn normalize_row(factor: &mut [f64], rank: usize, i: usize)
     requires { i * rank + rank ≤ length factor.old }
     ensures { factor.new ≡ unit_row rank i factor.old }
 {
-    let start = i * rank;
-    let end = start + rank;
-    normalize(&mut factor[start..end]);
+    at_row(factor, rank, i, |row| normalize(row));
 }
 
 // Every one of m rows divided by its norm.

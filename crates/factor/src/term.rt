@@ -1,4 +1,5 @@
-// How an entry of a row of the table enters the sums over the row: `Product` here adds it, row_gradient's `Against` subtracts it unless it is the diagonal's.
+// How an entry of a row of the table enters the sums over the row: `Product` here adds it, row_gradient's `Against` subtracts it
+// unless it is the diagonal's, and step_rules' `Beside` adds it unless it is the diagonal's.
 
 ghost use Rattle.std.specs.Prelude.{◌≡◌, ℕ, Bool, false, Float};
 ghost use Rattle.ieee.specs.Floats.{◌+ᶠ◌};

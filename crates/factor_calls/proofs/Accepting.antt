@@ -60,6 +60,7 @@ draws_good m rank k e =
 
 pub record RoundedUsable (m count : ℕ) (rows cols : List ℕ) (values : List ℤ) (rank factor k draws out : ℕ) : Type 0 where
   pub lent : Lent count rows cols values
+  pub judged : sign_table_number m count rows cols values ≡ 0
   pub table : Accepted most_signs most_sign_entries most_sign_magnitude m (table_of count rows cols values)
   pub rank_low : rank ≤ most_rank
   pub some : 1 ≤ k
@@ -84,6 +85,7 @@ module _ (m count : ℕ) (rows cols : List ℕ) (values : List ℤ) (rank factor
       let signs : bad_signs m ≡ false = signs_passes m t.some t.signs in
       record {
         lent = rounded_lent s t.entries;
+        judged = first_head _ _ later;
         table = t;
         rank_low = ltb-false most_rank rank low;
         some = draws_some k many;
@@ -94,6 +96,7 @@ module _ (m count : ℕ) (rows cols : List ℕ) (values : List ℤ) (rank factor
 
 pub record DualUsable (m count : ℕ) (rows cols : List ℕ) (values : List ℤ) (rank factor out : ℕ) : Type 0 where
   pub lent : Lent count rows cols values
+  pub judged : sign_table_number m count rows cols values ≡ 0
   pub table : Accepted most_signs most_sign_entries most_sign_magnitude m (table_of count rows cols values)
   pub rank_low : rank ≤ most_rank
   pub factor_long : m * rank_meant m rank ≤ factor
@@ -115,6 +118,7 @@ module _ (m count : ℕ) (rows cols : List ℕ) (values : List ℤ) (rank factor
       let signs : bad_signs m ≡ false = signs_passes m t.some t.signs in
       record {
         lent = dual_lent s t.entries;
+        judged = first_head _ _ later;
         table = t;
         rank_low = ltb-false most_rank rank low;
         factor_long = long_enough (any_head _ _ (any_rest _ _ s)) (any_not _ _ signs (any_not _ _ low any_none));

@@ -30,14 +30,6 @@ up_to_skip step a (suc b) s p none = go (ℕ_discrete a (suc b)) (λ (h : a ≤ 
     go (yes e) rest = ap (λ (j : ℕ). up_to step j s) (sym e)
     go (no d) rest = none b (omega arith) (omega arith) (up_to step b s) ∙ rest (omega arith)
 
--- before all entries
-pub at_first : (t : Table) → At t 0 0 0
-at_first t = record { inside = omega arith; behind = λ k h. absurd (omega arith); ahead = λ k l h. never }
-  where
-    never : {x y : ℕ} → Before x y 0 0 → ⊥
-    never (inl p) = omega arith
-    never (inr p) = omega arith
-
 module _ (t : Table) (rank : ℕ) (factor : List Float) (i : ℕ) where
   takes_none : (k : ℕ) → (t.row k ≡ i → ⊥) → (sums : List Float) → whole_turn t rank factor i k sums ≡ sums
   unfolding row_takes

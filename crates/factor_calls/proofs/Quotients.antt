@@ -30,6 +30,7 @@ use Rattle.laws.proofs.Parts.{length_row_of}
 use Rattle.laws.proofs.Made.{length_tabulate, tabulate_ext}
 use Rattle.ieee.specs.Floats.{at, zero64, one64, eighth_of, ◌/ᶠ◌, ◌*ᶠ◌, ◌+ᶠ◌}
 use Rattle.ieee.proofs.Nearest.{parts, exact}
+use Rattle.ieee.proofs.Eighths.{like}
 use Rattle.tables.specs.Table.{Table}
 use Rattle.factor.specs.Norms.{dot_to, dot_of}
 use Rattle.factor.specs.Vectors.{add_scaled}
@@ -107,10 +108,6 @@ round_own s (suc m) e h =
     let x = exact (suc m) e p.places in
     same_value (round binary64 s (suc m * up e) (down e)) (fin s (suc m) e) s (suc m * up e) (down e) (down_pos e) (round-fits binary64 s (suc m * up e) (down e)) h
     (round_exact binary64 s (suc m * up e) (down e) (suc m) x.j (down_pos e) p.digits (under (suc m) x.j e p.finite x.is) x.is) (refl, refl)
-
-like : (s : Bool) → unlike s false ≡ s
-like true = refl
-like false = refl
 
 pub by_one : (x : Float) → T (fits binary64 x) → x /ᶠ one64 ≡ x
 unfolding div of_bits

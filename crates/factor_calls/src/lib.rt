@@ -1,15 +1,15 @@
 // The calls on a sign table given directly that take a factor. None has a `requires`: what can't be used is refused by its number, and a
-// refusal writes nothing. The factor, its rank and m stay three parameters: m is the table's size, which a struct of the three would hold once more, and where
-// the factor is judged the rank isn't yet what it means.
+// refusal writes nothing. Once judged, m, the table, the rank and the factor are one value (qv.rt). Before, table, rank and factor stay three parameters:
+// nothing is known of them yet, so that a struct would hold no fact and spare no clause.
+// Arrays have a fixed size: no heap, a rule of the project (limits/src/lib.rt).
 #![tactic(auto)]
 
 mod numbers;
+mod qv; // qv.rt: the table and the factor of a call that is accepted
 mod whole; // whole.rt: the multipliers over the whole table, divided or not
 
 ghost use Rattle.std.specs.Prelude.{◌≡◌, ◌*◌, ◌≤◌, length};
 ghost use Rattle.laws.specs.Lists.{over};
-ghost use Rattle.limits.specs.Limits.{most_signs, most_sign_magnitude, most_rank};
-ghost use Rattle.tables.specs.Table.{InRange, Rising, magnitude_of};
 ghost use Rattle.refusal.specs.Number.{in_numbers, numbered};
 ghost use Rattle.run_limits.specs.Rank.{rank_meant};
 ghost use Rattle.rounding.specs.Rounding.{rounded_sol, rounded_objective};
@@ -22,31 +22,30 @@ ghost use Rattle.tables.specs.Lent.{lent_table};
 
 use limits::{MOST_RANK, MOST_SIGNS};
 use numbers::{divided_table, dual_table, rounded_table};
+use qv::Qv;
 use refusal::Refusal;
 use run_limits::{Draws, rank_meant};
-use tables::entries::Entries;
 use tables::lent::LentTable;
 use whole::whole_multipliers;
 
 // The rounding of accepted arguments, with room for a draw's direction and its signs.
-fn round(m: usize, table: Entries, rank: usize, factor: &[f64], draws: Draws, out: &mut [u8]) -> i64
-    requires table_in_bounds { InRange m (listed table) × (magnitude_of (listed table) ≤ most_sign_magnitude) }
-    requires rank_in_bounds { (m * rank ≤ length factor.now) × (draws.count * rank ≤ length draws.numbers.now) × (1 ≤ draws.count) × (m ≤ length out.old) × (m ≤ most_signs) × (rank ≤ most_rank) }
-    ensures value { result ≡ rounded_objective factor.now rank m draws.entry.numbers.now (listed table.entry) draws.entry.count }
-    ensures out_after { out.new ≡ over (rounded_sol factor.now rank m draws.entry.numbers.now
-        (listed table.entry) draws.entry.count) out.old }
+fn round(qv: Qv, draws: Draws, out: &mut [u8]) -> i64
+    requires { (draws.count * qv.rank ≤ length draws.numbers.now) × (1 ≤ draws.count) × (qv.m ≤ length out.old) }
+    ensures value { let q = qv.entry in result ≡ rounded_objective q.factor.now q.rank q.m draws.entry.numbers.now (listed q.table) draws.entry.count }
+    ensures out_after { let q = qv.entry in out.new ≡ over (rounded_sol q.factor.now q.rank q.m draws.entry.numbers.now
+        (listed q.table) draws.entry.count) out.old }
 {
     let mut direction = [0.0; MOST_RANK];
     let mut signs = [0; MOST_SIGNS];
     rounding::compute_rounded_sol(
-        table,
-        factor,
-        rank,
-        m,
+        qv.table,
+        qv.factor,
+        qv.rank,
+        qv.m,
         draws,
-        &mut direction[..rank],
-        &mut signs[..m],
-        &mut out[..m],
+        &mut direction[..qv.rank],
+        &mut signs[..qv.m],
+        &mut out[..qv.m],
     )
 }
 
@@ -66,31 +65,28 @@ pub fn compute_rounded_sol(
 {
     let entries = rounded_table(table, rank, factor.len(), draws, out.len())?;
     let meant = rank_meant(table.size, rank);
-    let objective = round(table.size, entries, meant, factor, draws, out);
+    let qv = Qv {
+        m: table.size,
+        table: entries,
+        rank: meant,
+        factor,
+    };
+    let objective = round(qv, draws, out);
     Ok(objective)
 }
 
 // The multipliers of accepted arguments, divided or not, with room for a row's sums.
-fn multiply(divided: bool, m: usize, table: Entries, rank: usize, factor: &[f64], out: &mut [f64])
-    requires in_order { InRange m (listed table) × Rising (listed table) }
-    requires rank_in_bounds { (m * rank ≤ length factor.now) × (m ≤ length out.old) × (rank ≤ most_rank) }
-    ensures { out.new ≡ over (multipliers_by divided (listed table.entry) m rank factor.now) out.old }
+fn multiply(divided: bool, qv: Qv, out: &mut [f64])
+    requires { qv.m ≤ length out.old }
+    ensures { let q = qv.entry in out.new ≡ over (multipliers_by divided (listed q.table) q.m q.rank q.factor.now) out.old }
 {
     let mut sums = [0.0; MOST_RANK];
-    whole_multipliers(
-        divided,
-        m,
-        table,
-        rank,
-        factor,
-        &mut sums[..rank],
-        &mut out[..m],
-    );
+    whole_multipliers(divided, qv, &mut sums[..qv.rank], &mut out[..qv.m]);
 }
 
 // 002's `dual_variables(Q, V)`: the multipliers of the factor's rows, as many as the table's size, over the whole table, the diagonal in it and
 // divided by nothing, in the first places of `out`. A rank of 0 means the default rank of the table's size. The result field of a run is
-// another value: `finalize::multipliers`.
+// another value: `maxcut_oracle::objective::dual_variables`.
 pub fn dual_variables(
     table: LentTable,
     rank: usize,
@@ -103,7 +99,13 @@ pub fn dual_variables(
 {
     let entries = dual_table(table, rank, factor.len(), out.len())?;
     let meant = rank_meant(table.size, rank);
-    multiply(false, table.size, entries, meant, factor, out);
+    let qv = Qv {
+        m: table.size,
+        table: entries,
+        rank: meant,
+        factor,
+    };
+    multiply(false, qv, out);
     Ok(())
 }
 
@@ -121,6 +123,12 @@ pub fn dual_variables_divided(
         out.old (numbered result) out.new }
 {
     let entries = divided_table(table, rank, factor.len(), out.len())?;
-    multiply(true, table.size, entries, rank, factor, out);
+    let qv = Qv {
+        m: table.size,
+        table: entries,
+        rank,
+        factor,
+    };
+    multiply(true, qv, out);
     Ok(())
 }

@@ -14,7 +14,8 @@ ghost use Rattle.factor_calls.specs.Numbers.{bad_rank, factor_short, draws_refus
 use limits::{MOST_RANK, MOST_SIGN_ENTRIES};
 use refusal::Refusal;
 use run_limits::{Draws, bad_draws, rank_meant};
-use tables::check::{bad_signs, short_table, table_number, too_short};
+use tables::check::{bad_signs, short_table, too_short};
+use tables::checked::checked_table;
 use tables::entries::Entries;
 use tables::lent::LentTable;
 
@@ -81,19 +82,10 @@ fn ranked_table(short: bool, table: LentTable, rank: usize) -> Result<Entries, R
     ensures number { let t = table.entry in numbered result ≡ first (31 if short ∷ sign_table_number t.size t.count t.rows.now t.cols.now t.values.now ∷ 17 if bad_rank rank ∷ []) }
     ensures entries { IfOk result (λ e. listed e ≡ lent_table table.entry) }
 {
-    if short {
-        return Err(Refusal::Slice);
-    }
-    table_number(table)?;
+    let entries = checked_table(short, table)?;
     if bad_rank(rank) {
         return Err(Refusal::Rank);
     }
-    let entries = Entries {
-        count: table.count,
-        rows: table.rows,
-        cols: table.cols,
-        values: table.values,
-    };
     Ok(entries)
 }
 

@@ -4,7 +4,6 @@
 ghost use Rattle.std.specs.Prelude.{◌≡◌, ◌+◌, ◌*◌, ◌≤◌, length};
 ghost use Rattle.laws.specs.Rows.{row_of};
 ghost use Rattle.ieee.specs.Floats.{◌/ᶠ◌, eighth_of};
-ghost use Rattle.tables.specs.Table.{InRange, Rising};
 ghost use Rattle.sign_table.specs.Walk.{At};
 ghost use Rattle.factor.specs.Vectors.{add_scaled};
 ghost use Rattle.factor.specs.Norms.{dot_of};
@@ -12,9 +11,9 @@ ghost use Rattle.maxcut_oracle.specs.Whole.{whole_row};
 ghost use Rattle.factor_calls.specs.Equation8.{value_of, multipliers_by};
 ghost use Rattle.tables.specs.Entries.{listed};
 
+use super::qv::Qv;
 use factor::rows::{add_scaled, clear, row};
 use factor::sums::dot;
-use tables::entries::Entries;
 
 // An entry of column j and `value` eighths: `value` / 8 times row j of the factor, added to `sums`.
 fn take_entry(j: usize, value: i64, factor: &[f64], rank: usize, sums: &mut [f64])
@@ -25,22 +24,13 @@ fn take_entry(j: usize, value: i64, factor: &[f64], rank: usize, sums: &mut [f64
 }
 
 // Row i of the table, whose entries start at `from`, times the factor; the result is where those of row i + 1 start.
-fn whole_row(
-    m: usize,
-    table: Entries,
-    rank: usize,
-    factor: &[f64],
-    i: usize,
-    from: usize,
-    sums: &mut [f64],
-) -> usize
-    requires in_range { InRange m (listed table) }
-    requires rising { Rising (listed table) × At (listed table) from i 0 }
-    requires rank_in_bounds { (m * rank ≤ length factor.now) × (length sums.old ≡ rank) }
-    ensures sums_after { sums.new ≡ whole_row (listed table.entry) rank factor.now i }
-    ensures at { At (listed table.entry) result (i + 1) 0 }
+fn whole_row(qv: Qv, i: usize, from: usize, sums: &mut [f64]) -> usize
+    requires { At (listed qv.table) from i 0 × (length sums.old ≡ qv.rank) }
+    ensures sums_after { let q = qv.entry in sums.new ≡ whole_row (listed q.table) q.rank q.factor.now i }
+    ensures at { At (listed qv.entry.table) result (i + 1) 0 }
 {
     clear(sums);
+    let table = qv.table;
     for e in from..table.count {
         if usize::from(table.rows[e]) != i {
             return e;
@@ -48,8 +38,8 @@ fn whole_row(
         take_entry(
             usize::from(table.cols[e]),
             table.values[e],
-            factor,
-            rank,
+            qv.factor,
+            qv.rank,
             sums,
         );
     }
@@ -84,22 +74,13 @@ fn value_of(divided: bool, sums: &[f64], v: &[f64]) -> f64
 }
 
 // The multipliers of m rows over the whole table. What is left in `sums` is free.
-pub fn whole_multipliers(
-    divided: bool,
-    m: usize,
-    table: Entries,
-    rank: usize,
-    factor: &[f64],
-    sums: &mut [f64],
-    dual: &mut [f64],
-)
-    requires in_order { InRange m (listed table) × Rising (listed table) }
-    requires rank_in_bounds { (m * rank ≤ length factor.now) × (length sums.old ≡ rank) × (length dual.old ≡ m) }
-    ensures { dual.new ≡ multipliers_by divided (listed table.entry) m rank factor.now }
+pub fn whole_multipliers(divided: bool, qv: Qv, sums: &mut [f64], dual: &mut [f64])
+    requires { (length sums.old ≡ qv.rank) × (length dual.old ≡ qv.m) }
+    ensures { let q = qv.entry in dual.new ≡ multipliers_by divided (listed q.table) q.m q.rank q.factor.now }
 {
     let mut from = 0;
-    for i in 0..m {
-        from = whole_row(m, table, rank, factor, i, from, sums);
-        dual[i] = value_of(divided, sums, row(factor, rank, i));
+    for i in 0..qv.m {
+        from = whole_row(qv, i, from, sums);
+        dual[i] = value_of(divided, sums, row(qv.factor, qv.rank, i));
     }
 }

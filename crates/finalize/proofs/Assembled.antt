@@ -39,7 +39,7 @@ use Rattle.sign_search.proofs.TurnLaws.{rising_climbs}
 use Rattle.prepared_table.specs.Work.{diagonal_sum}
 use Rattle.maxcut_oracle.specs.Table.{dual_variables}
 use Rattle.finalize.specs.Finalize.{choice_of, floor_eighths, float_bound, diagonal_total, multipliers_of, rounded_signs, rounded_cost, search_result, searched_choice, searched_cost, searched_rounds}
-use Rattle.finalize.specs.Clauses.{Fits, ChoiceFits, Chooses, Works, Finalizes}
+use Rattle.finalize.specs.Clauses.{Fits, Chooses, Works, Finalizes}
 
 module _ {A : Type 0} where
   fill_tabulate : (f : ℕ → A) (l : List A) (n : ℕ) → n ≤ length l → fill f n l ≡ over (tabulate f n) l
@@ -139,17 +139,6 @@ module _ {n rank width draw_count draws factor b multipliers workspace : ℕ} (f
         b_room = fits.b_room;
         multipliers_room = fits.multipliers_room;
         space_room = long;
-      }
-
-  pub search_fits : ChoiceFits n rank width draw_count draws factor b workspace
-  search_fits =
-      record {
-        width_few = fits.width_few;
-        draws_some = fits.draws_some;
-        draws_room = fits.draws_room;
-        factor_room = fits.factor_room;
-        b_room = fits.b_room;
-        space_room = fits.space_room;
       }
 
 -- ---- the rounded signs are 0 and 1

@@ -37,15 +37,6 @@ pub record Finalizes (n : ℕ) (h : Table) (c : ℕ → ℤ) (rank width draw_co
 
 -- ---- the same on a sign table of n + 1 signs
 
--- what the rounding and the search ask
-pub record ChoiceFits (n rank width draw_count : ℕ) (draws factor b workspace : ℕ) : Type 0 where
-  pub width_few : width ≤ most_width
-  pub draws_some : 1 ≤ draw_count
-  pub draws_room : draw_count * rank ≤ draws
-  pub factor_room : suc n * rank ≤ factor
-  pub b_room : n ≤ b
-  pub space_room : search_workspace ≤ workspace
-
 -- the rounded choice's cost; the search's choice, its cost and its rounds
 pub record Chooses (t : Table) (n rank width draw_count : ℕ) (draws factor : List Float) (b b' : List ℕ) (rounded cost : ℤ) (rounds : ℕ) : Type 0 where
   pub rounded_is : rounded ≡ objective_in t (rounded_sol factor rank (suc n) draws t draw_count)

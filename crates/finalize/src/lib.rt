@@ -3,22 +3,22 @@
 #![tactic(auto)]
 
 mod choice; // choice.rt: the rounded choice, the search from it, and what its answer decodes to
+mod finish; // finish.rt: the sign table, the factor and the settings of a finish
 pub mod multipliers; // multipliers.rt: the multipliers with the diagonal added, and the diagonal's sum
 pub mod room; // room.rt: local arrays
 
-ghost use Rattle.std.specs.Prelude.{◌≡◌, suc, ◌*◌, length, take};
+ghost use Rattle.std.specs.Prelude.{suc, ◌*◌, ◌≤◌, length, take};
 ghost use Rattle.laws.specs.Lists.{elem_z};
-ghost use Rattle.tables.specs.Check.{Accepted};
-ghost use Rattle.limits.specs.Limits.{most_signs, most_sign_entries, most_sign_magnitude};
+ghost use Rattle.limits.specs.Limits.{search_workspace};
 ghost use Rattle.finalize.specs.Clauses.{Fits, Works, Finalizes};
 ghost use Rattle.tables.specs.Entries.{listed};
 
 use choice::choose;
+use finish::Finish;
 use multipliers::multipliers;
 use run_limits::Draws;
 use sign_table::made::SignTable;
 use tables::bound::entrywise_lower_bound;
-use tables::entries::Entries;
 use tables::judged::JudgedHall;
 use tables::objective::floor_eighths;
 
@@ -41,26 +41,25 @@ pub struct Figures {
 
 // The finish on the sign table of n wagons, from a factor of n + 1 rows.
 fn finalize_signs(
-    n: usize,
-    table: Entries,
-    rank: usize,
-    width: usize,
-    draws: Draws,
-    factor: &[f64],
+    finish: Finish,
     b: &mut [u8],
     dual_variables: &mut [f64],
     workspace: &mut [u64],
 ) -> Figures
-    requires accepted { Accepted most_signs most_sign_entries most_sign_magnitude (suc n) (listed table) }
-    requires fits { Fits n rank width draws.count (length draws.numbers.now) (length factor.now) (length b.old) (length dual_variables.old) (length workspace.old)
-        × (length factor.now ≡ suc n * rank) }
-    ensures { Works (listed table.entry) n rank width draws.entry.count draws.entry.numbers.now factor.now
+    requires { (finish.n ≤ length b.old) × (suc finish.n ≤ length dual_variables.old) × (search_workspace ≤ length workspace.old) }
+    ensures { let f = finish.entry in Works (listed f.table) f.n f.rank f.width f.draws.count f.draws.numbers.now f.factor.now
         b.old b.new dual_variables.old dual_variables.new result.diagonal_sum result.float_bound result.floor result.chosen.rounded_cost result.chosen.cost result.chosen.rounds }
 {
-    let floor = floor_eighths(table);
-    let float_bound = entrywise_lower_bound(table);
-    let diagonal_sum = multipliers(n + 1, table, rank, factor, dual_variables);
-    let chosen = choose(n, table, rank, width, draws, factor, b, workspace);
+    let floor = floor_eighths(finish.table);
+    let float_bound = entrywise_lower_bound(finish.table);
+    let diagonal_sum = multipliers(
+        finish.n + 1,
+        finish.table,
+        finish.rank,
+        finish.factor,
+        dual_variables,
+    );
+    let chosen = choose(finish, b, workspace);
     Figures {
         diagonal_sum,
         float_bound,
@@ -70,9 +69,7 @@ fn finalize_signs(
 }
 
 // The finish on (H, c) of n wagons, from the factor's first n + 1 rows; b takes the choice, `dual_variables` the multipliers.
-// Width and draws stay two parameters: with a struct of both each clause would name them through one field more. So do the factor and its rank, for the count of
-// its rows is the hall's, which a struct of them would hold once more. The slices that are written stay three `&mut`: in a struct that is lent on, each function
-// would promise of each that it keeps its name.
+// The slices that are written stay three `&mut`: in a struct that is lent on, each function would promise of each that it keeps its name.
 pub fn finalize(
     hall: JudgedHall,
     rank: usize,
@@ -90,15 +87,13 @@ pub fn finalize(
     let mut signs = SignTable::new();
     signs.make(hall);
     let size = (hall.n + 1) * rank;
-    finalize_signs(
-        hall.n,
-        signs.entries(),
+    let finish = Finish {
+        n: hall.n,
+        table: signs.entries(),
         rank,
         width,
         draws,
-        &factor[..size],
-        b,
-        dual_variables,
-        workspace,
-    )
+        factor: &factor[..size],
+    };
+    finalize_signs(finish, b, dual_variables, workspace)
 }

@@ -1,4 +1,6 @@
 // The multipliers over the table with its diagonal set aside, with the diagonal added after (000, 002).
+// The table and the factor aren't a `Finish` here: `multipliers` is public, and asks less of the table than that no number refuses it. `InRange` stands twice.
+// Arrays have a fixed size: no heap, a rule of the project (limits/src/lib.rt).
 ghost use Rattle.std.specs.Prelude.{◌≡◌, ◌*◌, ◌≤◌, length};
 ghost use Rattle.laws.specs.Lists.{over};
 ghost use Rattle.tables.specs.Table.{InRange};

@@ -1,6 +1,6 @@
 -- Whole eighths in doubles: up to 2 ^ 53 in magnitude the double of v eighths is worth exactly v / 8 (`eighth_exact`), and sums of such
 -- doubles are those of the whole numbers (`eighth_add`, `eighth_less`). Assumes nothing.
-use Rattle.std.proofs.Common.{◌≡◌, ℕ, zero, suc, ◌+◌, ◌-◌, ◌*◌, ◌^◌, ◌<◌, ◌≤◌, Bool, true, false, cond, not, ◌&&◌, ltb, ◌⊎◌, ℤ, pos, negsuc, ◌+ℤ◌, ◌-ℤ◌, nat_abs, sym, refl, ap, ◌∙◌, subst, inl, inr, ⊎_elim, zero-le, le_trans, le_of_eq, lt_of_lt_of_le, mul_assoc, mul_comm, add-mul, lt_of_mul-lt-mul_right, eq-or-lt_of_le, mul-lt-mul_of_pos_right, mul-pos, mul_right_comm, not-le_of_lt, arith, lit<, pow_pos, pow_mono, pow-add, le-ltb, lt-ltb}
+use Rattle.std.proofs.Common.{◌≡◌, ℕ, zero, suc, ◌+◌, ◌-◌, ◌*◌, ◌^◌, ◌<◌, ◌≤◌, Bool, true, false, cond, not, ◌&&◌, ltb, ◌⊎◌, ℤ, pos, negsuc, ◌+ℤ◌, ◌-ℤ◌, nat_abs, sym, refl, ap, ◌∙◌, subst, inl, inr, ⊎_elim, zero-le, le_trans, le_of_eq, lt_of_lt_of_le, mul_assoc, mul_comm, add-mul, lt_of_mul-lt-mul_right, eq-or-lt_of_le, mul-lt-mul_of_pos_right, mul-pos, not-le_of_lt, arith, lit<, pow_pos, pow_mono, pow-add, le-ltb, lt-ltb}
 use mathlib.Core.Bool.{beq}
 use native.Mathlib.Nat.{mul-sub}
 use lib.IntN.{sub_ℕ, +ℤ_idr}
@@ -10,6 +10,7 @@ use lib.Ieee.Exact.{HasValue, round_exact}
 use lib.Ieee.Back.{round_whole}
 use lib.Ieee.Scale.{round_same}
 use Rattle.laws.proofs.Made.{below_or_not}
+use Rattle.ieee.proofs.Fractions.{over_left, over_right}
 use Rattle.ieee.specs.Eighths.{negative, WorthEighths}
 use Rattle.ieee.specs.Floats.{◌+ᶠ◌, eight64, eighth_of}
 
@@ -36,7 +37,7 @@ exact s n h = go (eq-or-lt_of_le h)
     go (inr l) = in_units_lem s n n 1071 l (lit< tt) (ap (λ (x : ℕ). n * x) (pow-add 2 1071 3) ∙ sym (mul_assoc n (2 ^ 1071) 8))
 
 -- x / 8.0, for an x that is ±n
-like : (t : Bool) → unlike t false ≡ t
+pub like : (t : Bool) → unlike t false ≡ t
 like true = refl
 like false = refl
 
@@ -107,8 +108,8 @@ add_at (fin u m e) (fin q l d) s t n k v w =
     ap (λ (z : Bool). sum binary64 z (m * up e * down d) q (l * up d * down e) (down e * down d)) v.0
     ∙ ap (λ (z : Bool). sum binary64 s (m * up e * down d) z (l * up d * down e) (down e * down d)) w.0
     ∙ sum_same s t
-    (record { above = mul-pos (down_pos e) (down_pos d); below = lit< tt; cross = mul_right_comm (m * up e) (down d) 8 ∙ ap (λ (x : ℕ). x * down d) v.1 ∙ mul_assoc n (down e) (down d) })
-    (record { above = mul-pos (down_pos e) (down_pos d); below = lit< tt; cross = mul_right_comm (l * up d) (down e) 8 ∙ ap (λ (x : ℕ). x * down e) w.1 ∙ mul_assoc k (down d) (down e) ∙ ap (λ (x : ℕ). k * x) (mul_comm (down d) (down e)) })
+    (record { above = mul-pos (down_pos e) (down_pos d); below = lit< tt; cross = over_left (m * up e) (down e) (down d) n 8 v.1 })
+    (record { above = mul-pos (down_pos e) (down_pos d); below = lit< tt; cross = over_right (l * up d) (down d) (down e) k 8 w.1 })
 
 sum_is : (s t : Bool) (n k : ℕ) → n ≤ 2 ^ 53 → k ≤ 2 ^ 53 → eighths s n +ᶠ eighths t k ≡ sum binary64 s n t k 8
 sum_is s t n k h l = add_at (eighths s n) (eighths t k) s t n k (exact s n h) (exact t k l)

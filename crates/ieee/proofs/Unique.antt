@@ -2,11 +2,10 @@
 --     nearest_unique        two of them have one magnitude
 --     sqrt_is_the_nearest   any of them is `sqrt_of`'s result
 -- Assumes nothing.
-use Rattle.std.proofs.Common.{◌≡◌, ℕ, zero, suc, ◌+◌, ◌-◌, ◌*◌, ◌%◌, ◌^◌, ◌<◌, Bool, true, false, ◌&&◌, T, eqb, ltb, leb, ◌⊎◌, ℤ, pos, negsuc, sym, refl, ap, ◌∙◌, subst, inl, inr, ⊎_elim, mul_assoc, eq-zero-or-pos, mul-one, mul_left_comm, arith, eqb→eq, pow-add}
+use Rattle.std.proofs.Common.{◌≡◌, ℕ, zero, suc, ◌+◌, ◌-◌, ◌*◌, ◌%◌, ◌^◌, ◌<◌, true, false, T, ◌⊎◌, ℤ, pos, negsuc, sym, refl, ap, ◌∙◌, subst, inl, inr, ⊎_elim, mul_assoc, eq-zero-or-pos, mul-one, mul_left_comm, arith, pow-add}
 use native.Mathlib.Nat.{pow-succ'}
 use native.Mathlib.Decide.{ℕ_discrete}
 use lib.Ieee.{Float, nan, inf, fin, binary64, up, down, fits}
-use lib.Ieee.Fits.{and_l}
 use lib.Ieee.Positive.{positive, positive-finite}
 use Rattle.ieee.specs.Scale.{radicand}
 use Rattle.ieee.specs.Sqrt.{sqrt_of}
@@ -55,15 +54,6 @@ odd_parts m n (suc a) (suc b) o p h =
     let r = odd_parts m n a b o p (omega (arith, both)) in
     (r.0, ap suc r.1)
 
-is_odd : (s : Bool) (m : ℕ) (e : ℤ) → T (fits binary64 (fin s (suc m) e)) → suc m % 2 ≡ 1
-unfolding fits
-is_odd s m e h =
-    let A = eqb (suc m % 2) 1 in
-    let B = ltb (suc m) (2 ^ 53) in
-    let C = leb (down e) (2 ^ 1074) in
-    let D = ltb (suc m * up e) (2 ^ 1024 * down e) in
-    eqb→eq (suc m % 2) 1 (and_l A B (and_l (A && B) C (and_l (A && B && C) D h)))
-
 split : (m a b : ℕ) → m * 2 ^ (a + b) ≡ m * 2 ^ a * 2 ^ b
 split m a b = ap (λ (x : ℕ). m * x) (pow-add 2 a b) ∙ sym (mul_assoc m (2 ^ a) (2 ^ b))
 
@@ -91,14 +81,16 @@ units_double (fin false (suc m) e) (inf t) p q a b h = absurd b
 units_double (fin false (suc m) e) (fin true n g) p q a b h = absurd b
 units_double (fin false (suc m) e) (fin false zero g) p q a b h = absurd b
 units_double (fin false (suc m) e) (fin false (suc n) g) p q a b h =
-    let u = exact (suc m) e (parts false m e p).places in
-    let v = exact (suc n) g (parts false n g q).places in
-    let w = odd_parts (suc m) (suc n) u.j v.j (is_odd false m e p) (is_odd false n g q)
+    let f = parts false m e p in
+    let k = parts false n g q in
+    let u = exact (suc m) e f.places in
+    let v = exact (suc n) g k.places in
+    let w = odd_parts (suc m) (suc n) u.j v.j f.odd k.odd
     (sym (in_units_lem false (suc m) e u) ∙ h ∙ in_units_lem false (suc n) g v) in
     let t : suc m * up g * 2 ^ 1074 ≡ suc m * 2 ^ u.j * down g =
     subst (λ (k : ℕ). k * up g * 2 ^ 1074 ≡ k * 2 ^ u.j * down g) (sym w.0)
     (subst (λ (k : ℕ). suc n * up g * 2 ^ 1074 ≡ suc n * 2 ^ k * down g) (sym w.1) v.is) in
-    λ i. fin false (w.0 i) (exponents (suc m) e g u.j (is_odd false m e p) u.is t i)
+    λ i. fin false (w.0 i) (exponents (suc m) e g u.j f.odd u.is t i)
 
 -- ---- the theorem
 

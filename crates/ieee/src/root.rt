@@ -5,15 +5,16 @@ ghost use Rattle.std.specs.Float.{binary64};
 ghost use Rattle.std.specs.Float.Ieee.{nan_bits};
 ghost use Rattle.ieee.specs.Sqrt.{sqrt_of, NearRoot};
 
-// Most often the root of the normal double with the bits b. Its digits with an exponent of 0 or -1 are x, and y is 1 / √x
+use super::scale::{Positive, scaled};
+
+// Most often the root of the double with the bits b, if that is normal. Its digits with an exponent of 0 or -1 are x, and y is 1 / √x
 // by Newton's steps on a first guess from the bits; `high` is √x to 26 digits, so that its square is exact, and `scale` has
 // the root's exponent. Nothing rests on its being right.
-fn guess(b: u64) -> f64
-    requires { b < 0x7ff0000000000000 }
-{
-    let digits = b % 0x20_0000_0000_0000;
+#[tactic(auto, using(crate::proofs::Patterns::not_nan))]
+fn guess(b: Positive) -> f64 {
+    let digits = b.bits % 0x20_0000_0000_0000;
     let x = f64::from_bits(digits + 0x3fe0_0000_0000_0000);
-    let scale = f64::from_bits((b / 0x10_0000_0000_0000 + 1024) / 2 * 0x10_0000_0000_0000);
+    let scale = f64::from_bits((b.bits / 0x10_0000_0000_0000 + 1024) / 2 * 0x10_0000_0000_0000);
     let half = x * 0.5;
     let mut y = f64::from_bits(0x3ff6_eb50_c7b5_37a9 - digits / 2);
     y = y * 1.5008789 - half * y * (y * y);
@@ -29,7 +30,7 @@ fn guess(b: u64) -> f64
 // Whether r is the root of m * 2^52, to the nearest whole number. With r = a * 2^26 + b the difference of m * 2^52 and
 // r * r is 2^26 * ((m - a * a) * 2^26 - 2 * a * b) - b * b; 2^28 and 2^54 keep it above 0.
 fn is_rounded(m: u64, r: u64) -> bool
-    requires { (m < 2 ^ 54) × (r < 2 ^ 53) }
+    requires { r < 2 ^ 53 }
     ensures { result ≡ true → NearRoot m r }
 {
     let a = r / 0x400_0000;
@@ -60,15 +61,14 @@ fn is_rounded(m: u64, r: u64) -> bool
 }
 
 // Whether f is the root of the double with the bits b.
-fn is_root(b: u64, f: f64) -> bool
-    requires { (0 < b) × (b < 0x7ff0000000000000) }
-    ensures { result ≡ true → f ≡ sqrt_of (from_bits binary64 b) }
+fn is_root(b: Positive, f: f64) -> bool
+    ensures { result ≡ true → f ≡ sqrt_of (from_bits binary64 b.bits) }
 {
     if f.is_nan() {
         return false;
     }
     let bits = f64::to_bits(f);
-    let s = super::scale::scaled(b);
+    let s = scaled(b);
     let r = bits % 0x10_0000_0000_0000 + 0x10_0000_0000_0000;
     if bits != (s.h - 26) * 0x10_0000_0000_0000 + r {
         return false;
@@ -76,22 +76,20 @@ fn is_root(b: u64, f: f64) -> bool
     is_rounded(s.m, r)
 }
 
-// The bits of the root of a finite double above 0, from its bits. The root of m * 2^54 has 54
+// The bits of the root of the double with the bits b. The root of m * 2^54 has 54
 // digits, one more than a double keeps, and is never a tie: the last digit alone says where it
 // rounds to.
-fn root_bits(b: u64) -> u64
-    requires { (0 < b) × (b < 0x7ff0000000000000) }
-    ensures { (T (not (nan_bits binary64 result))) × (from_bits binary64 result ≡ sqrt_of (from_bits binary64 b)) }
+fn root_bits(b: Positive) -> u64
+    ensures { (T (not (nan_bits binary64 result))) × (from_bits binary64 result ≡ sqrt_of (from_bits binary64 b.bits)) }
 {
-    let s = super::scale::scaled(b);
+    let s = scaled(b);
     let q = super::digits::isqrt54(s.m);
     (s.h - 26) * 0x10_0000_0000_0000 + (q + 1) / 2
 }
 
 // The root of the double with the bits b.
-pub fn nearest(b: u64) -> f64
-    requires { (0 < b) × (b < 0x7ff0000000000000) }
-    ensures { result ≡ sqrt_of (from_bits binary64 b) }
+pub fn nearest(b: Positive) -> f64
+    ensures { result ≡ sqrt_of (from_bits binary64 b.bits) }
 {
     let f = guess(b);
     if is_root(b, f) {

@@ -1,5 +1,6 @@
 // The factor that a run starts from (000 and 004, `prepare_initial_factor`). The factor is written, so that a value of it with rank and m would need the
-// clause at each function that its reference keeps its name: `length factor.old ≡ m * rank` is no longer.
+// clause at each function that its reference keeps its name: `length factor.old ≡ m * rank` is as short. `1 ≤ rank` stands in five contracts: a struct of rank
+// and m with that as a ghost field would ask more of `start_rows`, which allows a rank of 0, and each clause would name the two through a field.
 #![tactic(auto)]
 
 ghost use Rattle.std.specs.Prelude.{◌≡◌, ◌*◌, ◌≤◌, length};
@@ -9,7 +10,7 @@ ghost use Rattle.run_limits.specs.Start.{start_count, signs_in, draws_in};
 ghost use Rattle.initialize.specs.Initialize.{start_rows, sign_by, with_signs, start_signs, start_drawn, start_by, start_within};
 
 use factor::rows::{clear, copy, multiply_by, project};
-use run_limits::Start;
+use run_limits::StartNumbers;
 
 // Starts 0 and 1: the numbers' rows, projected.
 pub fn start_rows(numbers: &[f64], rank: usize, m: usize, factor: &mut [f64])
@@ -21,7 +22,7 @@ pub fn start_rows(numbers: &[f64], rank: usize, m: usize, factor: &mut [f64])
     project(factor, rank, m);
 }
 
-// A sign as a double.
+// A sign as a double: −0.0 is +, a NaN −. Not `signum`, which gives −1.0 for −0.0 and a NaN for a NaN; nor `copysign`, which takes −0.0 for − and asks for no NaN.
 fn sign(x: f64) -> f64
     ensures { result ≡ sign_by (Ieee.le zero64 x) }
 {
@@ -67,20 +68,20 @@ pub fn start_drawn(signs: &[f64], draws: &[f64], rank: usize, m: usize, factor: 
 }
 
 // The factor by the start's kind.
-fn start_by(start: Start, numbers: &[f64], rank: usize, m: usize, factor: &mut [f64])
+fn start_by(start: StartNumbers, numbers: &[f64], rank: usize, m: usize, factor: &mut [f64])
     requires { (start_count (signs_in start) (draws_in start) rank m ≤ length numbers.now) × (length factor.old ≡ m * rank) × (1 ≤ rank) }
     ensures { factor.new ≡ start_by (signs_in start) (draws_in start) rank m numbers.now }
 {
     match start {
-        Start::Rows => start_rows(numbers, rank, m, factor),
-        Start::Signs => start_signs(numbers, rank, m, factor),
-        Start::SignsAndDraws => start_drawn(numbers, &numbers[m..], rank, m, factor),
+        StartNumbers::Rows => start_rows(numbers, rank, m, factor),
+        StartNumbers::Signs => start_signs(numbers, rank, m, factor),
+        StartNumbers::SignsAndDraws => start_drawn(numbers, &numbers[m..], rank, m, factor),
     }
 }
 
 // The factor of a start in the first m rows of `factor`; a longer slice keeps its tail.
 pub fn prepare_initial_factor(
-    start: Start,
+    start: StartNumbers,
     numbers: &[f64],
     rank: usize,
     m: usize,

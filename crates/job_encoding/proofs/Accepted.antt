@@ -28,7 +28,8 @@ use Rattle.job_record.specs.Versions.{versions}
 use Rattle.job_record.specs.Fields.{rest_length, version, wagons, entry_at, row, column, value, entries, signed_from, pins_place, pin_at, last_store, free_state, pin_count_by, rule_number_at, rank_of}
 use Rattle.job_record.specs.Number.{ends_before, bounded_number, frame_number, version_number, entry_number, pinned_before, pin_number, momentum_number, head_numbers, entries_numbers, costs_numbers, pins_numbers, pins_numbers_by, settings_numbers, draws_numbers, run_numbers, job_number}
 use Rattle.job_record.specs.Values.{pin_count, free_wagons, settings_place, draws_by, draws_place, job_pin_wagon, job_states}
-use Rattle.job_record.proofs.Same.{order_same, mirror_same, total_same}
+use Rattle.laws.proofs.Totals.{total_ext}
+use Rattle.job_record.proofs.Same.{order_same, mirror_same}
 use Rattle.job_record.proofs.Whole.{parts}
 use Rattle.job_record.proofs.Accepted.{state_pinned, state_free}
 use Rattle.job_encoding.specs.Encode.{Values, entry_bytes, signed_bytes, double_bytes, body_bytes, head_bytes, job_bytes}
@@ -130,8 +131,8 @@ module _ (v : Values) (held : Typed v) (ok : Allowed v) where
       let h = ok.hall in
       let same : hall_magnitude (length v.c) (entries (job_bytes v) (length v.entries)) (signed_from (job_bytes v) (entry_at (length v.entries))) ≡ hall_magnitude (length v.c) (table_in v) (cost_in v) =
       rw (
-        total_same (λ k. nat_abs (value (job_bytes v) k)) (λ k. nat_abs (entry_of v k).value) (length v.entries) (λ k l. ap nat_abs (value_back v held k l)),
-        total_same (λ i. nat_abs (signed_from (job_bytes v) (entry_at (length v.entries)) i)) (λ i. nat_abs (cost_in v i)) (length v.c) (λ i l. ap nat_abs (cost_at i l)),
+        total_ext (length v.entries) (λ k. nat_abs (value (job_bytes v) k)) (λ k. nat_abs (entry_of v k).value) (λ k l. ap nat_abs (value_back v held k l)),
+        total_ext (length v.c) (λ i. nat_abs (signed_from (job_bytes v) (entry_at (length v.entries)) i)) (λ i. nat_abs (cost_in v i)) (λ i l. ap nat_abs (cost_at i l)),
       ) in
       sym (moves_on_if 11 _ _ (le-ltb (length (job_bytes v)) (8 + length v.entries * 10 + length v.c * 8) (omega (arith, size v)))
       (passes_last 16 _ (ap (ltb most_magnitude) same ∙ le-ltb _ _ h.magnitude)))

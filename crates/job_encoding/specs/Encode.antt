@@ -13,7 +13,8 @@ pub record Pin : Type 0 where
   pub wagon : ℕ
   pub store : ℕ
 
--- n is the length of c
+-- n is the length of c. Another record than job_record's `JobValues`, which has counts where this has lists. Ten fields stand in both: a record of them
+-- in each would put one more name into all that cites them, the `(job_of s).width` of record_call's promises too.
 pub record Values : Type 0 where
   pub version : ℕ
   pub entries : List Entry

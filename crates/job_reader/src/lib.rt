@@ -1,6 +1,7 @@
 // A job reader: the record's bytes and how far it has read (01, "Job and answer records"). `take` reads the next field and
 // moves on; the work is `field_at`'s, on a slice and a number. Whoever reads makes a reader at a place and takes one field after the
-// other (`job_record::reading`).
+// other (`job_record::reading`). `width ≤ 8` stands in three contracts: an enum of the widths that fields have (1, 2, 4, 8) would ask more of callers, who may give
+// any up to 8, and a struct of the one number with its bound would be opened in each.
 #![tactic(auto)]
 
 ghost use Rattle.std.specs.Prelude.{◌≡◌, ◌+◌, ◌≤◌, ◌<◌, ◌^◌, length};
@@ -14,7 +15,7 @@ pub struct JobReader<'a> {
     pub at: usize,
 }
 
-// The big-endian number of the `width` bytes from `at`.
+// The big-endian number of the `width` bytes from `at`. No `from_be_bytes`: that takes eight bytes, and a field has one, two, four or eight.
 pub fn big_endian(bytes: &[u8], at: usize, width: usize) -> u64
     requires { (width ≤ 8) × (at + width ≤ length bytes.now) }
     ensures { (result ≡ big_endian bytes.now at width) × (result < 256 ^ width) }
@@ -40,6 +41,7 @@ pub fn field_at(bytes: &[u8], at: usize, width: usize) -> Option<u64>
 impl<'a> JobReader<'a> {
     // Reads the field of `width` bytes where the reader stands, and moves the reader on past it; where the field runs past the end
     // the reader stays.
+    #[tactic(auto, unfolding(crate::specs::Bytes::after))]
     pub fn take(&mut self, width: usize) -> Option<u64>
         requires { width ≤ 8 }
         ensures { (result ≡ field_at self.old.bytes.now self.old.at width) × (self.new ≡ moved_on self.old width) }

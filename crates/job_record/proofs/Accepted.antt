@@ -40,18 +40,14 @@ some_pins : (s : List ℕ) (n at : ℕ) → first (pins_numbers s n at) ≡ 0 �
 unfolding pins_numbers
 some_pins s n at e = first_head _ _ (first_rest _ _ e)
 
-no_pins : (f : ℕ → ℕ) → first_of f 0 ≡ 0
-unfolding first_of
-no_pins f = refl
-
 module _ (s : List ℕ) (e : first (pins_numbers_by versions s) ≡ 0) where
   each_pin : first_of (pin_number s (wagons s) (pins_place s + 1)) (pin_count s) ≡ 0
-  unfolding pins_numbers_by pin_count_by
+  unfolding pins_numbers_by pin_count_by first_of
   each_pin = go (versions.pinned (version s)) e
     where
       go : (t : Bool) → first (cond t (pins_numbers s (wagons s) (pins_place s)) []) ≡ 0 → first_of (pin_number s (wagons s) (pins_place s + 1)) (cond t (big_endian s (pins_place s) 1) 0) ≡ 0
       go true e = some_pins s (wagons s) (pins_place s) e
-      go false e = no_pins (pin_number s (wagons s) (pins_place s + 1))
+      go false e = refl
 
   pub pins_passed : Pins s
   unfolding free_by settings_by
@@ -67,7 +63,7 @@ module _ (s : List ℕ) (e : first (pins_numbers_by versions s) ≡ 0) where
       reach true = omega arith
       reach false = omega arith
 
-twice_not : (b : Bool) → not (not b) ≡ b
+pub twice_not : (b : Bool) → not (not b) ≡ b
 twice_not true = refl
 twice_not false = refl
 

@@ -13,14 +13,15 @@ use Rattle.laws.specs.Refusal.{◌if◌, first, or_else, first_of}
 use Rattle.laws.specs.Sum.{total}
 use Rattle.laws.specs.Lists.{elem, elem_z, fill}
 use Rattle.laws.proofs.Refusal.{stop, pass}
-use Rattle.laws.proofs.Following.{answers, moves_on, answers_if, moves_on_if, answers_last, passes_last, first_of_if, first_of_stops}
+use Rattle.laws.proofs.Following.{answers, moves_on, answers_if, moves_on_if, answers_last, passes_last, first_of_if, first_of_ext, first_of_stops}
 use Rattle.tables.specs.Table.{table_of}
 use Rattle.tables.specs.Check.{bad_entry, bad_order, unmirrored, Placed, hall_magnitude}
 use Rattle.tables.proofs.Checks.{order_placed}
 use Rattle.job_record.specs.Fields.{wagons, entry_count, entry_at, row, column, value, entries, signed_from}
 use Rattle.job_record.specs.Number.{ends_before, entry_number, entries_numbers, costs_numbers, job_table_number}
 use Rattle.job_record.specs.Values.{job_cost, Entered, Stored}
-use Rattle.job_record.proofs.Same.{filled, first_same, order_same, mirror_same, total_same}
+use Rattle.laws.proofs.Totals.{total_ext}
+use Rattle.job_record.proofs.Same.{filled, order_same, mirror_same}
 
 module _ (s : List ℕ) (n count whole : ℕ) (few : whole ≤ count) (there : entry_at whole ≤ length s) (cut : whole < count → length s < entry_at whole + 10) where
   judged : (k : ℕ) → k < whole → entry_number s n k ≡ 14 if bad_entry n (row s) (column s) k
@@ -29,7 +30,7 @@ module _ (s : List ℕ) (n count whole : ℕ) (few : whole ≤ count) (there : e
 
   whole_ones : first_of (entry_number s n) whole ≡ 14 if bad_order n (row s) (column s) whole
   unfolding bad_order
-  whole_ones = first_same _ _ whole judged ∙ first_of_if 13 (bad_entry n (row s) (column s)) whole
+  whole_ones = first_of_ext _ _ whole judged ∙ first_of_if 13 (bad_entry n (row s) (column s)) whole
 
   cut_one : whole < count → 11 ≡ entry_number s n whole
   unfolding entry_number
@@ -115,8 +116,8 @@ module _ (s : List ℕ) (n count : ℕ) {c : List ℤ} (c₀ values : List ℤ) 
   pub magnitude_is : total count (λ i. nat_abs (elem_z values i)) + 2 * total n (λ i. nat_abs (elem_z c i)) ≡ hall_magnitude n (entries s count) (signed_from s (entry_at count))
   magnitude_is =
       rw (
-        total_same (λ i. nat_abs (elem_z values i)) (λ i. nat_abs (value s i)) count (λ i l. ap nat_abs (v i l)),
-        total_same (λ i. nat_abs (elem_z c i)) (λ i. nat_abs (signed_from s (entry_at count) i)) n (λ i l. rw (k, filled (signed_from s (entry_at count)) c₀ (pos 0) n fk i l)),
+        total_ext count (λ i. nat_abs (elem_z values i)) (λ i. nat_abs (value s i)) (λ i l. ap nat_abs (v i l)),
+        total_ext n (λ i. nat_abs (elem_z c i)) (λ i. nat_abs (signed_from s (entry_at count) i)) (λ i l. rw (k, filled (signed_from s (entry_at count)) c₀ (pos 0) n fk i l)),
       )
 
 -- H and c of a head that is there

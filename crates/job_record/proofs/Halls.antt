@@ -22,7 +22,8 @@ use Rattle.tables.proofs.Checks.{size_passes}
 use Rattle.job_record.specs.Fields.{wagons, entry_count, entry_at, row, column, value, entries, signed_from}
 use Rattle.job_record.specs.Number.{entry_number, entries_numbers, costs_numbers, job_number}
 use Rattle.job_record.specs.Values.{job_table, job_cost, Stored}
-use Rattle.job_record.proofs.Same.{filled, order_same, mirror_same, total_same}
+use Rattle.laws.proofs.Totals.{total_ext}
+use Rattle.job_record.proofs.Same.{filled, order_same, mirror_same}
 use Rattle.job_record.proofs.Sections.{head}
 use Rattle.job_record.proofs.Whole.{passed}
 
@@ -72,4 +73,4 @@ module _ (s : List ℕ) (e : job_number s ≡ 0) where
       same_magnitude : (n count : ℕ) (v v' c c' : ℕ → ℤ) → ((i : ℕ) → i < count → v i ≡ v' i) → ((i : ℕ) → i < n → c i ≡ c' i)
           → total count (λ i. nat_abs (v i)) + 2 * total n (λ i. nat_abs (c i)) ≡ total count (λ i. nat_abs (v' i)) + 2 * total n (λ i. nat_abs (c' i))
       same_magnitude n count v v' c c' f g =
-          rw (total_same (λ i. nat_abs (v i)) (λ i. nat_abs (v' i)) count (λ i l. ap nat_abs (f i l)), total_same (λ i. nat_abs (c i)) (λ i. nat_abs (c' i)) n (λ i l. ap nat_abs (g i l)))
+          rw (total_ext count (λ i. nat_abs (v i)) (λ i. nat_abs (v' i)) (λ i l. ap nat_abs (f i l)), total_ext n (λ i. nat_abs (c i)) (λ i. nat_abs (c' i)) (λ i l. ap nat_abs (g i l)))

@@ -1,6 +1,5 @@
 pub mod Bounded
 pub mod Sections
-pub mod Products
 pub mod Same
 pub mod Entries
 pub mod Whole

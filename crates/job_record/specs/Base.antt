@@ -8,6 +8,10 @@ use Rattle.job_record.specs.Fields.{version, wagons, entry_count, costs_end, dou
 use Rattle.job_record.specs.Number.{ends_before, bounded_number, frame_number, entries_numbers, costs_numbers, run_numbers, number_by, job_number}
 use Rattle.job_record.specs.Values.{pin_count, free_wagons, settings_place, draws_by, draws_place, states_of, job_states, job_by, job_of, job_rank, job_start_count, job_start, job_drawn, job_draw}
 
+-- where the settings stood: behind c; `pins_place`, the same number today, says where pins stand
+abbrev pub base_settings : List ℕ → ℕ
+base_settings s = costs_end (wagons s) (entry_count s)
+
 -- 12 for every version but 1, n at most 127, the settings behind c, and all wagons run
 unfoldable pub base_number : List ℕ → ℕ
 base_number s =
@@ -19,12 +23,9 @@ base_number s =
     ∷ [])
     ++ (entries_numbers s (wagons s) (entry_count s)
     ++ (costs_numbers s (wagons s) (entry_count s)
-    ++ run_numbers s (wagons s) (costs_end (wagons s) (entry_count s)))))
+    ++ run_numbers s (wagons s) (base_settings s))))
 
--- where the settings stood, and the draw count
-abbrev pub base_settings : List ℕ → ℕ
-base_settings s = costs_end (wagons s) (entry_count s)
-
+-- where the draw count stood
 abbrev pub base_draws : List ℕ → ℕ
 base_draws s = draws_after s (wagons s) (base_settings s)
 

@@ -1,4 +1,6 @@
 // Rows of numbers of a record, stored into slices.
+// `as u16`: `big_endian` gives a u64, here of one byte.
+// Rows, columns and values stay three slices: a struct of `&mut`s adds a clause on the ghost name of each (tried on `put_slot` of reduced).
 ghost use Rattle.std.specs.Prelude.{◌≡◌, ◌+◌, ◌*◌, ◌≤◌, ◌<◌, length};
 ghost use Rattle.laws.specs.Lists.{fill};
 ghost use Rattle.job_record.specs.Fields.{entry_at, row, column, value};
@@ -7,8 +9,7 @@ use crate::places::entry_at;
 use job_reader::big_endian;
 use job_reader::fields::Stored;
 
-// The first `count` entries: rows, columns and values. Indexed, as the row below: an `iter_mut` over the front, `..count`,
-// leaves to show besides that what fills the front fills the whole.
+// The first `count` entries: rows, columns and values. Tried as a `zip` of three `iter_mut`: an invariant sees the iterator alone, and none of the slices.
 pub fn read_entries(
     job: &[u8],
     count: usize,
@@ -34,7 +35,7 @@ pub fn read_stored<T: Stored>(job: &[u8], at: usize, count: usize, out: &mut [T]
     requires { (at + count * 8 ≤ length job.now) × (count ≤ length out.old) }
     ensures { out.new ≡ fill (λ i. T.stored job.now (at + i * 8)) count out.old }
 {
-    for i in 0..count {
-        out[i] = T::stored_at(job, at + i * 8);
+    for (i, x) in out[..count].iter_mut().enumerate() {
+        *x = T::stored_at(job, at + i * 8);
     }
 }

@@ -1,4 +1,5 @@
 // An accepted job: its settings, and its start, draws and states read into slices.
+// Fields are read as u64. `as usize`: std has no `From<u64>` for usize. `as u8`, `as u32`: the value was judged to fit, or is of as many bytes.
 ghost use Rattle.std.specs.Prelude.{◌≡◌, ◌+◌, ◌*◌, ◌≤◌, ◌<◌, ◌^◌, length};
 ghost use Rattle.laws.specs.Lists.{fill, over};
 ghost use Rattle.limits.specs.Limits.{most_wagons, most_rank, most_start, most_drawn};
@@ -11,7 +12,7 @@ use crate::kinds::{Rule, Start};
 use crate::pins::{Behind, FREE, behind_pins, pins_number};
 use crate::places::{DRAW_COUNT, costs_end};
 use crate::reading::{
-    HeadValues, SettingsValues, head_values, read_head, read_settings, settings_values,
+    HeadValues, JudgedHead, SettingsValues, head_values, read_head, read_settings, settings_values,
 };
 use crate::versions::carries_pins;
 use ieee::bits::double_of;
@@ -56,8 +57,11 @@ fn accepted_head(job: AcceptedJob) -> HeadValues
 fn accepted_pins(job: AcceptedJob) -> Behind
     ensures { (result.pins ≡ pin_count job.entry.bytes.now) × (result.free ≡ free_wagons job.entry.bytes.now) × (result.settings ≡ settings_place job.entry.bytes.now) }
 {
-    let head = accepted_head(job);
-    behind_pins(job.bytes, head)
+    let head = JudgedHead {
+        bytes: job.bytes,
+        values: accepted_head(job),
+    };
+    behind_pins(head)
 }
 
 // And of its settings. It takes the bytes: that each is below 256, which the limits of two numbers rest on, is known of a slice, not of a struct's.
@@ -119,8 +123,8 @@ pub fn job_of(job: AcceptedJob) -> Job
     let p = parts_of(job);
     let drawn = field_at(job.bytes, p.draws, DRAW_COUNT);
     Job {
-        n: head.n as usize,
-        count: head.count as usize,
+        n: head.n,
+        count: head.count,
         pins: b.pins,
         free: b.free,
         rank: f.rank as usize,
@@ -162,14 +166,9 @@ pub fn read_states(job: AcceptedJob, states: &mut [u8])
     ensures { states.new ≡ over (job_states job.entry.bytes.now) states.old }
 {
     let head = accepted_head(job);
-    let n = head.n as usize;
+    let n = head.n;
     states[..n].fill(FREE);
     if carries_pins(head.version) {
-        let _ = pins_number(
-            job.bytes,
-            n,
-            costs_end(n, head.count as usize),
-            &mut states[..n],
-        );
+        let _ = pins_number(job.bytes, n, costs_end(n, head.count), &mut states[..n]);
     }
 }

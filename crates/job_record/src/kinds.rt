@@ -1,5 +1,6 @@
 // The step rule and the kind of start of an accepted job: which of 01's each is. Each from its code by a function, not TryFrom: the code was judged (18, 19), so
 // that there is no error to answer. A rule stands without its number, unlike `StepRule`: rule 3 has a number in the record too, and `job_of` keeps it.
+// `as u8` is the number that stands beside each: a derive gives none.
 ghost use Rattle.std.specs.Prelude.{◌≡◌, ◌≤◌};
 ghost use Rattle.limits.specs.Limits.{last_rule, last_start};
 ghost use Rattle.job_record.specs.Kinds.{rule_code, start_code};

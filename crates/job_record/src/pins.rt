@@ -1,24 +1,26 @@
 // The pins of a job record, judged as they are read and put into the wagons' states: a byte a wagon, the store that a pin holds it in, or FREE.
+// Fields are read as u64. `as u64`, `as usize`: std has no `From` between the two. `as u8`: a store was judged, 0 or 1.
+// Arrays have a fixed size: no heap, a rule of the project (limits/src/lib.rt).
 ghost use Rattle.std.specs.Prelude.{◌≡◌, ◌+◌, ◌≤◌, ◌<◌, length, set, replicate};
 ghost use Rattle.laws.specs.Refusal.{first, first_of};
-ghost use Rattle.limits.specs.Limits.{most_wagons, most_entries};
 ghost use Rattle.refusal.specs.Number.{numbered};
 ghost use Rattle.job_reader.specs.Bytes.{big_endian, value_of};
 ghost use Rattle.job_record.specs.Versions.{versions};
-ghost use Rattle.job_record.specs.Fields.{wagons, entry_count, free_state};
+ghost use Rattle.job_record.specs.Fields.{free_state};
 ghost use Rattle.job_record.specs.Number.{pin_number, pins_numbers, pins_numbers_by};
-ghost use Rattle.job_record.specs.Reading.{HeadThere, field_number, wagon_wrong, pin_judged};
+ghost use Rattle.job_record.specs.Reading.{field_number, wagon_wrong, pin_judged};
 ghost use Rattle.job_record.specs.Values.{pin_count, free_wagons, settings_place, states_of};
 
 use crate::places::{PIN, PIN_COUNT, costs_end};
-use crate::reading::{HeadValues, PinFields, read_pin};
+use crate::reading::{JudgedHead, PinFields, read_pin};
 use crate::settings::{field_number, limit_number};
 use crate::versions::carries_pins;
 use job_reader::field_at;
 use limits::MOST_WAGONS;
 use refusal::Refusal;
 
-// The state of a wagon that no pin holds, and the last store.
+// The state of a wagon that no pin holds, and the last store. A state stays a byte and becomes no enum: `states_of` and its theorems speak of bytes, and a store
+// is put in as it was read; `pinned::reduce` takes bytes too.
 pub const FREE: u8 = 2;
 
 const LAST_STORE: usize = 1;
@@ -75,16 +77,15 @@ pub fn pins_number(job: &[u8], n: usize, at: usize, states: &mut [u8]) -> Result
 }
 
 // The pins of a version that carries them.
-pub fn version_pins(job: &[u8], head: HeadValues) -> Result<(), Refusal>
-    requires { HeadThere job.now head × (wagons job.now ≤ most_wagons) × (entry_count job.now ≤ most_entries) }
-    ensures { numbered result ≡ first (pins_numbers_by versions job.now) }
+pub fn version_pins(head: JudgedHead) -> Result<(), Refusal>
+    ensures { numbered result ≡ first (pins_numbers_by versions head.entry.bytes.now) }
 {
-    if !carries_pins(head.version) {
+    let v = head.values;
+    if !carries_pins(v.version) {
         return Ok(());
     }
-    let n = head.n as usize;
     let mut states = [FREE; MOST_WAGONS];
-    pins_number(job, n, costs_end(n, head.count as usize), &mut states[..n])
+    pins_number(head.bytes, v.n, costs_end(v.n, v.count), &mut states[..v.n])
 }
 
 // What they say of the rest: how many they are, the wagons that they leave free, and where the settings stand.
@@ -95,23 +96,23 @@ pub struct Behind {
     pub settings: usize,
 }
 
-pub fn behind_pins(job: &[u8], head: HeadValues) -> Behind
-    requires { HeadThere job.now head × (wagons job.now ≤ most_wagons) × (entry_count job.now ≤ most_entries) × (first (pins_numbers_by versions job.now) ≡ 0) }
-    ensures { (result.pins ≡ pin_count job.now) × (result.free ≡ free_wagons job.now) × (result.settings ≡ settings_place job.now) }
+pub fn behind_pins(head: JudgedHead) -> Behind
+    requires { first (pins_numbers_by versions head.bytes.now) ≡ 0 }
+    ensures { (result.pins ≡ pin_count head.entry.bytes.now) × (result.free ≡ free_wagons head.entry.bytes.now) × (result.settings ≡ settings_place head.entry.bytes.now) }
 {
-    let n = head.n as usize;
-    let at = costs_end(n, head.count as usize);
-    if !carries_pins(head.version) {
+    let v = head.values;
+    let at = costs_end(v.n, v.count);
+    if !carries_pins(v.version) {
         return Behind {
             pins: 0,
-            free: n,
+            free: v.n,
             settings: at,
         };
     }
-    let pins = field_at(job, at, PIN_COUNT).unwrap_or(0) as usize;
+    let pins = field_at(head.bytes, at, PIN_COUNT).unwrap_or(0) as usize;
     Behind {
         pins,
-        free: n - pins,
+        free: v.n - pins,
         settings: at + PIN_COUNT + pins * PIN,
     }
 }

@@ -1,7 +1,9 @@
 // The head, a pin and the settings of a job record, field by field: a reader is made at a place and takes one field after the other.
-// What is past the end stays visible, for whoever judges the fields.
-ghost use Rattle.std.specs.Prelude.{◌≡◌};
-ghost use Rattle.job_record.specs.Reading.{head_of, pin_from, settings_from, head_values, settings_values};
+// What is past the end stays visible, for whoever judges the fields. `as usize`: std has no `From<u64>` for usize.
+ghost use Rattle.std.specs.Prelude.{◌≡◌, ◌≤◌};
+ghost use Rattle.limits.specs.Limits.{most_wagons, most_entries};
+ghost use Rattle.job_record.specs.Fields.{wagons, entry_count};
+ghost use Rattle.job_record.specs.Reading.{HeadThere, head_of, pin_from, settings_from, head_values, settings_values};
 
 use job_reader::JobReader;
 
@@ -46,8 +48,18 @@ pub type SettingsValues = SettingsOf<u64>;
 #[derive(Clone, Copy, Drop)]
 pub struct HeadValues {
     pub version: u64,
-    pub n: u64,
-    pub count: u64,
+    pub n: usize,
+    pub count: usize,
+}
+
+// A record whose head was there and judged, and the head's numbers: n and the entry count are within the limits.
+#[derive(Clone, Copy)]
+pub struct JudgedHead<'a> {
+    pub bytes: &'a [u8],
+    pub values: HeadValues,
+    ghost there: { HeadThere bytes.now values },
+    ghost few: { wagons bytes.now ≤ most_wagons },
+    ghost short: { entry_count bytes.now ≤ most_entries },
 }
 
 // The head. `read_head`, `read_pin` and `read_settings` stay apart: each names other fields, beside their widths.
@@ -115,8 +127,8 @@ pub fn head_values(head: HeadFields) -> HeadValues
 {
     HeadValues {
         version: head.version.unwrap_or(0),
-        n: head.n.unwrap_or(0),
-        count: head.count.unwrap_or(0),
+        n: head.n.unwrap_or(0) as usize,
+        count: head.count.unwrap_or(0) as usize,
     }
 }
 

@@ -1,5 +1,6 @@
 // The settings of a job record, its start and its draws: the first number from there on. Rule and start stand as 01's codes here: they are judged field by field,
 // and a field that is not there has no kind.
+// Fields are read as u64. `as u64`, `as usize`: std has no `From` between the two. `as u8`: a start was judged; `as u32`: of four bytes.
 ghost use Rattle.std.specs.Prelude.{◌≡◌, ℕ, Bool, ◌&&◌, ◌||◌, not, ◌≤◌, ltb, eqb};
 ghost use Rattle.ieee.specs.Floats.{double_of};
 ghost use Rattle.laws.specs.Refusal.{first};

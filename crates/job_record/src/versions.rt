@@ -1,4 +1,5 @@
-// The versions of job records, one table (specs/Versions.antt).
+// The versions of job records, one table (specs/Versions.antt). A version stays the record's number and becomes no enum: `most_wagons_of` and `carries_pins` take
+// any u64, known or not, and a `JudgedHead` holds any: a known one would ask more of their callers.
 ghost use Rattle.std.specs.Prelude.{◌≡◌};
 ghost use Rattle.job_record.specs.Versions.{known, versions};
 

@@ -1,7 +1,7 @@
 -- An ordered list of refusals, as a function goes along it: it answers the first, or moves on.
 -- Assumes nothing.
 use Prim.Native.Nat.{ℕ, zero, suc, ◌<◌}
-use mathlib.Core.Path.{◌≡◌, refl, sym, ◌∙◌}
+use mathlib.Core.Path.{◌≡◌, refl, sym, ap₂, ◌∙◌}
 use mathlib.Core.Bool.{Bool, true, false, cond}
 use mathlib.Core.Logic.{◌⊎◌, inl, inr}
 use native.Mathlib.Nat.{eq-or-lt_of_le, le_of_suc-le-suc}
@@ -56,6 +56,12 @@ first_of_if k p (suc n) = rw (first_of_if k p n) (go (any_below n p) (p n))
     go true false = refl
     go false true = refl
     go false false = refl
+
+-- two rows that agree below n
+pub first_of_ext : (f g : ℕ → ℕ) (n : ℕ) → ((i : ℕ) → i < n → f i ≡ g i) → first_of f n ≡ first_of g n
+unfolding first_of
+first_of_ext f g zero e = refl
+first_of_ext f g (suc n) e = ap₂ or_else (first_of_ext f g n (λ i l. e i (omega arith))) (e n (omega arith))
 
 -- the first of a row that is refused at m at the latest
 pub first_of_stops : (f : ℕ → ℕ) (m n : ℕ) → m < n → (f m ≡ 0 → ⊥) → first_of f n ≡ or_else (first_of f m) (f m)

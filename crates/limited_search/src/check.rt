@@ -4,6 +4,7 @@ ghost use Rattle.refusal.specs.Number.{numbered};
 ghost use Rattle.tables.specs.Lent.{costs_of};
 ghost use Rattle.limited_search.specs.Numbers.{move_number, call_short, limited_number};
 
+use crate::lent::Request;
 use block_search::check::{any_above, bad_width, choices_short};
 use limits::{MOST_ENTRIES, SEARCH_WORKSPACE};
 use refusal::Refusal;
@@ -12,17 +13,17 @@ use tables::lent::LentHall;
 
 // 27, 28, 19.
 #[tactic(auto, unfolding(crate::specs::Numbers::move_number, laws::specs::Refusal::first, laws::specs::Refusal::or_else))]
-fn move_number(n: usize, present: &[u8], k: usize, width: usize) -> Result<(), Refusal>
-    requires { n ≤ length present.now }
-    ensures { numbered result ≡ move_number n present.now k width }
+fn move_number(n: usize, request: Request) -> Result<(), Refusal>
+    requires { n ≤ length request.present.now }
+    ensures { let q = request.entry in numbered result ≡ move_number n q.present.now q.most q.width }
 {
-    if any_above(n, present) {
+    if any_above(n, request.present) {
         return Err(Refusal::Present);
     }
-    if n < k {
+    if n < request.most {
         return Err(Refusal::Moves);
     }
-    if bad_width(width) {
+    if bad_width(request.width) {
         return Err(Refusal::Search);
     }
     Ok(())
@@ -41,17 +42,16 @@ fn call_short(hall: LentHall, present: usize, choice: usize, workspace: usize) -
 // The first number that applies; the lengths are those of the slices that the call writes.
 pub fn limited_number(
     hall: LentHall,
-    present: &[u8],
-    k: usize,
-    width: usize,
+    request: Request,
     choice: usize,
     workspace: usize,
 ) -> Result<(), Refusal>
-    ensures { let t = costs_of hall.entry in numbered result ≡ limited_number t.n t.count t.rows t.cols t.values t.c present.now k width choice workspace }
+    ensures { let t = costs_of hall.entry in let q = request.entry in numbered result ≡ limited_number t.n t.count t.rows t.cols t.values t.c
+        q.present.now q.most q.width choice workspace }
 {
-    if call_short(hall, present.len(), choice, workspace) {
+    if call_short(hall, request.present.len(), choice, workspace) {
         return Err(Refusal::Slice);
     }
     hall_number(hall)?;
-    move_number(hall.table.size, present, k, width)
+    move_number(hall.table.size, request)
 }

@@ -1,17 +1,16 @@
 // The search of an accepted call.
+// Arrays have a fixed size: no heap, a rule of the project (limits/src/lib.rt).
 ghost use Rattle.std.specs.Prelude.{◌≡◌, suc, ◌≤◌, length};
 ghost use Rattle.laws.specs.Lists.{elem_z};
-ghost use Rattle.limits.specs.Limits.{most_signs, most_sign_entries, most_sign_magnitude};
-ghost use Rattle.tables.specs.Check.{Accepted};
 ghost use Rattle.sign_table.specs.SignTable.{sign_table};
 ghost use Rattle.limited_search.specs.Search.{present_signs, SearchFits, Leaves};
 ghost use Rattle.tables.specs.Entries.{listed};
 
+use crate::lent::Request;
 use limits::MOST_SIGNS;
 use sign_search::search::{Searched, search_within};
 use sign_search::within::Leeway;
 use sign_table::made::SignTable;
-use tables::entries::Entries;
 use tables::judged::JudgedHall;
 use tables::objective::qubo_binary_from_sign_solution;
 
@@ -24,56 +23,32 @@ fn start_signs(n: usize, present: &[u8], signs: &mut [u8])
     signs[n] = 0;
 }
 
-// The search on a sign table of n + 1 signs; `found` takes what the answer decodes to. That the table is accepted is asked here alone: a struct that
-// holds it would be made by `SignTable::entries`, which can be called before `make`, so that it would ask the fact in its turn.
-fn search_from(
-    n: usize,
-    table: Entries,
-    present: &[u8],
-    k: usize,
-    width: usize,
-    signs: &mut [u8],
-    found: &mut [u8],
-    workspace: &mut [u64],
-) -> Searched
-    requires { Accepted most_signs most_sign_entries most_sign_magnitude (suc n) (listed table) × SearchFits n present.now width (length found.old) (length workspace.old) × (length signs.old ≡ suc n) }
-    ensures { Leaves (listed table.entry) n present.now k width found.old found.new
-        result.least result.rounds }
-{
-    start_signs(n, present, signs);
-    let leeway = Leeway { flips: n, most: k };
-    let searched = search_within(table, width, signs, workspace, leeway);
-    qubo_binary_from_sign_solution(n, signs, found);
-    searched
-}
-
-// The same on (H, c), whose sign table is made.
-// Not one function with `search_reduced` of `block_search`, which also weighs the start on the table made: they share the lines that make table and
-// signs, and a function of these would lend both to a closure, whose clauses would say all that `search_from` asks and promises once more.
+// The search on the sign table of (H, c), which is made; `found` takes what the answer decodes to.
+// Not one function with `search_reduced` of `block_search`: they share four lines, which make the table and decode the answer. The start, whether it is weighed
+// and how far the search goes differ, and would be parameters of a function with both contracts' clauses.
 pub fn search_limited(
     hall: JudgedHall,
-    present: &[u8],
-    k: usize,
-    width: usize,
+    request: Request,
     found: &mut [u8],
     workspace: &mut [u64],
 ) -> Searched
-    requires { SearchFits hall.n present.now width (length found.old) (length workspace.old) }
-    ensures { let h = hall.entry in Leaves (sign_table h.n (listed h.table) (elem_z h.c.now)) h.n present.now k width
+    requires { SearchFits hall.n request.present.now request.width (length found.old) (length workspace.old) }
+    ensures { let h = hall.entry in let q = request.entry in Leaves (sign_table h.n (listed h.table) (elem_z h.c.now)) h.n q.present.now q.most q.width
         found.old found.new result.least result.rounds }
 {
+    let n = hall.n;
     let mut sign_table = SignTable::new();
     sign_table.make(hall);
+    let table = sign_table.entries();
     let mut signs = [0u8; MOST_SIGNS];
-    let m = hall.n + 1;
-    search_from(
-        hall.n,
-        sign_table.entries(),
-        present,
-        k,
-        width,
-        &mut signs[..m],
-        found,
-        workspace,
-    )
+    let m = n + 1;
+    let signs = &mut signs[..m];
+    start_signs(n, request.present, signs);
+    let leeway = Leeway {
+        flips: n,
+        most: request.most,
+    };
+    let searched = search_within(table, request.width, signs, workspace, leeway);
+    qubo_binary_from_sign_solution(n, signs, found);
+    searched
 }

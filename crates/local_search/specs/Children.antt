@@ -15,8 +15,8 @@ abbrev pub parent_of : ℤ → List ℕ → Choice
 parent_of objective signs = record { objective = objective; signs = signs }
 
 -- the same of a parent as it is passed
-abbrev pub choice_of : Parent → Choice
-choice_of p = parent_of p.objective p.row.now
+abbrev pub parent_choice : Parent → Choice
+parent_choice p = parent_of p.objective p.row.now
 
 -- child i of a parent in words
 unfoldable pub flip_w : List ℤ → ℕ → Choice → Choice

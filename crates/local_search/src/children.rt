@@ -3,7 +3,7 @@
 ghost use Rattle.std.specs.Prelude.{false, [], ◌≡◌, suc, ◌≤◌, length, take};
 ghost use Rattle.local_search.specs.Level.{level_of, Ascending};
 ghost use Rattle.local_search.specs.SignSearch.{improves_c, child_at};
-ghost use Rattle.local_search.specs.Children.{change_of, choice_of, flip_w, listed_children, Appended, Appends, Expands, Kept, ListedSafe};
+ghost use Rattle.local_search.specs.Children.{change_of, parent_choice, flip_w, listed_children, Appended, Appends, Expands, Kept, ListedSafe};
 ghost use Rattle.local_search.specs.Enters.{enters, enters_first, limit_of, below_limit, FirstFrom, Untouched};
 
 use crate::level::{insert_child, insert_objective, insert_row};
@@ -25,11 +25,11 @@ pub fn consider_child(
     count: usize,
     width: usize,
 ) -> usize
-    requires { Expands parent.changes.now (suc i) (choice_of parent) count width (length objectives.old) (length signs.old) × Ascending (take count objectives.old) }
+    requires { Expands parent.changes.now (suc i) (parent_choice parent) count width (length objectives.old) (length signs.old) × Ascending (take count objectives.old) }
     ensures kept { let p = parent.entry in Kept width (level_of (length p.row.now) count objectives.old signs.old)
-        (child_at (improves_c (change_of p.changes.now)) (flip_w p.changes.now) (choice_of p) i)
+        (child_at (improves_c (change_of p.changes.now)) (flip_w p.changes.now) (parent_choice p) i)
         (level_of (length p.row.now) result objectives.new signs.new) result }
-    ensures stays_out { let p = parent.entry in enters width (take count objectives.old) p.changes.now (choice_of p) i ≡ false
+    ensures stays_out { let p = parent.entry in enters width (take count objectives.old) p.changes.now (parent_choice p) i ≡ false
         → Untouched objectives.old objectives.new signs.old signs.new count result }
 {
     let d = parent.changes[i];
@@ -60,7 +60,7 @@ pub fn entry_limit(objectives: &[i64], count: usize, width: usize, objective: i6
 }
 
 // The first child from `from` on, of those of the first `m` signs, that enters the level. A loop: as `find` on the range (transcribed to Rust, callgrind)
-// it took 1.11 of the instructions.
+// it took 1.11 of the instructions, and a search may take no more than it did.
 pub fn next_child(
     parent: Parent,
     from: usize,
@@ -90,9 +90,9 @@ pub fn expand_parent(
     count: usize,
     width: usize,
 ) -> usize
-    requires { Expands parent.changes.now m (choice_of parent) count width (length objectives.old) (length signs.old) × Ascending (take count objectives.old) }
+    requires { Expands parent.changes.now m (parent_choice parent) count width (length objectives.old) (length signs.old) × Ascending (take count objectives.old) }
     ensures { let p = parent.entry in Kept width (level_of (length p.row.now) count objectives.old signs.old)
-        (listed_children p.changes.now m (choice_of p))
+        (listed_children p.changes.now m (parent_choice p))
         (level_of (length p.row.now) result objectives.new signs.new) result }
 {
     let mut kept = count;
@@ -113,11 +113,11 @@ pub fn append_child(
     signs: &mut [u64],
     count: usize,
 ) -> usize
-    requires { Appends start.changes.now (suc i) (choice_of start) (length objectives.old) (length signs.old) × (count ≤ i) }
+    requires { Appends start.changes.now (suc i) (parent_choice start) (length objectives.old) (length signs.old) × (count ≤ i) }
     ensures appended { let p = start.entry in Appended (level_of (length p.row.now) count objectives.old signs.old)
-        (child_at (improves_c (change_of p.changes.now)) (flip_w p.changes.now) (choice_of p) i)
+        (child_at (improves_c (change_of p.changes.now)) (flip_w p.changes.now) (parent_choice p) i)
         (level_of (length p.row.now) result objectives.new signs.new) result (suc i) }
-    ensures stays_out { let p = start.entry in enters_first p.changes.now (choice_of p) i ≡ false
+    ensures stays_out { let p = start.entry in enters_first p.changes.now (parent_choice p) i ≡ false
         → Untouched objectives.old objectives.new signs.old signs.new count result }
 {
     let change = start.changes[i];
@@ -131,8 +131,8 @@ pub fn append_child(
 
 // Level 1: all children of the start, by index.
 pub fn first_level(start: Parent, m: usize, objectives: &mut [i64], signs: &mut [u64]) -> usize
-    requires { Appends start.changes.now m (choice_of start) (length objectives.old) (length signs.old) }
-    ensures { let p = start.entry in Appended [] (listed_children p.changes.now m (choice_of p))
+    requires { Appends start.changes.now m (parent_choice start) (length objectives.old) (length signs.old) }
+    ensures { let p = start.entry in Appended [] (listed_children p.changes.now m (parent_choice p))
         (level_of (length p.row.now) result objectives.new signs.new) result m }
 {
     let mut count = 0;

@@ -1,6 +1,8 @@
 // The entries among the free wagons: those of a free row and a free column, under the places of these wagons among the free ones. H's entries rise and so do
 // the free wagons, so that one walk over the entries leaves them in order.
-// Rows, columns and values of what is written stay three slices: a struct of the three `&mut`s would add three clauses on ghost names to each of four functions.
+// Rows, columns and values of what is written stay three slices: a struct of the three `&mut`s adds three clauses on ghost names to each function, as was tried in
+// reduced. `n` stays beside `states`, for the reason in reduce.rt.
+// Arrays have a fixed size: no heap, a rule of the project (limits/src/lib.rt).
 ghost use Rattle.std.specs.Prelude.{◌≡◌, cond, ◌<◌, ◌≤◌, length, replicate, ltb};
 ghost use Rattle.laws.specs.Lists.{elem, fill, next_if};
 ghost use Rattle.tables.specs.Table.{InRange};
@@ -12,7 +14,7 @@ ghost use Rattle.tables.specs.Entries.{listed};
 use limits::MOST_WAGONS;
 use tables::entries::Entries;
 
-// The place of a wagon that is held. No `Option`: each place goes into a slice of plain indices, and an entry's column is written before it is tested.
+// The place of a wagon that is held: the limit of 01, which a u16 holds. No `Option`: each place goes into a slice of plain indices, and an entry's column is written before it is tested.
 const HELD: u16 = MOST_WAGONS as u16;
 
 // The entries of H, and the place of each wagon.
@@ -23,7 +25,7 @@ pub struct Placed<'a> {
     ghost in_range: { InRange most_wagons (listed table) },
 }
 
-// The place of wagon i, before which stand so many free ones.
+// The place of wagon i, before which stand so many free ones. Narrowed by `as`: `requires` keeps it below 65,536, and `try_from` would have a failure to answer.
 fn place_of(states: &[u8], i: usize, at: usize) -> u16
     requires { (i < length states.now) × (at < 65536) }
     ensures { result ≡ cond (is_free states.now i) at most_wagons }
@@ -39,10 +41,7 @@ fn after(at: usize, place: u16) -> usize
     requires { at < 65536 }
     ensures { result ≡ next_if (ltb place most_wagons) at }
 {
-    if place < HELD {
-        return at + 1;
-    }
-    at
+    at + usize::from(place < HELD)
 }
 
 // The place of each wagon.

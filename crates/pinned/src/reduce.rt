@@ -1,5 +1,6 @@
 // `reduce`: the quadratic and linear costs among the free wagons, and the constant that the held ones cost. A wagon's state is 0 or 1 where it is held in
 // that store, above 1 where it is free.
+// Arrays have a fixed size: no heap, a rule of the project (limits/src/lib.rt).
 ghost use Rattle.std.specs.Prelude.{◌≡◌, ℕ, ◌+◌, ◌*◌, ◌<◌, ◌≤◌, length, replicate, nat_abs, ◌+ℤ◌, ◌*ℤ◌};
 ghost use Rattle.std.specs.Int.{w64};
 ghost use Rattle.std.proofs.Common.{SFits};
@@ -22,6 +23,9 @@ use tables::staying::put_kept;
 // A state is a byte: 0 and 1 are stores, any other is free. They stay bytes and become no enum: the definitions and the theorems speak of any byte, and a held
 // one is copied into a choice as it stands. `n` stays beside them: it is the hall's, more states than it may be lent, and of a slice that is cut to n each
 // definition would speak through `take n`.
+// `c`, `sums` and `held` are in no struct: what is asked of c and sums is another thing in each function (that one sum fits, that those of the free wagons do,
+// a bound at i, a bound below n), so that no clause would go, and where the linear costs are made `held` isn't read.
+// What is written stays four slices, for the reason at the head of entries.rt.
 
 // How many wagons are free, how many entries they have, and what the held ones cost.
 #[derive(Drop)]
@@ -31,7 +35,7 @@ pub struct Shrunk {
     pub constant: i64,
 }
 
-// The free wagons, in rising order; how many they are.
+// The free wagons, in rising order; how many they are. Narrowed by `as`: i is below n, and so below 65,536.
 pub fn free_wagons(n: usize, states: &[u8], free: &mut [u16]) -> usize
     requires { (n ≤ most_wagons) × (n ≤ length states.now) × (n ≤ length free.old) }
     ensures { (free.new ≡ over (free_of n states.now) free.old) × (result ≡ length (free_of n states.now)) }
@@ -124,11 +128,7 @@ fn held_cost(n: usize, c: &[i64], sums: &[i64; MOST_WAGONS], held: &[u8; MOST_WA
         × ((i : ℕ) → i < n → nat_abs (elem_z sums.now i) + 2 * nat_abs (elem_z c.now i) ≤ most_magnitude) }
     ensures { result ≡ sum n (held_term (elem_z c.now) (elem_z sums.now) (choice_at held.now)) }
 {
-    let mut cost: i64 = 0;
-    for i in 0..n {
-        cost += held_term(c, sums, held, i);
-    }
-    cost
+    (0..n).map(|i| held_term(c, sums, held, i)).sum()
 }
 
 // The costs of the free wagons, which are given.

@@ -1,4 +1,4 @@
-// The table of a call, prepared for the float work (000, `separate_diagonal`).
+// The table of a call, prepared for the float work (000, `separate_diagonal`). `InRange` stays a clause: it is below the length of the slice that is written, or m.
 #![tactic(auto)]
 
 pub mod made; // made.rt: a prepared table in arrays of its own

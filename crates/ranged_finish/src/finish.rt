@@ -14,7 +14,6 @@ use run_limits::Draws;
 use run_record::Run;
 use run_record::lengths::FinishSlices;
 use sdp_solver::finish::finish_accepted;
-use tables::entries::Entries;
 use tables::judged::JudgedHall;
 use tables::objective::eval_qubo_objective;
 
@@ -46,19 +45,9 @@ fn finish_ranged_accepted(
         workspace,
     );
     let n = ranged.n;
-    let low_table = Entries {
-        count: ranged.count,
-        rows: ranged.rows,
-        cols: ranged.cols,
-        values: ranged.low,
-    };
+    let low_table = ranged.entries(ranged.low);
     let least = eval_qubo_objective(n, low_table, ranged.low_c, b);
-    let high_table = Entries {
-        count: ranged.count,
-        rows: ranged.rows,
-        cols: ranged.cols,
-        values: ranged.high,
-    };
+    let high_table = ranged.entries(ranged.high);
     let most = eval_qubo_objective(n, high_table, ranged.high_c, b);
     let low_hall = JudgedHall {
         n,
@@ -89,7 +78,8 @@ pub fn finish_ranged(
         width draws.entry.count draws.entry.numbers.now factor.now b.old dual_variables.old workspace.old
         (in_numbers result) b.new dual_variables.new workspace.new }
 {
-    // This literal stands in sdp_solver too: a function with the five slices as parameters would be as long at both places.
+    // This literal stands in sdp_solver too. A function of run_record that makes it would take five slices, of which three are reborrowed, and say five lengths:
+    // with its clause and both calls it is no shorter than the two literals.
     let lent = FinishSlices {
         draws: draws.numbers.len(),
         factor: factor.len(),

@@ -7,10 +7,13 @@ mod number; // number.rt: the call's number
 mod ranges; // ranges.rt: the number of a ranged table
 
 ghost use Rattle.std.specs.Prelude.{◌≡◌};
+ghost use Rattle.tables.specs.Table.{Lent, table_of};
+ghost use Rattle.tables.specs.Entries.{listed};
 ghost use Rattle.tables.specs.Lent.{costs_of};
 ghost use Rattle.ranged_finish.specs.Ranged.{ranged_of, high_of};
 
 use run_contract::FinishResult;
+use tables::entries::Entries;
 use tables::lent::{LentHall, LentTable};
 
 // A ranged table as a call is lent it: a low and a high number for each entry and for each wagon; the slices' lengths may be any.
@@ -27,18 +30,33 @@ pub struct LentRanged<'a> {
 }
 
 impl<'a> LentRanged<'a> {
+    // The table with its low or its high numbers.
+    fn table(self, values: &'a [i64]) -> LentTable<'a>
+        ensures { let r = self.entry in (result.size ≡ r.n) × (result.count ≡ r.count) × (result.rows.now ≡ r.rows.now) × (result.cols.now ≡ r.cols.now) × (result.values.now ≡ values.now) }
+    {
+        LentTable {
+            size: self.n,
+            count: self.count,
+            rows: self.rows,
+            cols: self.cols,
+            values,
+        }
+    }
+
+    // The entries with their low or their high numbers.
+    fn entries(self, values: &'a [i64]) -> Entries<'a>
+        requires { Lent self.count self.rows.now self.cols.now values.now }
+        ensures { let r = self.entry in listed result ≡ table_of r.count r.rows.now r.cols.now values.now }
+    {
+        self.table(values).entries()
+    }
+
     // The high table.
     fn high_hall(self) -> LentHall<'a>
         ensures { costs_of result ≡ high_of (ranged_of self.entry) }
     {
         LentHall {
-            table: LentTable {
-                size: self.n,
-                count: self.count,
-                rows: self.rows,
-                cols: self.cols,
-                values: self.high,
-            },
+            table: self.table(self.high),
             c: self.high_c,
         }
     }

@@ -9,26 +9,18 @@ ghost use Rattle.ranged_finish.specs.Numbers.{ranged_short, ranged_finish_number
 use crate::LentRanged;
 use crate::ranges::ranged_number;
 use limits::{MOST_ENTRIES, MOST_WAGONS};
-use refusal::{Refusal, number_in};
+use refusal::Refusal;
 use run_record::Run;
 use run_record::lengths::FinishSlices;
 use run_record::numbers::finish_number;
 use tables::check::{short_table, too_short};
-use tables::lent::LentTable;
 
 // 31 of the slices of a ranged table.
 #[tactic(auto, unfolding(crate::specs::Numbers::ranged_short, laws::specs::Refusal::any_of))]
 fn ranged_short(ranged: LentRanged) -> bool
     ensures { result ≡ ranged_short (ranged_of ranged.entry) }
 {
-    let low = LentTable {
-        size: ranged.n,
-        count: ranged.count,
-        rows: ranged.rows,
-        cols: ranged.cols,
-        values: ranged.low,
-    };
-    if short_table(MOST_ENTRIES, low) {
+    if short_table(MOST_ENTRIES, ranged.table(ranged.low)) {
         return true;
     }
     if too_short(MOST_ENTRIES < ranged.count, ranged.count, ranged.high.len()) {
@@ -54,8 +46,10 @@ pub fn ranged_finish_number(
         return Err(Refusal::Slice);
     }
     let finish = finish_number(run, ranged.high_hall(), width, draw_count, lent);
-    // Of slices, stage and record: by a comparison, since a match on the three cases leaves no fact that a proof can name where none of them is.
-    if Refusal::Slice.number() <= number_in(finish) {
+    if matches!(
+        finish,
+        Err(Refusal::Slice | Refusal::Stage | Refusal::Record)
+    ) {
         return finish;
     }
     ranged_number(ranged)?;

@@ -15,7 +15,6 @@ use crate::LentRanged;
 use limits::{MOST_ENTRIES, MOST_MAGNITUDE, MOST_WAGONS};
 use refusal::Refusal;
 use tables::check::{bad_order, bad_size};
-use tables::entries::Entries;
 use tables::mirror::unmirrored;
 
 // 23: some low end is above its high one.
@@ -49,14 +48,11 @@ fn ranges_capped(cap: u64, count: usize, low: &[i64], high: &[i64]) -> u64
     requires { (count ≤ length low.now) × (count ≤ length high.now) × (cap ≤ 2 ^ 62) }
     ensures { result ≡ min (total count (λ k. larger (elem_z low.now k) (elem_z high.now k))) cap }
 {
-    let mut sum: u64 = 0;
-    for k in 0..count {
-        sum = with_range(sum, low[k], high[k], cap);
-    }
-    sum
+    (0..count).fold(0, |sum, k| with_range(sum, low[k], high[k], cap))
 }
 
-// 16: the magnitude is above the limit.
+// 16: the magnitude is above the limit. Not one with tables' `hall_too_large`: over two closures its contract would say of each that it may be called below the
+// count, that what it gives is at most 2 ^ 63 and which number that is, for a body of three lines.
 fn ranges_too_large(limit: u64, ranged: LentRanged) -> bool
     requires { (ranged.count ≤ length ranged.low.now) × (ranged.count ≤ length ranged.high.now) × (ranged.n ≤ length ranged.low_c.now) × (ranged.n ≤ length ranged.high_c.now) × (limit < 2 ^ 60) }
     ensures { result ≡ ltb limit (ranged_magnitude (ranged_of ranged.entry)) }
@@ -66,27 +62,12 @@ fn ranges_too_large(limit: u64, ranged: LentRanged) -> bool
     limit < entries + 2 * costs
 }
 
-// 15: some entry's mirror is absent, or unequal at either end.
+// 15: some entry's mirror is absent, or unequal at either end. `Placed` is asked as in tables/src/mirror.rt.
 fn ranges_unmirrored(ranged: LentRanged) -> bool
     requires { Lent ranged.count ranged.rows.now ranged.cols.now ranged.low.now × Lent ranged.count ranged.rows.now ranged.cols.now ranged.high.now × Placed (elem ranged.rows.now) (elem ranged.cols.now) ranged.count }
     ensures { result ≡ (unmirrored (quadratic (low_of (ranged_of ranged.entry))) || unmirrored (quadratic (high_of (ranged_of ranged.entry)))) }
 {
-    let low_table = Entries {
-        count: ranged.count,
-        rows: ranged.rows,
-        cols: ranged.cols,
-        values: ranged.low,
-    };
-    if unmirrored(low_table) {
-        return true;
-    }
-    let high_table = Entries {
-        count: ranged.count,
-        rows: ranged.rows,
-        cols: ranged.cols,
-        values: ranged.high,
-    };
-    unmirrored(high_table)
+    unmirrored(ranged.entries(ranged.low)) || unmirrored(ranged.entries(ranged.high))
 }
 
 // What is refused of a ranged table.

@@ -17,7 +17,7 @@ use Rattle.limits.specs.Limits.{most_wagons, most_rank, search_workspace}
 use Rattle.run_record.specs.declared.Run.{Run}
 use Rattle.run_limits.specs.Rank.{rank_meant}
 use Rattle.run_limits.specs.Momentum.{is_momentum}
-use Rattle.run_limits.specs.Start.{is_signs, draws_follow, start_length}
+use Rattle.run_limits.specs.Start.{start_length}
 use Rattle.run_record.specs.Numbers.{is_stopped, bad_momentum, sweep_number, FinishLengths, width_refused, finish_number, open_rank_refused}
 use Rattle.run_limits.proofs.Ranks.{meant_low, meant_some}
 use Rattle.run_sweep.specs.Work.{Work, call_work}
@@ -31,9 +31,8 @@ use Rattle.job_record.proofs.Accepted.{fields}
 use Rattle.record_call.specs.Record.{run_costs, job_settings, opened, stopped}
 use Rattle.run_contract.specs.PlainRun.{Plain, plain_open, plain_sweeps, record_of}
 use Rattle.run_contract.proofs.Follows.{state_of, sweeps_follow}
-use Rattle.run_contract.proofs.Lengths.{length_start}
-use Rattle.run_contract.proofs.Accepting.{open_accepted}
-use Rattle.record_call.proofs.Stopping.{Sound, Ended, ends, sweeps_long}
+use Rattle.run_contract.proofs.Tails.{start_long, length_sweeps}
+use Rattle.record_call.proofs.Stopping.{Sound, Ended, ends}
 use Rattle.record_call.proofs.Freed.{costs_there, costs_pass, run_n, run_hall}
 use Rattle.record_call.proofs.Unrefused.{rule_passes, momentum_passes, rank_passes, open_passes, stopped_record, open_record, sweep_passes, width_passes, finish_passes}
 
@@ -108,11 +107,7 @@ module _ (s : List ℕ) (e : job_number s ≡ 0) where
 
   -- the start's factor has m rows of the rank that is meant
   pub start_whole : length (start_factor (job_settings (run_costs s) s)) ≡ open_size (job_settings (run_costs s) s) * open_rank (job_settings (run_costs s) s)
-  unfolding start_factor
-  start_whole =
-      let o = job_settings (run_costs s) s in
-      let ready = open_accepted o (open_size o * open_rank o) (opens (open_size o * open_rank o) (omega arith)) in
-      length_start (is_signs o.start) (draws_follow o.most (open_rank o)) (open_rank o) (open_size o) o.numbers ready.numbers_room
+  start_whole = let o = job_settings (run_costs s) s in start_long o (open_size o * open_rank o) (opens (open_size o * open_rank o) (omega arith))
 
   -- ---- the record
 
@@ -158,7 +153,7 @@ module _ (s : List ℕ) (e : job_number s ≡ 0) where
 
   -- the factor keeps its m rows
   pub factor_whole : length (stopped (run_costs s) s).factor ≡ open_size (job_settings (run_costs s) s) * open_rank (job_settings (run_costs s) s)
-  factor_whole = rw factor_is (sweeps_long (job_of s).most (call_work (run_costs s)) (open_run (job_settings (run_costs s) s)) (start_factor (job_settings (run_costs s) s)) ∙ start_whole)
+  factor_whole = rw factor_is (length_sweeps (job_of s).most (call_work (run_costs s)) (open_run (job_settings (run_costs s) s)) (start_factor (job_settings (run_costs s) s)) ∙ start_whole)
 
   -- ---- finish
 

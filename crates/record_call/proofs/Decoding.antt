@@ -4,9 +4,10 @@
 --     run-fields, lifted-choice    the answer
 --     opened-run, swept-run, unswept-run, finished    open, sweep and finish of a decoded job
 use Rattle.std.specs.Prelude.{Result, Ok}
-use Prim.Native.Nat.{ℕ, zero, suc, ◌+◌, ◌*◌, ◌≤◌, ◌<◌}
+use Prim.Native.Nat.{ℕ, ◌+◌, ◌*◌, ◌≤◌, ◌<◌}
 use mathlib.Core.Path.{◌≡◌, refl, sym, ap, subst, ◌∙◌}
 use mathlib.Core.List.{List}
+use native.Mathlib.Nat.{mul-le-mul}
 use native.Mathlib.Omega.{arith}
 use lib.ListN.{length, take, drop}
 use lib.Seq.{length-take-le, get_or-take, take_all, take_at}
@@ -14,7 +15,7 @@ use lib.IntN.{ℤ, pos}
 use lib.Ieee.{Float}
 use mir.Syntax.{w64}
 use mir.Val.{to_z, of_z}
-use Rattle.laws.specs.Lists.{over, fill, tabulate}
+use Rattle.laws.specs.Lists.{over, fill, tabulate, elem_z}
 use Rattle.laws.proofs.MapFirst.{length_fill}
 use Rattle.laws.proofs.Made.{length_tabulate, tabulate_get_d, over_all}
 use Rattle.ieee.specs.Floats.{zero64}
@@ -29,6 +30,11 @@ use Rattle.pinned.proofs.Halls.{reduce_hall}
 use Rattle.pinned.proofs.Steps.{constant_held, rows_front, cols_front, values_front, costs_front}
 use Rattle.pinned_demand.proofs.Pinned.{lifted_same}
 use Rattle.tables.specs.CostTable.{CostTable, cost_table, quadratic, linear}
+use Rattle.tables.specs.Entries.{listed}
+use Rattle.tables.specs.Judged.{JudgedOf}
+use Rattle.tables.specs.Lent.{costs_of}
+use Rattle.tables.specs.declared.judged.JudgedHall.{JudgedHall}
+use Rattle.tables.specs.declared.lent.LentHall.{LentHall}
 use Rattle.run_sweep.specs.Work.{call_work}
 use Rattle.run_sweep.specs.Sweep.{State, sweeps_up_to}
 use Rattle.run_sweep.proofs.Loop.{sweeps_none}
@@ -38,7 +44,7 @@ use Rattle.run_contract.proofs.Follows.{state_of}
 use Rattle.run_contract.specs.declared.FinishResult.{FinishResult}
 use Rattle.run_contract.specs.Calls as Calls
 use Rattle.run_record.specs.Numbers.{sweep_number, finish_number}
-use Rattle.run_contract.specs.Calls.{Settings, open_number_of, open_size, open_rank, open_run, start_factor, used, finish_result, finish_choice, Opens, Finishes}
+use Rattle.run_contract.specs.Calls.{Settings, open_number_of, open_rank, open_run, start_factor, used, finish_result, finish_choice, Opens, Finishes}
 use Rattle.answer_record.specs.declared.answer.Answer.{Answer}
 use Rattle.job_record.specs.Fields.{wagons, entry_count, row, column, value}
 use Rattle.job_record.specs.Number.{job_number}
@@ -46,10 +52,9 @@ use Rattle.job_record.specs.Values.{pin_count, free_wagons, job_states, JobValue
 use Rattle.job_record.specs.Kinds.{rule_code, start_code}
 use Rattle.job_record.specs.declared.job.Job.{Job}
 use Rattle.job_record.proofs.Same.{filled}
-use Rattle.job_record.proofs.Products.{area}
 use Rattle.job_record.proofs.Accepted.{fields, start_fits, drawn_fits}
 use Rattle.record_call.specs.Record.{job_costs, reduced_costs, run_costs, pinned_cost, job_settings, job_draws, stopped, job_result, job_choice, fields_of, job_fields, whole_choice}
-use Rattle.record_call.specs.Decoded.{Decoded, AtFronts, OwnCosts, FiguresFit}
+use Rattle.record_call.specs.Decoded.{Decoded, AtFronts, OwnCosts, factor_size, FiguresFit}
 use Rattle.record_call.proofs.Freed.{same_costs, rows_long, cols_long, values_long, costs_long, choice_long, states_whole, job_hall, many_free, run_n, run_hall, no_pins, constant_none, whole_none}
 use Rattle.record_call.proofs.Figures.{rank_low, figures_fit}
 use Rattle.record_call.proofs.Accepted.{opens, sweeps, start_whole, stopped_is, stops, factor_whole, finishes, few, rank_is, rank_few, size_is}
@@ -276,13 +281,18 @@ module _ {s : List ℕ} {j : Job} {t : CostTable} (o : OwnCosts s j t) where
   pub own_few : j.n ≤ most_wagons
   own_few = (fronts_fit s o.accepted j o.job_is).1
 
-  -- reduced into slices, by what `reduce` says of the count and of the slices
-  pub own_reduced : {states : List ℕ} → states ≡ job_states s → {rows cols : List ℕ} {values c : List ℤ} {rows' cols' : List ℕ} {values' c' : List ℤ} {t' : Shrunk} → t'.free ≡ length (free_of t.n states)
-      → Shrinks t.n (quadratic t) (linear t) states rows cols values c rows' cols' values' c' t'.count t'.constant → Room 0 t.count rows cols values → ReducedRun s t.count t' rows' cols' values' c'
-  own_reduced is {rows} {cols} {values} {c} {rows'} {cols'} {values'} {c'} {t'} = reduced_run s o.accepted o.costs_are is t'
-
   pub own_states : (states states₀ : List ℕ) → states ≡ over (job_states s) states₀ → take j.n states ≡ job_states s
   own_states states states₀ = states_cut s o.accepted j.n states states₀ own_n
+
+-- reduced into slices, by what `reduce` says of (H, c) as it was handed to it
+module _ {s : List ℕ} {j : Job} (l : LentHall) (o : OwnCosts s j (costs_of l)) {states : List ℕ} (is : states ≡ job_states s) (h : JudgedHall) (of : JudgedOf l h) where
+  pub judged_wagons : (free free' : List ℕ) → free' ≡ over (free_of h.n states) free → free' ≡ over (free_of (job_costs s).n (job_states s)) free
+  judged_wagons free free' made = own_wagons s o.accepted o.costs_are is free free' (rw of.0 at made)
+
+  pub judged_reduced : {rows cols : List ℕ} {values c : List ℤ} {rows' cols' : List ℕ} {values' c' : List ℤ} {t : Shrunk} → t.free ≡ length (free_of h.n states)
+      → Shrinks h.n (listed h.table) (elem_z h.c.now) states rows cols values c rows' cols' values' c' t.count t.constant → Room 0 l.table.count rows cols values → ReducedRun s l.table.count t rows' cols' values' c'
+  judged_reduced {rows} {cols} {values} {c} {rows'} {cols'} {values'} {c'} {t} many made r =
+      reduced_run s o.accepted o.costs_are is t (rw of.0 at many) (rw (of.0, of.1, of.2) at made) r
 
 -- ---- the calls of a decoded job
 
@@ -305,7 +315,7 @@ module _ {s : List ℕ} {j : Job} {costs : CostTable} {start : List Float} (d : 
   unfolding job_settings
   asked_is p q = rw (p, q) (same_settings d.costs_are d.job_is d.start_is)
 
-  pub opened_run : {rule kind : ℕ} → rule ≡ rule_code j.rule → kind ≡ start_code j.start → {answer : Result Run ℕ} {factor factor' : List Float} → length factor ≡ open_size (job_settings (run_costs s) s) * open_rank (job_settings (run_costs s) s) → Opens (asked rule kind) factor answer factor'
+  pub opened_run : {rule kind : ℕ} → rule ≡ rule_code j.rule → kind ≡ start_code j.start → {answer : Result Run ℕ} {factor factor' : List Float} → length factor ≡ factor_size s → Opens (asked rule kind) factor answer factor'
       → (answer ≡ Ok (open_run (job_settings (run_costs s) s))) × (factor' ≡ start_factor (job_settings (run_costs s) s))
   opened_run p q {answer} {factor} {factor'} whole o =
       let o' : Opens (job_settings (run_costs s) s) factor answer factor' = subst (λ (x : Settings). Opens x factor answer factor') (asked_is p q) o in
@@ -335,7 +345,7 @@ module _ {s : List ℕ} {j : Job} {costs : CostTable} {start : List Float} (d : 
       (sym (ap (λ (x : State). x.run) e), sym (ap (λ (x : State). x.factor) e))
 
   -- nothing refuses the open
-  pub opens_now : {rule kind : ℕ} → rule ≡ rule_code j.rule → kind ≡ start_code j.start → (factor : List Float) → length factor ≡ open_size (job_settings (run_costs s) s) * open_rank (job_settings (run_costs s) s) → open_number_of (asked rule kind) (length factor) ≡ 0
+  pub opens_now : {rule kind : ℕ} → rule ≡ rule_code j.rule → kind ≡ start_code j.start → (factor : List Float) → length factor ≡ factor_size s → open_number_of (asked rule kind) (length factor) ≡ 0
   opens_now p q factor whole = subst (λ (x : Settings). open_number_of x (length factor) ≡ 0) (sym (asked_is p q)) (opens s d.accepted (length factor) (omega (arith, whole)))
 
   -- nor the sweep
@@ -407,19 +417,15 @@ module _ {s : List ℕ} {j : Job} {costs : CostTable} {start : List Float} (d : 
       )
 
   -- the size of the factor
-  pub sizes : (rank : ℕ) → rank ≡ job_rank s → (j.free ≤ most_wagons) × ((j.free + 1) * rank ≤ most_factor) × ((j.free + 1) * rank ≡ open_size (job_settings (run_costs s) s) * open_rank (job_settings (run_costs s) s))
+  pub sizes : (rank : ℕ) → rank ≡ job_rank s → (j.free ≤ most_wagons) × ((j.free + 1) * rank ≤ most_factor) × ((j.free + 1) * rank ≡ factor_size s)
   sizes rank is =
       let n : j.free ≡ (run_costs s).n = job_free s d.accepted j d.job_is ∙ many_free s d.accepted ∙ sym (run_n s d.accepted) in
       let low = few s d.accepted in
       let r : rank ≡ open_rank (job_settings (run_costs s) s) = is ∙ sym (rank_is s d.accepted) in
-      let within : (j.free + 1) * rank ≤ most_factor = area (j.free + 1) rank most_signs most_rank (omega arith) (rw r (rank_few s d.accepted)) in
+      let within : (j.free + 1) * rank ≤ most_factor = mul-le-mul {n₁ = j.free + 1} {m₁ = rank} {n₂ = most_signs} {m₂ = most_rank} (omega arith) (rw r (rank_few s d.accepted)) in
       (omega arith, omega (arith, within), rw (r, n, ← (size_is s d.accepted)))
 
 -- ---- answers
 
 pub same_ok : {A : Type 0} {answer : Result A ℕ} {x y : A} → answer ≡ Ok x → answer ≡ Ok y → x ≡ y
 same_ok p q = cc
-
-pub positive : (n : ℕ) → (n ≡ 0 → ⊥) → 0 < n
-positive zero h = absurd (h refl)
-positive (suc n) h = omega arith

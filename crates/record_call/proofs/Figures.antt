@@ -6,7 +6,7 @@
 use Prim.Native.Nat.{ℕ, zero, suc, ◌+◌, ◌*◌, ◌^◌, ◌≤◌, ◌<◌}
 use native.Mathlib.Nat.{lt_of_le_of_lt, pow-suc}
 use native.Mathlib.Omega.{arith}
-use mathlib.Core.Path.{◌≡◌, refl, sym}
+use mathlib.Core.Path.{◌≡◌, refl}
 use mathlib.Core.List.{List}
 use lib.Dec.{T}
 use lib.ListN.{get_or}
@@ -34,6 +34,7 @@ use Rattle.pinned_demand.proofs.Figures.{figures_within, fits_within}
 use Rattle.tables.specs.CostTable.{quadratic, linear}
 use Rattle.run_contract.specs.Calls.{finish_result, finish_multipliers}
 use Rattle.run_contract.specs.PlainRun.{record_of}
+use Rattle.run_contract.proofs.Finalized.{finalized}
 use Rattle.job_reader.specs.Bytes.{big_endian}
 use Rattle.job_record.specs.Number.{job_number}
 use Rattle.job_record.specs.Values.{settings_place, job_states, job_by, job_of}
@@ -57,25 +58,18 @@ module _ {n : ℕ} {h : Table} {c : ℕ → ℤ} (hall : Hall most_wagons most_e
   unfolding searched_cost
   cost_low = objective_abs (hall_mirrors hall) small (search_result n h c rank factor draws draw_count width).answer
 
-  finalized : Finalizes n h c rank width draw_count draws factor (searched_choice n h c rank factor draws draw_count width) (searched_choice n h c rank factor draws draw_count width)
+  found : Finalizes n h c rank width draw_count draws factor (searched_choice n h c rank factor draws draw_count width) (searched_choice n h c rank factor draws draw_count width)
       (multipliers_of n h c rank factor) (multipliers_of n h c rank factor) (diagonal_total n h c) (float_bound n h c) (floor_eighths n h c)
       (rounded_cost n h c rank factor draws draw_count) (searched_cost n h c rank factor draws draw_count width) (searched_rounds n h c rank factor draws draw_count width)
-  finalized =
-      record {
-        diagonal_is = refl;
-        bound_is = refl;
-        floor_is = refl;
-        rounded_is = refl;
-        cost_is = refl;
-        rounds_are = refl;
-        choice_is = sym (over_all (searched_choice n h c rank factor draws draw_count width) (searched_choice n h c rank factor draws draw_count width) refl);
-        multipliers_are = sym (over_all (multipliers_of n h c rank factor) (multipliers_of n h c rank factor) refl);
-      }
+  found =
+      let choice = searched_choice n h c rank factor draws draw_count width in
+      let multipliers = multipliers_of n h c rank factor in
+      rw (over_all choice choice refl, over_all multipliers multipliers refl) at (finalized n h c rank factor draws draw_count width choice multipliers)
 
   module _ (some : 1 ≤ width) where
     pub demanded : Demand3 n h c rank factor draws draw_count width (searched_choice n h c rank factor draws draw_count width) (floor_eighths n h c)
         (rounded_cost n h c rank factor draws draw_count) (searched_cost n h c rank factor draws draw_count width) (searched_rounds n h c rank factor draws draw_count width)
-    demanded = demand3 hall rank factor draws draw_count width some finalized
+    demanded = demand3 hall rank factor draws draw_count width some found
 
     rounds_some : searched_rounds n h c rank factor draws draw_count width < 2 ^ 64
     rounds_some =
@@ -146,7 +140,7 @@ module _ (s : List ℕ) (e : job_number s ≡ 0) where
       (job_result (run_costs s) s).floor (job_result (run_costs s) s).rounded_cost (job_result (run_costs s) s).cost (job_result (run_costs s) s).rounds
   unfolding job_result finish_result job_choice record_of run_costs reduced_costs free_table
   run_finish =
-      finalized (run_hall s e) (stopped (run_costs s) s).rank (stopped (run_costs s) s).factor (job_draws s) (job_of s).draw_count (job_of s).width
+      found (run_hall s e) (stopped (run_costs s) s).rank (stopped (run_costs s) s).factor (job_draws s) (job_of s).draw_count (job_of s).width
 
   pub figures_fit : FiguresFit (pinned_cost s) (job_result (run_costs s) s)
   unfolding pinned_cost

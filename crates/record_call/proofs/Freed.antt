@@ -27,7 +27,8 @@ use Rattle.run_contract.proofs.Lengths.{length_choice}
 use Rattle.job_record.specs.Fields.{wagons, entry_count, row, column, value, free_state, pins_place}
 use Rattle.job_record.specs.Number.{job_number}
 use Rattle.job_record.specs.Values.{pin_count, free_wagons, states_of, job_states, job_of, job_cost}
-use Rattle.job_record.proofs.Same.{order_same, mirror_same, total_same}
+use Rattle.laws.proofs.Totals.{total_ext}
+use Rattle.job_record.proofs.Same.{order_same, mirror_same}
 use Rattle.job_record.proofs.Pinning.{length_states}
 use Rattle.job_record.proofs.Accepted.{states_free}
 use Rattle.job_record.proofs.Halls.{hall}
@@ -47,8 +48,8 @@ listed n count row column value c =
     rw (
       order_same (elem (tabulate row count)) (elem (tabulate column count)) row column value value count r k n,
       mirror_same (elem (tabulate row count)) (elem (tabulate column count)) row column (elem_z (tabulate value count)) value count r k v,
-      total_same (λ i. nat_abs (elem_z (tabulate value count) i)) (λ i. nat_abs (value i)) count (λ i l. ap nat_abs (v i l)),
-      total_same (λ i. nat_abs (elem_z (tabulate c n) i)) (λ i. nat_abs (c i)) n (λ i l. ap nat_abs (d i l)),
+      total_ext count (λ i. nat_abs (elem_z (tabulate value count) i)) (λ i. nat_abs (value i)) (λ i l. ap nat_abs (v i l)),
+      total_ext n (λ i. nat_abs (elem_z (tabulate c n) i)) (λ i. nat_abs (c i)) (λ i l. ap nat_abs (d i l)),
     )
 
 exact : {a b : ℕ} → a ≡ b → b ≤ a

@@ -84,7 +84,8 @@ below k = replicate 7 255 ++ (k ∷ [])
 abbrev rounds : ℕ → List ℕ
 rounds k = replicate 7 0 ++ (k ∷ [])
 
-pub worked :
+abbrev pub Worked : Type 0
+Worked =
     ((answer_of example).bytes
     ∷ (answer_of empty).bytes
     ∷ stored empty
@@ -103,30 +104,11 @@ pub worked :
     -- of 2, and of 2^-1074
     ∷ (0x3FF6A09E667F3BCD ∷ 0x1E60000000000000 ∷ [])
     ∷ [])
-unfolding example empty third
-    Record.job_costs Record.reduced_costs Record.run_costs Record.pinned_cost Record.job_fields Record.whole_choice Record.job_settings Record.job_draws Record.opened Record.stopped Record.job_result Record.job_choice Record.answer_of
-    Pinned.free_of Pinned.held_byte Pinned.beside_held Pinned.free_costs Pinned.held_cost Pinned.lifted Submatrix.reduced_places
-    Bytes.big_endian Encode.bytes_of Answer.frame_bytes Answer.count_bytes Answer.float_bytes Answer.eighth_bytes Answer.answer_bytes
-    Number.number_by Number.head_numbers Number.entries_numbers Number.costs_numbers Number.run_numbers Number.settings_numbers Number.draws_numbers Number.frame_number Number.version_number
-    Number.bounded_number Number.entry_number Number.momentum_number Meant.rank_meant Start.start_length Versions.versions Fields.pin_count_by Fields.free_by Fields.settings_by Number.pins_numbers_by Number.pins_numbers Number.pin_number Number.pinned_before Values.draws_by Values.states_of Values.job_states Values.job_by
-    Refusal.or_else Refusal.first Refusal.first_of Refusal.any_of Check.before Check.bad_entry Check.unmirrored Sum.total Rank.root_from Rank.least_root Rank.default_rank
-    Calls.start_factor Calls.finish_result PlainRun.plain_open PlainRun.plain_sweeps PlainRun.record_of
-    Initialize.with_signs Initialize.start_signs Objective.obj_of Oracle.work_objective Vectors.multiplied Vectors.projected
-    Finalize.floor_eighths Finalize.float_bound Finalize.diagonal_total Finalize.rounded_cost Finalize.searched_choice Finalize.searched_cost Finalize.searched_rounds
-    Finalize.choice_of Finalize.rounded_signs Finalize.search_result
-    of_bits to_bits of_int of_fields odd climb size span add sub mul div neg lt le Sqrt.sqrt_of Floats.eighth_of Sum.sum Sum.sum₂ Rows.map_first Turns.up_to
-    Lists.any_below Lists.tabulate Lists.kept Table.share Table.least Table.value_at Table.stored_at Flip.flip_change Cost.cost_eighths Cost.decoded_byte Bound.bound_term Bound.bound_sum
-    Bound.magnitude_sum Bound.margin Bound.entrywise SignTable.absorbed SignTable.sign_value Stored.row_places Stored.places SignTable.sign_kept SignTable.sign_places
-    Norms.dot_to Norms.dot_of Norms.sum_to Norms.sum_of Vectors.add_scaled Vectors.added Vectors.divided Vectors.unit Multiply.product_row Multiply.product_of
-    Prepared.sets_aside Prepared.prepared_rows Prepared.prepared_cols Prepared.prepared_values Prepared.row_start Prepared.work_starts Prepared.diagonal_of Prepared.diagonal_sum
-    Rounding.draw_signs Rounding.first_least Rounding.rounded_sol Search.objective_in Search.change_in Search.height_in Search.beam_search
-    LocalSearch.insert LocalSearch.insert_all LocalSearch.stable_sort LocalSearch.best LocalSearch.concat LocalSearch.children_of LocalSearch.next_level LocalSearch.levels
-    LocalSearch.found_in LocalSearch.searched Level.flip_byte Level.flip_sign SignSearch.improving SignSearch.sign_search
-worked = refl
 
 -- 02, Note 1: the hall of choice 1,0 with wagon 0 pinned to 0; with wagon 0 pinned to 0 and wagon 1 to 1; in version 2 without a pin; and no wagons
 -- in version 2
-pub worked_pins :
+abbrev pub WorkedPins : Type 0
+WorkedPins =
     ((answer_of pinned).bytes
     ∷ (answer_of all_pinned).bytes
     ∷ (answer_of none_pinned).bytes
@@ -140,7 +122,10 @@ pub worked_pins :
     ∷ ((0 ∷ 0 ∷ 0 ∷ 0x3A ∷ 1 ∷ 0 ∷ 3 ∷ 2 ∷ replicate 12 0) ++ (0xBF ∷ 0xF8 ∷ 0 ∷ 0 ∷ 0 ∷ 0 ∷ 0 ∷ 0xA0 ∷ []) ++ below 0xF4 ++ replicate 8 0 ++ below 0xF8 ++ rounds 1 ++ (1 ∷ 0 ∷ []))
     ∷ (0 ∷ 0 ∷ 0 ∷ 0x38 ∷ 1 ∷ 0 ∷ 1 ∷ replicate 53 0)
     ∷ [])
-unfolding pinned all_pinned none_pinned no_wagons
+
+-- computed at once, since the computation opens the same definitions
+computed : Worked × WorkedPins
+unfolding example empty third pinned all_pinned none_pinned no_wagons
     Record.job_costs Record.reduced_costs Record.run_costs Record.pinned_cost Record.job_fields Record.whole_choice Record.job_settings Record.job_draws Record.opened Record.stopped Record.job_result Record.job_choice Record.answer_of
     Pinned.free_of Pinned.held_byte Pinned.beside_held Pinned.free_costs Pinned.held_cost Pinned.lifted Submatrix.reduced_places
     Bytes.big_endian Encode.bytes_of Answer.frame_bytes Answer.count_bytes Answer.float_bytes Answer.eighth_bytes Answer.answer_bytes
@@ -159,4 +144,10 @@ unfolding pinned all_pinned none_pinned no_wagons
     Rounding.draw_signs Rounding.first_least Rounding.rounded_sol Search.objective_in Search.change_in Search.height_in Search.beam_search
     LocalSearch.insert LocalSearch.insert_all LocalSearch.stable_sort LocalSearch.best LocalSearch.concat LocalSearch.children_of LocalSearch.next_level LocalSearch.levels
     LocalSearch.found_in LocalSearch.searched Level.flip_byte Level.flip_sign SignSearch.improving SignSearch.sign_search
-worked_pins = refl
+computed = (refl, refl)
+
+pub worked : Worked
+worked = computed.0
+
+pub worked_pins : WorkedPins
+worked_pins = computed.1

@@ -1,6 +1,5 @@
 -- A run that makes as many sweeps as it has left is stopped, and its record is sound all along. Assumes nothing.
---     ends           after sweeps up to the most
---     sweeps-long    sweeps keep the factor's length
+--     ends    after sweeps up to the most
 use Prim.Native.Nat.{ℕ, zero, suc, ◌+◌, ◌*◌, ◌≤◌, ◌<◌}
 use mathlib.Core.Path.{◌≡◌, refl, sym, subst, ◌∙◌}
 use mathlib.Core.Bool.{Bool, true, false, ◌&&◌, cond}
@@ -22,7 +21,6 @@ use Rattle.run_sweep.specs.Work.{Work}
 use Rattle.run_sweep.specs.Sweep.{State, while_open, check_due, absolute, stop_status, new_objective, settled_at, status_found, status_after, advanced, run_after, swept_once, standing_once, sweeps_up_to}
 use Rattle.run_sweep.specs.Running.{Running}
 use Rattle.run_sweep.proofs.Loop.{running_after}
-use Rattle.run_contract.proofs.Lengths.{length_stepped}
 
 -- a record of this size, rank, rule and most that a call doesn't refuse
 pub record Sound (size rank : ℕ) (rule : StepRule) (most : ℕ) (run : Run) : Type 0 where
@@ -109,16 +107,3 @@ module _ {size rank : ℕ} {rule : StepRule} {most : ℕ} where
           → Ended size rank rule most (while_open stage next (record { run = run; factor = factor })).run
       go Open e next h = h (left.sweep_left (subst (λ (x : Stage). is_stopped x ≡ false) (sym e) refl))
       go Stopped e next h = record { sound = s; is_stopped_lem = subst (λ (x : Stage). is_stopped x ≡ true) (sym e) refl; total_few = left.standing_few }
-
--- sweeps keep the factor's length
-pub sweeps_long : (k : ℕ) (w : Work) (run : Run) (factor : List Float) → length (sweeps_up_to k w run factor).factor ≡ length factor
-unfolding sweeps_up_to
-sweeps_long zero w run factor = refl
-sweeps_long (suc k) w run factor =
-    go run.stage (sweeps_up_to k w (run_after run w (swept_once w run factor) (standing_once w run factor)) (swept_once w run factor))
-    (sweeps_long k w (run_after run w (swept_once w run factor) (standing_once w run factor)) (swept_once w run factor)
-    ∙ length_stepped run.rule w.rows w.cols w.values w.starts run.size run.rank factor)
-  where
-    go : (stage : Stage) (next : State) → length next.factor ≡ length factor → length (while_open stage next (record { run = run; factor = factor })).factor ≡ length factor
-    go Open next e = e
-    go Stopped next e = refl

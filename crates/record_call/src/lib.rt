@@ -1,4 +1,5 @@
 // The record call: a job's bytes in, the answer's bytes and a number out (01, "Job and answer records").
+// Arrays have a fixed size: no heap, a rule of the project (limits/src/lib.rt).
 #![tactic(auto)]
 
 mod run; // run.rt: an accepted job's open, sweeps and finish
@@ -19,7 +20,8 @@ use refusal::Refusal;
 use run::job_answer;
 
 // The answer record of an accepted job, whose H and c stand at the fronts of the slices. The search has a level of words of its own; the
-// workspace holds the choice.
+// workspace holds the choice. `workspace` and `answer` stay two `&mut`s, as the C interface hands them over, here and in wagonplan: a struct of the two would add
+// a clause that each keeps its name to each function that takes both.
 fn answer_job(
     job: &[u8],
     rows: &[u16],
@@ -37,7 +39,7 @@ fn answer_job(
     write_answer(answer, fields, workspace);
 }
 
-// The call with slices that are long enough. H and c are read once, into arrays, as the job is judged.
+// The call with slices that are long enough. H and c are read once, into arrays, as the job is judged: four arrays, since a table is three slices, as the C interface has it, and c is one.
 fn answer_judged(job: &[u8], workspace: &mut [u8], answer: &mut [u8]) -> Result<(), Refusal>
     requires { (least_workspace ≤ length workspace.old) × (least_answer ≤ length answer.old) }
     ensures { Answers job.now workspace.old answer.old (numbered result) workspace.new answer.new }

@@ -1,15 +1,16 @@
 // The run of an accepted job: its open, a sweep up to its most, its finish; on the free wagons where wagons are pinned.
-ghost use Rattle.std.specs.Prelude.{◌≡◌, ◌+◌, ◌*◌, ◌≤◌, ◌<◌, length};
-ghost use Rattle.laws.specs.Lists.{over};
-ghost use Rattle.tables.specs.Stored.{Room};
+// Arrays have a fixed size: no heap, a rule of the project (limits/src/lib.rt).
+ghost use Rattle.std.specs.Prelude.{◌≡◌, ◌≤◌, ◌<◌, length, take};
+ghost use Rattle.tables.specs.CostTable.{cost_table};
 ghost use Rattle.tables.specs.Lent.{costs_of};
-ghost use Rattle.limits.specs.Limits.{most_wagons, most_entries, most_signs, most_drawn, search_workspace};
-ghost use Rattle.run_contract.specs.Calls.{open_size, open_rank};
+ghost use Rattle.tables.specs.Stored.{Room};
+ghost use Rattle.tables.specs.Table.{Lent};
+ghost use Rattle.limits.specs.Limits.{most_wagons, most_entries, most_signs, most_drawn};
 ghost use Rattle.run_contract.specs.PlainRun.{record_of};
 ghost use Rattle.job_record.specs.Number.{job_number};
 ghost use Rattle.job_record.specs.Values.{job_states, values_in, job_of, job_drawn};
-ghost use Rattle.record_call.specs.Record.{run_costs, job_settings, job_draws, stopped, job_result, job_choice, fields_of, job_fields, whole_choice};
-ghost use Rattle.record_call.specs.Decoded.{Decoded, AtFronts, OwnCosts, FreeRun, FiguresFit};
+ghost use Rattle.record_call.specs.Record.{run_costs, job_draws, stopped, fields_of};
+ghost use Rattle.record_call.specs.Decoded.{Decoded, AtFronts, OwnCosts, RoomFor, factor_size, RunFinished, JobAnswered, FreeRun, FiguresFit};
 
 use answer_record::answer::Answer;
 use job_record::job::{
@@ -25,8 +26,7 @@ use run_record::{OpenSettings, Run};
 use sdp_solver::finish::finish_accepted;
 use sdp_solver::open::open_accepted;
 use sdp_solver::sweep::sweep_accepted;
-use tables::entries::Entries;
-use tables::judged::JudgedHall;
+use tables::checked::judged_hall;
 use tables::lent::{LentHall, LentTable};
 
 // Entries of a table for which small arrays do.
@@ -59,10 +59,28 @@ struct PinnedJob<'a> {
     ghost states_are: { states.now ≡ job_states own.record.bytes.now },
 }
 
-// The job's open and, where its most is above 0, a sweep up to the most.
+// (H, c) at the fronts of slices, cut from there.
+fn cut_hall(hall: LentHall) -> LentHall
+    requires { let t = hall.table in Lent t.count t.rows.now t.cols.now t.values.now × (t.size ≤ length hall.c.now) }
+    ensures { let t = hall.entry.table in costs_of result ≡ cost_table t.size t.count (take t.count t.rows.now) (take t.count t.cols.now) (take t.count t.values.now) (take t.size hall.entry.c.now) }
+{
+    let t = hall.table;
+    LentHall {
+        table: LentTable {
+            rows: &t.rows[..t.count],
+            cols: &t.cols[..t.count],
+            values: &t.values[..t.count],
+            ..t
+        },
+        c: &hall.c[..t.size],
+    }
+}
+
+// The job's open and, where its most is above 0, a sweep up to the most. The settings are copied field by field: a `From` between job_record's Job and run_record's OpenSettings would be
+// an orphan impl here, and neither of these two crates has the other below it.
 fn run_job(job: RunJob, factor: &mut [f64]) -> Run
-    requires { length factor.old ≡ open_size (job_settings (run_costs job.record.bytes.now) job.record.bytes.now) * open_rank (job_settings (run_costs job.record.bytes.now) job.record.bytes.now) }
-    ensures { (result ≡ record_of (stopped (run_costs job.entry.record.bytes.now) job.entry.record.bytes.now)) × (factor.new ≡ (stopped (run_costs job.entry.record.bytes.now) job.entry.record.bytes.now).factor) }
+    requires { length factor.old ≡ factor_size job.record.bytes.now }
+    ensures { let s = job.entry.record.bytes.now in (result ≡ record_of (stopped (run_costs s) s)) × (factor.new ≡ (stopped (run_costs s) s).factor) }
 {
     let j = job.settings;
     let run = open_accepted(
@@ -96,9 +114,8 @@ fn finish_run(
     workspace: &mut [u64],
 ) -> FinishResult
     requires { (draws.now ≡ job_draws job.record.bytes.now)
-        × (length factor.old ≡ open_size (job_settings (run_costs job.record.bytes.now) job.record.bytes.now) * open_rank (job_settings (run_costs job.record.bytes.now) job.record.bytes.now))
-        × (most_wagons ≤ length b.old) × (most_signs ≤ length dual.old) × (search_workspace ≤ length workspace.old) }
-    ensures { (result ≡ job_result (run_costs job.entry.record.bytes.now) job.entry.record.bytes.now) × (b.new ≡ over (job_choice (run_costs job.entry.record.bytes.now) job.entry.record.bytes.now) b.old) }
+        × (length factor.old ≡ factor_size job.record.bytes.now) × (most_signs ≤ length dual.old) × RoomFor b.old workspace.old }
+    ensures { RunFinished job.entry.record.bytes.now b.old result b.new }
 {
     let j = job.settings;
     let run = run_job(job, factor);
@@ -119,8 +136,8 @@ fn finish_run(
 
 // The same, with room for the factor and the multipliers.
 fn finish_job(job: RunJob, draws: &[f64], b: &mut [u8], workspace: &mut [u64]) -> FinishResult
-    requires { (draws.now ≡ job_draws job.record.bytes.now) × (most_wagons ≤ length b.old) × (search_workspace ≤ length workspace.old) }
-    ensures { (result ≡ job_result (run_costs job.entry.record.bytes.now) job.entry.record.bytes.now) × (b.new ≡ over (job_choice (run_costs job.entry.record.bytes.now) job.entry.record.bytes.now) b.old) }
+    requires { (draws.now ≡ job_draws job.record.bytes.now) × RoomFor b.old workspace.old }
+    ensures { RunFinished job.entry.record.bytes.now b.old result b.new }
 {
     let mut factor = [0.0f64; MOST_FACTOR];
     let mut dual = [0.0f64; MOST_SIGNS];
@@ -140,6 +157,7 @@ fn drawn_numbers(job: AcceptedJob, draw_count: usize) -> usize
 }
 
 // The fields of an answer: n of all wagons, the constant added. Field by field: in 01 they stand in another order and with narrower numbers than the result of a finish.
+// Rank and n are below 256, so `as` loses nothing: a `try_from` would need a number to give where it fails, which it never does.
 fn fields_of(n: usize, constant: i64, x: FinishResult) -> Answer
     requires { (n < 256) × (x.rank < 256) × FiguresFit constant x }
     ensures { result ≡ fields_of n constant x }
@@ -167,9 +185,8 @@ fn finish_read(
     b: &mut [u8],
     workspace: &mut [u64],
 ) -> FinishResult
-    requires { (values_in j ≡ job_of job.bytes.now) × (costs_of hall ≡ run_costs job.bytes.now)
-        × (most_wagons ≤ length b.old) × (search_workspace ≤ length workspace.old) }
-    ensures { (result ≡ job_result (run_costs job.entry.bytes.now) job.entry.bytes.now) × (b.new ≡ over (job_choice (run_costs job.entry.bytes.now) job.entry.bytes.now) b.old) }
+    requires { (values_in j ≡ job_of job.bytes.now) × (costs_of hall ≡ run_costs job.bytes.now) × RoomFor b.old workspace.old }
+    ensures { RunFinished job.entry.bytes.now b.old result b.new }
 {
     let mut start = [0.0f64; MOST_START];
     let mut draws = [0.0f64; MOST_DRAWN];
@@ -188,7 +205,8 @@ fn finish_read(
 
 // The fields of a job with pins: H and c are reduced into the slices `to_rows` to `to_c`, where the run is; the free wagons and their choice go over the
 // fronts of `free` and `chosen`.
-// `to_rows` to `to_c` stay apart: a struct of `&mut`s adds a clause on the ghost name of each (tried on `put_slot` of reduced), and `reduce` takes them apart too.
+// `to_rows` to `to_c` stay apart, and in the whole file so do the slices for a choice (`b`, or `free` and `chosen`) and the workspace, though `RoomFor` speaks of two of them: a struct of
+// `&mut`s adds a clause on the ghost name of each (tried on `put_slot` of reduced), and `reduce` and `finish_accepted` take them apart too.
 fn finish_reduced<'a>(
     pinned: PinnedJob,
     free: &mut [u16],
@@ -199,27 +217,14 @@ fn finish_reduced<'a>(
     to_values: &'a mut [i64],
     to_c: &'a mut [i64],
 ) -> Answer
-    requires { (most_wagons ≤ length free.old) × (most_wagons ≤ length chosen.old) × (search_workspace ≤ length workspace.old)
+    requires { (most_wagons ≤ length free.old) × RoomFor chosen.old workspace.old
         × Room 0 pinned.own.hall.table.count to_rows.old to_cols.old to_values.old × (most_wagons ≤ length to_c.old) }
     ensures { FreeRun pinned.entry.own.record.bytes.now free.old chosen.old result free.new chosen.new }
 {
     let job = pinned.own;
     let j = job.settings;
-    let hall = job.hall;
-    let table = hall.table;
-    let entries = Entries {
-        count: table.count,
-        rows: table.rows,
-        cols: table.cols,
-        values: table.values,
-    };
-    let judged = JudgedHall {
-        n: table.size,
-        table: entries,
-        c: hall.c,
-    };
     let t = reduce(
-        judged,
+        judged_hall(job.hall),
         pinned.states,
         free,
         to_rows,
@@ -227,19 +232,17 @@ fn finish_reduced<'a>(
         to_values,
         to_c,
     );
-    let count = t.count;
-    let some = t.free;
-    let free_hall = LentHall {
+    let made = LentHall {
         table: LentTable {
-            size: some,
-            count,
-            rows: &to_rows[..count],
-            cols: &to_cols[..count],
-            values: &to_values[..count],
+            size: t.free,
+            count: t.count,
+            rows: to_rows,
+            cols: to_cols,
+            values: to_values,
         },
-        c: &to_c[..some],
+        c: to_c,
     };
-    let x = finish_read(job.record, j, free_hall, chosen, workspace);
+    let x = finish_read(job.record, j, cut_hall(made), chosen, workspace);
     fields_of(j.n, t.constant, x)
 }
 
@@ -250,7 +253,7 @@ fn finish_within<const N: usize>(
     chosen: &mut [u8],
     workspace: &mut [u64],
 ) -> Answer
-    requires { (most_wagons ≤ length free.old) × (most_wagons ≤ length chosen.old) × (search_workspace ≤ length workspace.old) × (pinned.own.hall.table.count ≤ N) × (N ≤ most_entries) }
+    requires { (most_wagons ≤ length free.old) × RoomFor chosen.old workspace.old × (pinned.own.hall.table.count ≤ N) × (N ≤ most_entries) }
     ensures { FreeRun pinned.entry.own.record.bytes.now free.old chosen.old result free.new chosen.new }
 {
     let mut to_rows = [0u16; N];
@@ -276,7 +279,7 @@ fn finish_pinned(
     chosen: &mut [u8],
     workspace: &mut [u64],
 ) -> Answer
-    requires { (most_wagons ≤ length free.old) × (most_wagons ≤ length chosen.old) × (search_workspace ≤ length workspace.old) }
+    requires { (most_wagons ≤ length free.old) × RoomFor chosen.old workspace.old }
     ensures { FreeRun pinned.entry.own.record.bytes.now free.old chosen.old result free.new chosen.new }
 {
     let hall = pinned.own.hall;
@@ -289,8 +292,8 @@ fn finish_pinned(
 
 // The answer of a job with pins: its fields, and over the front of b the choice of the free wagons with the pinned ones in their stores.
 fn pinned_answer(job: OwnJob, b: &mut [u8], workspace: &mut [u64]) -> Answer
-    requires { (most_wagons ≤ length b.old) × (search_workspace ≤ length workspace.old) }
-    ensures { (result ≡ job_fields job.entry.record.bytes.now) × (b.new ≡ over (whole_choice job.entry.record.bytes.now) b.old) }
+    requires { RoomFor b.old workspace.old }
+    ensures { JobAnswered job.entry.record.bytes.now b.old result b.new }
 {
     let mut states = [FREE; MOST_WAGONS];
     let mut free = [0u16; MOST_WAGONS];
@@ -310,8 +313,8 @@ fn pinned_answer(job: OwnJob, b: &mut [u8], workspace: &mut [u64]) -> Answer
 
 // The answer over H and c; where no wagon is pinned the run is on them as they are.
 fn costs_answer(job: OwnJob, b: &mut [u8], workspace: &mut [u64]) -> Answer
-    requires { (most_wagons ≤ length b.old) × (search_workspace ≤ length workspace.old) }
-    ensures { (result ≡ job_fields job.entry.record.bytes.now) × (b.new ≡ over (whole_choice job.entry.record.bytes.now) b.old) }
+    requires { RoomFor b.old workspace.old }
+    ensures { JobAnswered job.entry.record.bytes.now b.old result b.new }
 {
     let j = job.settings;
     if j.pins != 0 {
@@ -331,27 +334,25 @@ pub fn job_answer<'a>(
     b: &mut [u8],
     workspace: &mut [u64],
 ) -> Answer
-    requires { AtFronts job.now rows.now cols.now values.now c.now × (most_wagons ≤ length b.old) × (search_workspace ≤ length workspace.old) }
-    ensures { (result ≡ job_fields job.now) × (b.new ≡ over (whole_choice job.now) b.old) }
+    requires { AtFronts job.now rows.now cols.now values.now c.now × RoomFor b.old workspace.old }
+    ensures { JobAnswered job.now b.old result b.new }
 {
     let record = AcceptedJob { bytes: job };
     let j = job_of(record);
-    let n = j.n;
-    let count = j.count;
-    let hall = LentHall {
+    let stored = LentHall {
         table: LentTable {
-            size: n,
-            count,
-            rows: &rows[..count],
-            cols: &cols[..count],
-            values: &values[..count],
+            size: j.n,
+            count: j.count,
+            rows,
+            cols,
+            values,
         },
-        c: &c[..n],
+        c,
     };
     let own = OwnJob {
         record,
         settings: j,
-        hall,
+        hall: cut_hall(stored),
     };
     costs_answer(own, b, workspace)
 }

@@ -1,4 +1,5 @@
 // Number 20: the original size, the map and the fixed indices. Nothing here is written but a local array.
+// Arrays have a fixed size: no heap, a rule of the project (limits/src/lib.rt).
 ghost use Rattle.std.specs.Prelude.{◌≡◌};
 ghost use Rattle.laws.specs.Refusal.{◌if◌};
 ghost use Rattle.refusal.specs.Number.{numbered};

@@ -12,7 +12,8 @@ use crate::indices::{Indices, index_refusal};
 use limits::MOST_SIZE;
 use refusal::Refusal;
 
-// 0.0 at the first places: a function, so that `put_lifted` sees our `fill` and not what the library says of a part of a slice.
+// 0.0 at the first places: a function, so that `put_lifted` sees our `fill` and not what the library says of a part of a slice. `clear` of sign_search is
+// the same of i64: one for both would be a generic one in a crate below both, with a third contract for one line.
 fn clear(size: usize, lifted: &mut [f64])
     requires { size ≤ length lifted.old }
     ensures { lifted.new ≡ fill (λ _. zero64) size lifted.old }

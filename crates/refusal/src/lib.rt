@@ -30,7 +30,7 @@ pub enum Refusal {
 }
 
 impl Refusal {
-    // The number that C sees.
+    // The number that C sees; `as` is the one way from a case to its number.
     pub fn number(self) -> u8
         ensures { result ≡ number_of self }
     {

@@ -1,6 +1,7 @@
 // The rounding of draws: each draw's signs, and the first draw of least objective (002, `compute_rounded_sol`). The factor, its rank and m stay three
-// parameters: as one value, as tried in factor's `multiply`, each clause says `rows.entry.factor.now rows.entry.rank rows.entry.m` for `factor.now rank m`,
-// for one `m * rank ≤ length factor.now` less. The signs of a draw are written where they are cut (factor/src/rows.rt says why).
+// parameters. As one value, each of six functions has one `m * rank ≤ length factor.now` less, and a `let s = self.entry in` in each of eight `ensures`, `self.rank`
+// and `self.m` in the clauses that stay, and its callers in two crates make the value first. `direction` is a slice: it is as long as the rank, which a type of it
+// would have beside it, and each contract would say that both ranks are one. `InRange` and the magnitude stay clauses, as at tables/src/objective.rt.
 #![tactic(auto)]
 
 ghost use Rattle.std.specs.Prelude.{◌≡◌, ◌++◌, ◌+◌, ◌*◌, ◌≤◌, length, drop};
@@ -14,14 +15,14 @@ ghost use Rattle.tables.specs.Table.{InRange, magnitude_of};
 ghost use Rattle.rounding.specs.Rounding.{plus_byte, rounded_sign, draw_signs, signs_of, rounded_sols, draw_objective, rounded_sol, rounded_objective};
 ghost use Rattle.tables.specs.Entries.{listed};
 
-use factor::rows::{copy, normalize, row};
+use factor::rows::{at_row, copy, normalize, row};
 use factor::sums::dot;
 use local_search::least::keep_better;
 use run_limits::Draws;
 use tables::entries::Entries;
 use tables::objective::obj_rounded;
 
-// A sign's byte: 0 is +, 1 is −.
+// A sign's byte: 0 is +, 1 is −. No `u8::from`: it would be of `!(product > 0.0)`, which isn't `product <= 0.0`, since a NaN is −.
 fn sign_byte(product: f64) -> u8
     ensures { result ≡ plus_byte (Ieee.lt zero64 product) }
 {
@@ -56,7 +57,7 @@ pub fn round_draw(
     set_signs(factor, direction, rank, m, signs);
 }
 
-// The signs of draw k, written as the part of `sols` that starts at k × m.
+// The signs of draw k, written as row k of `sols`.
 fn round_at(
     factor: &[f64],
     rank: usize,
@@ -69,15 +70,12 @@ fn round_at(
     requires { (m * rank ≤ length factor.now) × (k * rank + rank ≤ length draws.now) × (length direction.old ≡ rank) × (k * m + m ≤ length sols.old) }
     ensures { sols.new ≡ set_row m sols.old k (signs_of factor.now rank m draws.now k) }
 {
-    let start = k * m;
-    let end = start + m;
-    round_draw(
-        factor,
-        row(draws, rank, k),
-        rank,
+    let draw = row(draws, rank, k);
+    at_row(
+        sols,
         m,
-        direction,
-        &mut sols[start..end],
+        k,
+        |signs| round_draw(factor, draw, rank, m, direction, signs),
     );
 }
 

@@ -5,7 +5,8 @@ ghost use Rattle.ieee.specs.Floats.{◌-ᶠ◌};
 
 use factor::term::Term;
 
-// The terms of the negated gradient of row `vertex`: every entry off the diagonal, subtracted.
+// The terms of the negated gradient of row `vertex`: every entry off the diagonal, subtracted. `Beside` in step_rules adds them. One type for both would have the operation as a parameter:
+// a trait of its own, with its law and two impls, for the two lines here that differ.
 #[derive(Clone, Copy)]
 pub struct Against {
     pub vertex: usize,

@@ -1,5 +1,5 @@
 // The gradient of a row for rules 3 and 4, each operation rounded once (001, `gradient_block`): by blocks of columns, whose sums stay in registers.
-// The row and the factor stay two parameters, and columns are widened by `as`, as in factor (block.rt says why).
+// The row and the factor stay two parameters, as in factor (block.rt says why).
 #![tactic(auto)]
 
 pub mod against; // against.rt: how an entry enters the sums of a gradient

@@ -19,7 +19,7 @@ fn subtract_rest(row: Row, factor: &[f64], vertex: usize, first: usize, sums: &m
 {
     let term = Against { vertex };
     for e in first..row.cols.len() {
-        let k = row.cols[e] as usize;
+        let k = usize::from(row.cols[e]);
         let start = k * 4;
         add_entry(term, sums, factor, k, row.values[e], start);
     }
@@ -40,8 +40,8 @@ pub fn gradients(row: Row, other: Row, factor: &[f64], vertex: usize, g: &mut [f
     let mut a = [0.0; 4];
     let mut b = [0.0; 4];
     for e in 0..both {
-        let k = row.cols[e] as usize;
-        let l = other.cols[e] as usize;
+        let k = usize::from(row.cols[e]);
+        let l = usize::from(other.cols[e]);
         let start = k * 4;
         let there = l * 4;
         add_entry(first, &mut a, factor, k, row.values[e], start);

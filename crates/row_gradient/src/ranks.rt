@@ -19,7 +19,7 @@ fn one_block<const N: usize>(row: Row, factor: &[f64], vertex: usize, g: &mut [f
     block::<Against, N>(Against { vertex }, row, factor, N, 0, g);
 }
 
-// The negated gradient of row `vertex` without its diagonal: one sum per column over the row's entries, in one go over them up to rank 24.
+// The negated gradient of row `vertex` without its diagonal: one sum per column over the row's entries, in one go over them at rank 1 and from 4 to 24.
 pub fn gradient(row: Row, factor: &[f64], vertex: usize, g: &mut [f64])
     requires { ColumnsWithin row.cols.now (length g.old) factor.now }
     ensures { g.new ≡ gradient_of row.entry.cols.now row.entry.values.now factor.now vertex (length g.old) }

@@ -39,7 +39,7 @@ pub fn two_blocks<const N: usize, const M: usize>(
     let mut low = [0.0; N];
     let mut high = [0.0; M];
     for e in 0..row.cols.len() {
-        let k = row.cols[e] as usize;
+        let k = usize::from(row.cols[e]);
         let start = k * rank;
         let there = start + second;
         add_entry(term, &mut low, factor, k, row.values[e], start);

@@ -11,7 +11,8 @@ use Rattle.limits.specs.Limits.{most_rank}
 use Rattle.laws.specs.Sum.{total}
 use Rattle.laws.proofs.Sums.{total_at}
 use Rattle.laws.proofs.Totals.{total_ext, total_scale}
-use Rattle.float_error.proofs.Errors.{Under, lt_square, whole, over, weaker, plus, through, then, product, relative, relative_right, squared}
+use Rattle.ieee.proofs.Squares.{lt_of_square}
+use Rattle.float_error.proofs.Errors.{Under, whole, over, weaker, plus, through, then, product, relative, relative_right, squared}
 
 totals : (e t n : ℕ) (f g : ℕ → ℕ) → ((j : ℕ) → j < n → Under e t (f j) (g j)) → Under e (n * t) (total n f) (total n g)
 unfolding total
@@ -83,7 +84,7 @@ module _ (U σ S N I n : ℕ) (G X : ℕ → ℕ) (g : Given U σ S N I n G X) w
   element j h =
       let one : G j * G j ≤ S = le_trans (total_at n j (λ i. G i * G i) h) (le_of_eq g.sum) in
       let is : G j * I * (G j * I) ≡ G j * G j * (I * I) = omega arith in
-      le_of_lt (lt_square (lt_of_le_of_lt (le_trans (le_of_eq is) (mul-le-mul_right (I * I) one)) (lt_of_lt_of_le four (omega arith))))
+      le_of_lt (lt_of_square (lt_of_le_of_lt (le_trans (le_of_eq is) (mul-le-mul_right (I * I) one)) (lt_of_lt_of_le four (omega arith))))
 
   unit : 2 ^ 50 * U ≤ 5 * (U * U)
   unit = omega (arith, mul-le-mul_right U g.wide)

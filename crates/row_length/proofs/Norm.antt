@@ -5,7 +5,7 @@ use mathlib.Core.Path.{◌≡◌, refl, sym, ap, ◌∙◌, subst}
 use mathlib.Core.Bool.{Bool, true, false}
 use mathlib.Core.List.{List}
 use Prim.Native.Nat.{ℕ, zero, suc, zero-le, ◌+◌, ◌-◌, ◌*◌, ◌/◌, ◌^◌, ◌≤◌, ◌<◌}
-use native.Mathlib.Nat.{add_assoc, le_refl, le_trans, le_of_eq, add-mul, mul_assoc, mul-le-mul_right, mul-le-mul_left, le_of_mul-le-mul_right, le_of_mul-le-mul_left, add-zero, add-suc, add-le-add}
+use native.Mathlib.Nat.{add_assoc, le_refl, le_trans, le_of_eq, add-mul, mul_assoc, mul-le-mul_right, mul-le-mul_left, le_of_mul-le-mul_right, le_of_mul-le-mul_left, add-zero, add-le-add}
 use native.Mathlib.Omega.{arith}
 use lib.Dec.{lit≤, lit<}
 use lib.Pow.{pow_pos}
@@ -13,6 +13,7 @@ use lib.Ieee.{Float, unlike}
 use lib.ListN.{length}
 use Rattle.limits.specs.Limits.{most_rank}
 use Rattle.laws.specs.Sum.{total}
+use Rattle.laws.proofs.Totals.{total_append}
 use Rattle.ieee.specs.Floats.{◌+ᶠ◌, ◌*ᶠ◌, at, zero64}
 use Rattle.ieee.specs.Nearest.{units_of}
 use Rattle.factor.specs.Norms.{lane_to, quads_of, add_squares_to, squared_norm}
@@ -96,11 +97,6 @@ module _ (Q : ℕ) (fine : Q ≤ 2 ^ 1200 * 2 ^ 1074) where
   none = record { r = 0; worth = worth_zero; most = record { le = lit≤ tt }; least = record { le = lit≤ tt }; small = zero-le }
 
 -- ---- sums in another order
-
-total_append : (m n : ℕ) (f : ℕ → ℕ) → total (m + n) f ≡ total m f + total n (λ i. f (m + i))
-unfolding total
-total_append m zero f = ap (λ (k : ℕ). total k f) (add-zero m) ∙ sym (add-zero (total m f))
-total_append m (suc n) f = rw (add-suc m n) (omega (arith, total_append m n f))
 
 by_fours : (q : ℕ) (f : ℕ → ℕ) → total q (λ i. f (4 * i + 0)) + total q (λ i. f (4 * i + 1)) + (total q (λ i. f (4 * i + 2)) + total q (λ i. f (4 * i + 3))) ≡ total (4 * q) f
 unfolding total

@@ -15,7 +15,8 @@ use Rattle.ieee.specs.Sqrt.{sqrt_of}
 use Rattle.ieee.specs.Scale.{radicand}
 use Rattle.ieee.specs.Nearest.{units_of, Nearer, NearestRoot}
 use Rattle.ieee.proofs.Nearest.{sqrt_nearest}
-use Rattle.float_error.proofs.Errors.{Under, lt_square, whole, over, weaker, then, product, relative, relative_right}
+use Rattle.ieee.proofs.Squares.{lt_of_square}
+use Rattle.float_error.proofs.Errors.{Under, whole, over, weaker, then, product, relative, relative_right}
 use Rattle.float_error.proofs.Rounded.{Near, round_near}
 use Rattle.float_error.proofs.Values.{Worth, own_units, units_are, is_finite, sign_of}
 
@@ -45,10 +46,10 @@ record Between (w Y N : ℕ) : Type 0 where
 
 between : (n w Y N : ℕ) → w * w ≤ n → n < suc w * suc w → Nearer n N Y → Between w Y N
 between n w Y N u o c = ⊎_elim
-    (λ h. let more : 2 * w < N + Y = lt_square (lt_of_le_of_lt (omega (arith, u)) (c.than_above h)) in record { up = inl (omega arith); lo = inr (omega arith) })
+    (λ h. let more : 2 * w < N + Y = lt_of_square (lt_of_le_of_lt (omega (arith, u)) (c.than_above h)) in record { up = inl (omega arith); lo = inr (omega arith) })
     (λ h. ⊎_elim
     (λ e. record { up = inl (omega (arith, e)); lo = inl (omega arith) })
-    (λ l. let less : N + Y < 2 * suc w = lt_square (lt_of_lt_of_le (c.than_below l) (omega (arith, o))) in record { up = inr (omega arith); lo = inl (omega arith) })
+    (λ l. let less : N + Y < 2 * suc w = lt_of_square (lt_of_lt_of_le (c.than_below l) (omega (arith, o))) in record { up = inr (omega arith); lo = inl (omega arith) })
     (eq-or-lt_of_le h))
     (below_or_not N Y)
 
@@ -120,10 +121,10 @@ plain (fin false m e) p = refl
 long : (u w : ℕ) → 0 < u → u * 2 ^ 1074 < suc w * suc w → 2 ^ 53 ≤ w
 long u w p o =
     let far : 2 ^ 53 * 2 ^ 53 < suc w * suc w = lt_of_le_of_lt (le_trans (pow_mono {i = 106} {j = 1074} (lit≤ tt)) (mul-le-mul_right (2 ^ 1074) p)) o in
-    le_of_suc-le-suc (lt_square {a = 2 ^ 53} far)
+    le_of_suc-le-suc (lt_of_square {a = 2 ^ 53} far)
 
 short : (u w : ℕ) → u ≤ 2 ^ 1000 * 2 ^ 1074 → w * w ≤ u * 2 ^ 1074 → w ≤ 2 ^ 1000 * 2 ^ 1074
-short u w h l = le_of_lt (lt_square {b = 2 ^ 1000 * 2 ^ 1074} (lt_of_le_of_lt (le_trans l (mul-le-mul_right (2 ^ 1074) h)) (lit< tt)))
+short u w h l = le_of_lt (lt_of_square {b = 2 ^ 1000 * 2 ^ 1074} (lt_of_le_of_lt (le_trans l (mul-le-mul_right (2 ^ 1074) h)) (lit< tt)))
 
 pub root_near : {x : Float} {u : ℕ} → T (fits binary64 x) → Worth x false u → 0 < u → u ≤ 2 ^ 1000 * 2 ^ 1074 → RootOf (sqrt_of x) u
 unfolding radicand

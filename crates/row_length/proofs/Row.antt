@@ -27,7 +27,8 @@ use Rattle.ieee.specs.Sqrt.{sqrt_of}
 use Rattle.ieee.specs.Nearest.{units_of}
 use Rattle.factor.specs.Norms.{quads_of, add_squares_to, squared_norm}
 use Rattle.coordinate_sweep.specs.Sweep.{exact_row, wrote}
-use Rattle.float_error.proofs.Errors.{Under, lt_square, whole}
+use Rattle.ieee.proofs.Squares.{lt_of_square}
+use Rattle.float_error.proofs.Errors.{Under, whole}
 use Rattle.float_error.proofs.Values.{Worth, worth_one, AtMost, at_most, units_are, is_finite, Product, mul_near, Quotient, div_near}
 use Rattle.row_length.proofs.Root.{RootOf, root_near}
 use Rattle.row_length.proofs.Norm.{Entry, square_at, NormOf, norm_near}
@@ -83,7 +84,7 @@ norm_fits v = rest_fits v (4 * (length v / 4)) (quads_of v (length v / 4)) (leng
 -- a root is far below what would overflow
 root_low : (σ N : ℕ) → σ ≤ 2 ^ 1000 * 2 ^ 1074 → Under 13 0 (N * N) (σ * 2 ^ 1074) → N ≤ 2 ^ 1000 * 2 ^ 1074
 root_low σ N h u =
-    le_of_lt (lt_square {b = 2 ^ 1000 * 2 ^ 1074}
+    le_of_lt (lt_of_square {b = 2 ^ 1000 * 2 ^ 1074}
     (lt_of_le_of_lt (whole 0 (lit≤ tt) u) (lt_of_le_of_lt (add-le-add (mul-le-mul_left 2 (mul-le-mul_right (2 ^ 1074) h)) (le_refl 0)) (lit< tt))))
 
 inverse_low : (I N : ℕ) → 2 ^ 900 ≤ N → Under 1 (2 ^ 50 * N) (I * N) (2 ^ 1074 * 2 ^ 1074) → I ≤ 2 ^ 1249 + 1
@@ -96,7 +97,7 @@ inverse_low I N h u =
     join k N = omega arith
 
 entry_low : (Q G : ℕ) → Q ≤ 2 ^ 1200 * 2 ^ 1074 → G * G ≤ Q → G ≤ 2 ^ 1200
-entry_low Q G h k = le_of_lt (lt_square {b = 2 ^ 1200} (lt_of_le_of_lt (le_trans k h) (lit< tt)))
+entry_low Q G h k = le_of_lt (lt_of_square {b = 2 ^ 1200} (lt_of_le_of_lt (le_trans k h) (lit< tt)))
 
 -- ---- the row
 
@@ -181,7 +182,7 @@ module _ (Q : ℕ) (fine : Q ≤ 2 ^ 1200 * 2 ^ 1074) (g : List Float) (all : (j
         let one : square_at made j ≤ total (length made) (square_at made) = total_at (length made) j (square_at made) (rw new_length h) in
         let worth : Worth (at made j) (unlike (all j h).sign false) (p j h).r = subst (λ (x : Float). Worth x (unlike (all j h).sign false) (p j h).r) (sym (new_at j h)) (p j h).worth in
         at_most (2 * 2 ^ 1074) worth
-        (le_trans (le_of_eq (sym (units_are worth))) (le_of_lt (lt_square (lt_of_le_of_lt one (bound (total (length made) (square_at made)) (2 ^ 1074) (pow_pos 1074) row_unit.most)))))
+        (le_trans (le_of_eq (sym (units_are worth))) (le_of_lt (lt_of_square (lt_of_le_of_lt one (bound (total (length made) (square_at made)) (2 ^ 1074) (pow_pos 1074) row_unit.most)))))
       where
         bound : (z u : ℕ) → 0 < u → 2 ^ 40 * z ≤ 2 ^ 40 * (u * u) + u * u → z < 2 * u * (2 * u)
         bound z u p h =

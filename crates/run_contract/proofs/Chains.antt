@@ -19,8 +19,7 @@ use Rattle.step_rules.specs.Rule.{rule_of}
 use Rattle.run_sweep.specs.Work.{call_work}
 use Rattle.run_sweep.specs.Sweep.{sweeps_up_to}
 use Rattle.float_bound.specs.Below.{AtMostEighths}
-use Rattle.finalize.specs.Finalize.{cost_of, diagonal_total}
-use Rattle.finalize.specs.Clauses.{Finalizes}
+use Rattle.finalize.specs.Finalize.{cost_of}
 use Rattle.finalize.specs.Demand3.{Demand3}
 use Rattle.finalize.proofs.Demand3.{demand3}
 use Rattle.run_contract.specs.declared.FinishResult.{FinishResult}
@@ -29,6 +28,7 @@ use Rattle.run_contract.specs.PlainRun.{FinishCall, Call, sweep, finish, exchang
 use Rattle.run_contract.specs.Chain.{Lends, kept_after, Sized, Chain, ends, sweeps, finishes, exchanges}
 use Rattle.run_contract.proofs.Accepting.{HallOf, finish_accepted}
 use Rattle.run_contract.proofs.Bounded.{bounded}
+use Rattle.run_contract.proofs.Finalized.{finalized}
 
 -- a slice of any length can be lent
 abbrev pub lent_of : List Float → ℕ → List Float
@@ -79,19 +79,7 @@ module _ (run : Run) (t : CostTable) (width draw_count : ℕ) (draws factor : Li
   keeps_demand : HallOf t → 1 ≤ width → Kept result
   unfolding finish_result
   keeps_demand hall w =
-      let finalizes : Finalizes t.n (quadratic t) (linear t) run.rank width draw_count draws v b choice dual (over (finish_multipliers run t v) dual)
-      (diagonal_total t.n (quadratic t) (linear t)) result.float_bound result.floor result.rounded_cost result.cost result.rounds =
-      record {
-        diagonal_is = refl;
-        bound_is = refl;
-        floor_is = refl;
-        rounded_is = refl;
-        cost_is = refl;
-        rounds_are = refl;
-        choice_is = refl;
-        multipliers_are = refl;
-      } in
-      demand3 hall run.rank v draws draw_count width w finalizes
+      demand3 hall run.rank v draws draw_count width w (finalized t.n (quadratic t) (linear t) run.rank v draws draw_count width b dual)
 
   keeps_under : HallOf t → (b'' : List ℕ) → AtMostEighths result.float_bound (cost_of t.n (quadratic t) (linear t) b'')
   unfolding finish_result

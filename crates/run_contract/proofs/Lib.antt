@@ -1,5 +1,6 @@
 pub mod Accepting
 pub mod Bounded
+pub mod Finalized
 pub mod Allowed
 pub mod Assured
 pub mod Refused

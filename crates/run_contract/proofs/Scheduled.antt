@@ -13,7 +13,6 @@ use lib.Ieee.{Float, nan, inf, fin, lt, neg, of_bits, up, down, below}
 use lib.Ieee.Fits.{up_pos}
 use Rattle.ieee.specs.Floats.{◌-ᶠ◌, zero64}
 use Rattle.laws.specs.Refusal.{◌if◌, or_else, first, any_of}
-use Rattle.laws.proofs.Any.{any_here, any_skip, any_last}
 use Rattle.step_rules.specs.declared.StepRule.{StepRule}
 use Rattle.step_rules.specs.declared.StepRule.TheVariants.{Grad, GradAdv, Coord, CoordNoStep, CoordMomentum}
 use Rattle.step_rules.specs.Rule.{tests_objective}
@@ -52,44 +51,30 @@ tested_due s mn mx e = by (ℕ_discrete s 1) (ℕ_discrete s mn) (ℕ_discrete s
     by (no a) (no b) (yes c) = at_most c
     by (no a) (no b) (no c) = at_twenty (s / 20) (eqb-true _ _ (rw (ne_eqb s 1 a, ne_eqb s mn b, ne_eqb s mx c) at e))
 
--- and so does the code's
-pub due_checked : (s mn mx : ℕ) → Due s mn mx → check_due s mn mx ≡ true
-unfolding check_due
-due_checked s mn mx d = by (ℕ_discrete s 1) (ℕ_discrete s mn) (ℕ_discrete s mx)
-  where
-    by : Dec (s ≡ 1) → Dec (s ≡ mn) → Dec (s ≡ mx) → any_of (eqb s 1 ∷ eqb s mn ∷ eqb s mx ∷ eqb (s % 20) 0 ∷ []) ≡ true
-    by (yes a) b c = any_here _ _ (eq-eqb _ _ a)
-    by (no a) (yes b) c = any_skip _ _ (ne_eqb _ _ a) ∙ any_here _ _ (eq-eqb _ _ b)
-    by (no a) (no b) (yes c) = any_skip _ _ (ne_eqb _ _ a) ∙ any_skip _ _ (ne_eqb _ _ b) ∙ any_here _ _ (eq-eqb _ _ c)
-    by (no a) (no b) (no c) =
-        let (j, e) = twentieth s mn mx d a b c in
-        let rest : s % 20 ≡ 0 = omega arith in
-        any_skip _ _ (ne_eqb _ _ a) ∙ any_skip _ _ (ne_eqb _ _ b) ∙ any_skip _ _ (ne_eqb _ _ c) ∙ any_last _ ∙ eq-eqb _ _ rest
-
-pub checked_due : (s mn mx : ℕ) → check_due s mn mx ≡ true → Due s mn mx
-unfolding check_due
-checked_due s mn mx e = by (ℕ_discrete s 1) (ℕ_discrete s mn) (ℕ_discrete s mx)
-  where
-    by : Dec (s ≡ 1) → Dec (s ≡ mn) → Dec (s ≡ mx) → Due s mn mx
-    by (yes a) b c = at_first a
-    by (no a) (yes b) c = at_minimum b
-    by (no a) (no b) (yes c) = at_most c
-    by (no a) (no b) (no c) =
-        let last : eqb (s % 20) 0 ≡ true =
-        sym (any_skip (eqb s 1) (eqb s mn ∷ eqb s mx ∷ eqb (s % 20) 0 ∷ []) (ne_eqb _ _ a) ∙ any_skip (eqb s mn) (eqb s mx ∷ eqb (s % 20) 0 ∷ []) (ne_eqb _ _ b) ∙ any_skip (eqb s mx) (eqb (s % 20) 0 ∷ []) (ne_eqb _ _ c) ∙ any_last (eqb (s % 20) 0)) ∙ e in
-        let rest : s % 20 ≡ 0 = eqb-true _ _ last in
-        at_twenty (s / 20) (omega arith)
-
 same_test : (a b : Bool) → (a ≡ true → b ≡ true) → (b ≡ true → a ≡ true) → a ≡ b
 same_test true b f g = sym (f refl)
 same_test false true f g = g refl
 same_test false false f g = refl
 
+-- the code tests a remainder
+twentieth_same : (s : ℕ) → eqb s (20 * (s / 20)) ≡ eqb (s % 20) 0
+twentieth_same s =
+    same_test (eqb s (20 * (s / 20))) (eqb (s % 20) 0)
+    (λ e. let whole : s ≡ 20 * (s / 20) = eqb-true _ _ e in eq-eqb _ _ (omega arith))
+    (λ e. let none : s % 20 ≡ 0 = eqb-true _ _ e in eq-eqb _ _ (omega arith))
+
+any_four : (a b c d : Bool) → (a || b || c || d) ≡ any_of (a ∷ b ∷ c ∷ d ∷ [])
+unfolding any_of
+any_four true b c d = refl
+any_four false true c d = refl
+any_four false false true d = refl
+any_four false false false true = refl
+any_four false false false false = refl
+
 pub due_same : (s mn mx : ℕ) → is_due s mn mx ≡ check_due s mn mx
+unfolding is_due check_due
 due_same s mn mx =
-    same_test (is_due s mn mx) (check_due s mn mx)
-    (λ e. due_checked s mn mx (tested_due s mn mx e))
-    (λ e. due_tested s mn mx (checked_due s mn mx e))
+    any_four (eqb s 1) (eqb s mn) (eqb s mx) (eqb s (20 * (s / 20))) ∙ ap (λ (d : Bool). any_of (eqb s 1 ∷ eqb s mn ∷ eqb s mx ∷ d ∷ [])) (twentieth_same s)
 
 -- ---- the stop tests
 

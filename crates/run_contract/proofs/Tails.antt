@@ -29,7 +29,8 @@ over_tail front xs ys n e is = ap (drop n) is ∙ drop_at front (drop (length fr
 
 -- ---- open
 
-start_long : (o : Settings) (lent : ℕ) → open_number_of o lent ≡ 0 → length (start_factor o) ≡ open_size o * open_rank o
+-- of an accepted open
+pub start_long : (o : Settings) (lent : ℕ) → open_number_of o lent ≡ 0 → length (start_factor o) ≡ open_size o * open_rank o
 unfolding plain_open
 start_long o lent ok = open_whole o lent ok
 

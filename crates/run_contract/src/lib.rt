@@ -1,5 +1,5 @@
 // What a finish gives. What the calls of a run promise is in specs/Calls.antt; 01's plain run is in specs/PlainRun.antt, and the theorem on whole
-// lists of calls in proofs/OnLists.antt. No code.
+// lists of calls in proofs/OnLists.antt. The type below is all the code.
 #![tactic(auto)]
 
 // What a finish gives; the choice and the multipliers are in the slices lent for them. Floor and costs are in eighths; standing is the record's, and so is

@@ -1,7 +1,7 @@
 -- How many numbers a start takes (01, "Job and answer records"): kinds 0, 1: m·rank; 2: m, then m·rank draws if most > 0 and rank > 1.
 use Rattle.std.specs.Prelude.{ℕ, ◌+◌, ◌*◌, Bool, true, false, ◌&&◌, ltb, eqb}
-use Rattle.run_limits.specs.declared.Start.{Start}
-use Rattle.run_limits.specs.declared.Start.TheVariants.{Rows, Signs, SignsAndDraws}
+use Rattle.run_limits.specs.declared.StartNumbers.{StartNumbers}
+use Rattle.run_limits.specs.declared.StartNumbers.TheVariants.{Rows, Signs, SignsAndDraws}
 
 -- kind 2 is signs
 abbrev pub is_signs : ℕ → Bool
@@ -12,18 +12,18 @@ abbrev pub draws_follow : ℕ → ℕ → Bool
 draws_follow most rank = ltb 0 most && ltb 1 rank
 
 -- a start by whether it is signs, and whether draws follow them
-abbrev pub start_of : Bool → Bool → Start
+abbrev pub start_of : Bool → Bool → StartNumbers
 start_of false drawn = Rows
 start_of true false = Signs
 start_of true true = SignsAndDraws
 
 -- whether a start is signs, and whether draws follow them
-abbrev pub signs_in : Start → Bool
+abbrev pub signs_in : StartNumbers → Bool
 signs_in Rows = false
 signs_in Signs = true
 signs_in SignsAndDraws = true
 
-abbrev pub draws_in : Start → Bool
+abbrev pub draws_in : StartNumbers → Bool
 draws_in Rows = false
 draws_in Signs = false
 draws_in SignsAndDraws = true

@@ -28,6 +28,7 @@ pub fn bad_draws(count: usize) -> bool
 }
 
 // The rank as given; 0 means the default rank of m signs. It is a number, no Option: 0 is the default in C's calls and in a job's bytes, and 17 and 31 judge it so.
+// `m as u16` fits: where the default is asked for, m is at most MOST_SIGNS.
 pub fn rank_meant(m: usize, rank: usize) -> usize
     requires { (rank ≡ 0 → m ≤ most_signs) × (rank ≤ most_rank) }
     ensures { (result ≡ rank_meant m rank) × (result ≤ most_rank) }
@@ -55,28 +56,28 @@ pub fn draws_follow(most: u32, rank: usize) -> bool
 }
 
 // 01's kind of start that is signs. A kind is a number, and no enum, where it comes in: a caller may hand in any, and 31 of an open judges by it before
-// 19 refuses what is none of them; what a kind means is `Start`.
+// 19 refuses what is none of them; what a kind means is `StartNumbers`.
 const SIGNS: u8 = 2;
 
 // What a start's numbers are: rows of the factor, a choice's signs alone, or signs and then draws.
 #[derive(Clone, Copy)]
-pub enum Start {
+pub enum StartNumbers {
     Rows,
     Signs,
     SignsAndDraws,
 }
 
 // The start of a kind.
-pub fn start_of(kind: u8, most: u32, rank: usize) -> Start
+pub fn start_of(kind: u8, most: u32, rank: usize) -> StartNumbers
     ensures { result ≡ start_of (is_signs kind) (draws_follow most rank) }
 {
     if kind != SIGNS {
-        return Start::Rows;
+        return StartNumbers::Rows;
     }
     if draws_follow(most, rank) {
-        return Start::SignsAndDraws;
+        return StartNumbers::SignsAndDraws;
     }
-    Start::Signs
+    StartNumbers::Signs
 }
 
 // How many numbers a start takes.
@@ -85,8 +86,8 @@ pub fn start_length(kind: u8, m: usize, rank: usize, most: u32) -> usize
     ensures { (result ≡ start_length kind m rank most) × (result ≤ most_start) }
 {
     match start_of(kind, most, rank) {
-        Start::Rows => m * rank,
-        Start::Signs => m,
-        Start::SignsAndDraws => m + m * rank,
+        StartNumbers::Rows => m * rank,
+        StartNumbers::Signs => m,
+        StartNumbers::SignsAndDraws => m + m * rank,
     }
 }

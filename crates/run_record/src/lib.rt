@@ -36,7 +36,8 @@ pub struct Run {
 }
 
 // What an open is asked for: rank 0 is the default rank, `number` is the rule's. Rule and start are 01's numbers, since a caller may hand in any:
-// one that is none of them is refused by 18 and 19.
+// one that is none of them is refused by 18 and 19. `most` to `stationarity_tolerance` are fields of Run and of job_record's Job too, as 01 lists them of each: in a struct of the four
+// they would take another step in each contract on a run (`run.limits.most`), to spare two literals three lines each. A Run's `rank` is the one that is meant.
 #[derive(Clone, Copy)]
 pub struct OpenSettings {
     pub rank: usize,

@@ -24,6 +24,7 @@ fn standing_above(standing: u64, size: usize, sweeps: u32) -> bool
     if sweeps == 0 {
         return true;
     }
+    // No `From` makes a u64 of a usize, which has as many bits.
     size as u64 <= (standing - 1) / u64::from(sweeps)
 }
 
@@ -81,11 +82,8 @@ fn bad_momentum(rule: StepRule) -> bool
     ensures { result ≡ bad_momentum rule }
 {
     match rule {
-        StepRule::Grad(_) => false,
-        StepRule::GradAdv(_) => false,
-        StepRule::Coord(_) => false,
-        StepRule::CoordNoStep => false,
         StepRule::CoordMomentum(beta) => !is_momentum(beta),
+        _ => false,
     }
 }
 
@@ -165,7 +163,7 @@ pub fn finish_number(
     Ok(())
 }
 
-// Whether 18 refuses the rule.
+// Whether 18 refuses the rule; its two numbers stay apart (`rule_of` in step_rules/src/lib.rt says why).
 #[tactic(auto, unfolding(crate::specs::Numbers::rule_refused))]
 fn rule_refused(rule: u8, number: f64) -> bool
     ensures { result ≡ rule_refused rule number }
@@ -200,7 +198,7 @@ pub fn open_number(
     Ok(())
 }
 
-// What the exchange of a rule refuses.
+// What the exchange of a rule refuses; the rule's two numbers stay apart, as in `rule_refused`.
 #[tactic(auto, unfolding(crate::specs::Numbers::exchange_number, laws::specs::Refusal::first, laws::specs::Refusal::or_else))]
 pub fn exchange_number(run: Run, rule: u8, number: f64) -> Result<(), Refusal>
     ensures { numbered result ≡ exchange_number run rule number }

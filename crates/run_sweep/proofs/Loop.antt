@@ -26,7 +26,7 @@ stays : (stage : Stage) (next last : State) → is_stopped stage ≡ true → wh
 stays Open next last e = never e
 stays Stopped next last e = refl
 
-goes : (stage : Stage) (next last : State) → is_stopped stage ≡ false → while_open stage next last ≡ next
+pub goes : (stage : Stage) (next last : State) → is_stopped stage ≡ false → while_open stage next last ≡ next
 goes Open next last e = refl
 goes Stopped next last e = never (sym e)
 

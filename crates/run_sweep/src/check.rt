@@ -1,6 +1,7 @@
 // The check of a run: when it is due, what it looks at, and the record after it.
-ghost use Rattle.std.specs.Prelude.{◌≡◌, ◌&&◌, ◌+◌, ◌*◌, ◌<◌, leb, length};
+ghost use Rattle.std.specs.Prelude.{◌≡◌, ◌&&◌, ◌+◌, ◌*◌, ◌<◌, is_some, leb, length, unwrap_or};
 ghost use Rattle.std.specs.Float.Ieee.{le};
+ghost use Rattle.ieee.specs.Floats.{zero64};
 ghost use Rattle.factor.specs.Shapes.{Shaped};
 ghost use Rattle.run_sweep.specs.Work.{work_in};
 ghost use Rattle.run_sweep.specs.Running.{Countable};
@@ -41,26 +42,19 @@ enum Stop {
     Risen = 2,
 }
 
-// Why a check stops the run, if it does.
+// Why a check stops the run, if it does; the tolerance is there where the rule looks at the objective.
 #[tactic(auto, unfolding(crate::specs::Sweep::stop_status, laws::specs::Refusal::first, laws::specs::Refusal::or_else))]
-fn stop_found(tests: bool, tolerance: f64, settled: bool, previous: f64, new: f64) -> Option<Stop>
-    ensures { found_number result ≡ stop_status tests tolerance settled previous new }
+fn stop_found(tolerance: Option<f64>, settled: bool, previous: f64, new: f64) -> Option<Stop>
+    ensures { found_number result ≡ stop_status (is_some tolerance) (unwrap_or tolerance zero64) settled previous new }
 {
     if settled {
         return Some(Stop::Settled);
     }
-    if tests {
-        if absolute(new - previous) < tolerance {
-            return Some(Stop::Settled);
-        }
-        if previous < new {
-            Some(Stop::Risen)
-        } else {
-            None
-        }
-    } else {
-        None
+    let tolerance = tolerance?;
+    if absolute(new - previous) < tolerance {
+        return Some(Stop::Settled);
     }
+    (previous < new).then_some(Stop::Risen)
 }
 
 // The residual test, from the minimum on.
@@ -71,28 +65,27 @@ fn settled(minimum: u32, sweeps: u32, residual: f64, threshold: f64) -> bool
 }
 
 // The stage after a check.
-#[tactic(auto, unfolding(crate::specs::Sweep::stage_after, laws::specs::Refusal::any_of))]
+#[tactic(auto, using(crate::proofs::Checking::found_some), unfolding(crate::specs::Sweep::stage_after, laws::specs::Refusal::any_of))]
 fn stage_after(found: Option<Stop>, full: bool, stage: Stage) -> Stage
     ensures { result ≡ stage_after (found_number found) full stage }
 {
-    match found {
-        Some(Stop::Settled) | Some(Stop::Risen) => Stage::Stopped,
-        None => if full { Stage::Stopped } else { stage },
+    if found.is_some() || full {
+        Stage::Stopped
+    } else {
+        stage
     }
 }
 
-// The status after a check, a number in the run record.
+// The status after a check, a number in the run record; `as` is the one way from a case to its number.
 #[tactic(auto, unfolding(crate::specs::Sweep::status_after))]
 fn status_after(found: Option<Stop>, status: u8) -> u8
     ensures { result ≡ status_after (found_number found) status }
 {
-    match found {
-        Some(stop) => stop as u8,
-        None => status,
-    }
+    found.map_or(status, |stop| stop as u8)
 }
 
-// The record after one more sweep, which left so many rows as they were.
+// The record after one more sweep, which left so many rows as they were: `as u64`, since a usize has no From. `run.sweeps < run.most` stays a clause, here, in `run_after` and in
+// `sweep_on`: it holds before a sweep and need not after it, so that a struct around a Run of which it holds would be made anew for each sweep and taken apart here for `..run`.
 #[tactic(auto, unfolding(crate::specs::Sweep::advanced))]
 fn advanced(run: Run, last_objective: f64, found: Option<Stop>, left: usize) -> Run
     requires { (run.sweeps < run.most) × Countable run left }
@@ -133,13 +126,11 @@ pub fn run_after(
         let tolerance = run.stationarity_tolerance;
         let seen = maxcut_oracle::check::check(table, m, rank, factor, tolerance, product, dual);
         let done = settled(run.minimum, sweeps, seen.residual, seen.threshold);
-        let found = stop_found(
-            run.rule.tests_objective(),
-            run.objective_tolerance,
-            done,
-            run.last_objective,
-            seen.objective,
-        );
+        let within = run
+            .rule
+            .tests_objective()
+            .then_some(run.objective_tolerance);
+        let found = stop_found(within, done, run.last_objective, seen.objective);
         return advanced(run, seen.objective, found, left);
     }
     advanced(run, run.last_objective, None, left)

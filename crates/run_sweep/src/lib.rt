@@ -13,7 +13,8 @@ use check::run_after;
 use factor::table::Prepared;
 use run_record::{Run, is_stopped};
 
-// One sweep, and the check where one is due.
+// One sweep, and the check where one is due. `product`, `moved` and `dual` stay three slices: a struct of `&mut`s adds a clause that each keeps its name, and the step takes the first
+// two of them, the check the first and the last.
 fn sweep_on(
     run: Run,
     table: Prepared,
@@ -36,7 +37,8 @@ fn sweep_on(
     run_after(run, left, table, factor, product, dual)
 }
 
-// Up to k sweeps of a factor of m rows.
+// Up to k sweeps of a factor of m rows. `Running run` stays a clause, here and in sdp_solver's sweep.rt: the record is the caller's own and comes back as a Run, so that a struct with
+// the fact would be made and taken apart at each call.
 pub fn sweeps_up_to(
     run: Run,
     table: Prepared,

@@ -1,5 +1,5 @@
 -- The parts of the call's contract. Assumes nothing.
-use Prim.Native.Nat.{ℕ, zero, suc, ◌-◌, ◌<◌}
+use Prim.Native.Nat.{ℕ, ◌-◌}
 use native.Mathlib.Omega.{arith}
 use mathlib.Core.List.{List, ◌++◌}
 use mathlib.Core.Path.{◌≡◌, ap, ap₂, ◌∙◌}
@@ -8,11 +8,11 @@ use lib.ListN.{length, drop}
 use lib.Seq.{drop_at}
 use Rattle.laws.specs.Lists.{elem, over}
 use Rattle.tables.specs.Table.{Table}
-use Rattle.sign_words.specs.Signs.{Binary}
-use Rattle.sign_words.proofs.PackedLaws.{tabulate_binary}
+use Rattle.sign_words.specs.Signs.{sign_digit, Binary}
+use Rattle.sign_words.proofs.PackedLaws.{sign_digit_lt, tabulate_binary}
 use Rattle.sign_search.specs.Search.{objective_in, beam_search}
 use Rattle.sign_search.specs.Clauses.{Found-by}
-use Rattle.sdp_local_search.specs.BeamSearch.{sign_byte, sign_bytes}
+use Rattle.sdp_local_search.specs.BeamSearch.{sign_bytes}
 use Rattle.sdp_local_search.specs.Call.{Answer}
 
 -- what the search found, as it is answered
@@ -30,10 +30,6 @@ tail_kept n used workspace e = let z : n - 0 ≡ n = omega arith in rw z (drop_a
 
 -- ---- the signs that the search starts from are 0 and 1
 
-sign_byte_lt : (s : ℕ) → sign_byte s < 2
-sign_byte_lt zero = omega arith
-sign_byte_lt (suc s) = omega arith
-
 pub bytes_binary : (m : ℕ) (start : List ℕ) → Binary (sign_bytes m start)
 unfolding sign_bytes
-bytes_binary m start = tabulate_binary (λ i. sign_byte (elem start i)) m (λ i. sign_byte_lt (elem start i))
+bytes_binary m start = tabulate_binary (λ i. sign_digit (elem start i)) m (λ i. sign_digit_lt (elem start i))

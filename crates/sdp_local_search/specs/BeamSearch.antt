@@ -1,7 +1,8 @@
 -- The call `beam_search` on a sign table: its numbers, in 01's order, and the signs it starts from.
-use Rattle.std.specs.Prelude.{ℕ, zero, suc, Bool, false, List, [], ◌∷◌, ltb}
+use Rattle.std.specs.Prelude.{ℕ, Bool, false, List, [], ◌∷◌, ltb}
 use Rattle.laws.specs.Lists.{elem, tabulate}
 use Rattle.laws.specs.Refusal.{◌if◌, first, any_of, short}
+use Rattle.sign_words.specs.Signs.{sign_digit}
 use Rattle.limits.specs.Limits.{most_signs, most_sign_entries, most_sign_magnitude, most_width, search_workspace}
 use Rattle.tables.specs.Table.{Table}
 use Rattle.tables.specs.Check.{short_table, table_number}
@@ -32,10 +33,6 @@ unfoldable pub search_refusal : Limits → ℕ → ℕ → Bool → Table → �
 search_refusal most m width too_short t =
     first (31 if too_short ∷ table_number most.signs most.entries most.magnitude m t ∷ 19 if (ltb most.width width) ∷ [])
 
--- a sign as it is lent out, 0 for + and 1 for −; the first m signs of a slice
-abbrev pub sign_byte : ℕ → ℕ
-sign_byte zero = 0
-sign_byte (suc s) = 1
-
+-- the first m signs of a slice as they are lent out, 0 for + and 1 for −
 unfoldable pub sign_bytes : ℕ → List ℕ → List ℕ
-sign_bytes m start = tabulate (λ i. sign_byte (elem start i)) m
+sign_bytes m start = tabulate (λ i. sign_digit (elem start i)) m

@@ -13,7 +13,6 @@ use crate::signs::search_from;
 use limits::SEARCH_WORKSPACE;
 use refusal::Refusal;
 use sign_search::search::Searched;
-use tables::entries::Entries;
 use tables::lent::LentTable;
 
 // 01's local search from the first signs of `start`, as many as the table has; any byte but 0 is −. The signs of the answer go to `out`, as 0 and 1;
@@ -29,13 +28,7 @@ pub fn beam_search(
     ensures { let t = table.entry in BeamSearches base_limits t.size t.count t.rows.now t.cols.now t.values.now width start.now out.old
         workspace.old out.new workspace.new (in_numbers result) }
 {
-    search_refusal(table, width, start.len(), out.len(), workspace.len())?;
-    let entries = Entries {
-        count: table.count,
-        rows: table.rows,
-        cols: table.cols,
-        values: table.values,
-    };
+    let entries = search_refusal(table, width, start.len(), out.len(), workspace.len())?;
     let found = search_from(
         entries,
         width,

@@ -2,18 +2,12 @@
 ghost use Rattle.std.specs.Prelude.{◌≡◌, ◌≤◌, length};
 ghost use Rattle.limits.specs.Limits.{most_signs, most_words};
 ghost use Rattle.sign_search.specs.Clauses.{Sound, LevelRoom, Found-by};
-ghost use Rattle.sdp_local_search.specs.BeamSearch.{sign_byte, sign_bytes};
+ghost use Rattle.sdp_local_search.specs.BeamSearch.{sign_bytes};
 ghost use Rattle.tables.specs.Entries.{listed};
 
 use sign_search::search::{Searched, search_signs};
+use sign_words::pack::sign_digit;
 use tables::entries::Entries;
-
-// A sign as 0 or 1: any byte but 0 is 1.
-fn sign_byte(x: u8) -> u8
-    ensures { result ≡ sign_byte x }
-{
-    u8::from(x != 0)
-}
 
 // The first signs of `start`, as many as `kept` holds, each as 0 or 1.
 fn read_signs(start: &[u8], kept: &mut [u8])
@@ -21,7 +15,7 @@ fn read_signs(start: &[u8], kept: &mut [u8])
     ensures { kept.new ≡ sign_bytes (length kept.old) start.now }
 {
     for i in 0..kept.len() {
-        kept[i] = sign_byte(start[i]);
+        kept[i] = sign_digit(start[i]);
     }
 }
 

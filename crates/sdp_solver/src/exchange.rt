@@ -1,4 +1,5 @@
 // The exchange of a run's rule (02, Note 12), on the record alone.
+// The rule's two numbers stay apart, as the C interface hands them over (`rule_of` in step_rules/src/lib.rt).
 ghost use Rattle.std.specs.Result.{result_unwrap_or};
 ghost use Rattle.refusal.specs.Number.{numbered};
 ghost use Rattle.run_contract.specs.Calls.{Exchanges};

@@ -5,7 +5,6 @@ ghost use Rattle.run_record.specs.Numbers.{finish_number};
 ghost use Rattle.run_contract.specs.Calls.{finish_lengths, Finishes};
 ghost use Rattle.tables.specs.Lent.{costs_of};
 
-use super::work::judged_hall;
 use finalize::finalize;
 use limits::SEARCH_WORKSPACE;
 use refusal::Refusal;
@@ -14,10 +13,13 @@ use run_limits::Draws;
 use run_record::Run;
 use run_record::lengths::FinishSlices;
 use run_record::numbers::finish_number;
+use tables::checked::judged_hall;
 use tables::lent::LentHall;
 
 // Finishes a stopped run that nothing refuses. The figures are copied one by one: the result's fields are 01's, in its order, and with `Figures` among them the
 // diagonal's sum would stand beside the relaxed objective, which has it in it. The slices that are written are three `&mut`, for the reason at `finalize`.
+// What is read stays five parameters, as in `finish`: `Finishes` names each apart, so that a struct of them would spare no clause, and each of the four callers
+// would write its literal in the place of the arguments.
 pub fn finish_accepted(
     run: Run,
     hall: LentHall,

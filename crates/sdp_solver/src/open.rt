@@ -7,7 +7,7 @@ ghost use Rattle.run_contract.specs.Calls.{first_stage, asked_of, open_number_of
 ghost use Rattle.sdp_solver.specs.Usable.{costs_in};
 ghost use Rattle.tables.specs.Lent.{costs_of};
 
-use super::work::{call_work, judged_hall};
+use super::work::call_work;
 use initialize::prepare_initial_factor;
 use maxcut_oracle::objective::obj;
 use prepared_table::made::PreparedTable;
@@ -16,6 +16,7 @@ use run_limits::{rank_meant, start_of};
 use run_record::numbers::open_number;
 use run_record::{OpenSettings, Run, Stage};
 use step_rules::rule_of;
+use tables::checked::judged_hall;
 use tables::judged::JudgedHall;
 use tables::lent::LentHall;
 
@@ -41,7 +42,7 @@ fn first_objective(hall: JudgedHall, rank: usize, factor: &[f64]) -> f64
     obj(work.table(), factor, rank)
 }
 
-// Opens a run that nothing refuses; the factor takes m rows of the rank that is meant.
+// Opens a run that nothing refuses; the factor takes m rows of the rank that is meant. The limits are copied one by one (run_record/src/lib.rt says why).
 pub fn open_accepted(
     hall: LentHall,
     asked: OpenSettings,

@@ -1,4 +1,5 @@
 // The sweep call: up to k sweeps over the (H, c) given.
+// Arrays have a fixed size: no heap, a rule of the project (limits/src/lib.rt).
 ghost use Rattle.std.specs.Prelude.{◌≡◌, ◌+◌, ◌*◌, ◌≤◌, length};
 ghost use Rattle.std.specs.Result.{result_unwrap_or};
 ghost use Rattle.limits.specs.Limits.{most_signs, most_rank};
@@ -11,7 +12,7 @@ ghost use Rattle.run_contract.specs.Calls.{Sweeps};
 ghost use Rattle.sdp_solver.specs.Usable.{Usable};
 ghost use Rattle.tables.specs.Lent.{costs_of};
 
-use super::work::{call_work, judged_hall};
+use super::work::call_work;
 use factor::table::Prepared;
 use finalize::room;
 use prepared_table::made::PreparedTable;
@@ -19,9 +20,10 @@ use refusal::Refusal;
 use run_record::Run;
 use run_record::numbers::sweep_number;
 use run_sweep::sweeps_up_to;
+use tables::checked::judged_hall;
 use tables::lent::LentHall;
 
-// Up to k sweeps over a prepared table, with room for what a sweep and its check work on.
+// Up to k sweeps over a prepared table, with room for what a sweep and its check work on. `Running run` stays a clause (run_sweep/src/lib.rt says why).
 fn sweep_work(run: Run, table: Prepared, k: u32, factor: &mut [f64]) -> Run
     requires running { Running run × (run.size ≤ most_signs) × (1 ≤ run.size) × (run.rank ≤ most_rank) }
     requires shaped { Shaped table.cols.now table.values.now table.starts.now factor.old run.size run.rank × ObjFits table.rows.now table.cols.now table.values.now run.rank (run.size * run.rank) }

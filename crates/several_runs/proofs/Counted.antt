@@ -11,6 +11,7 @@ use Rattle.std.specs.Prelude.{filter}
 use Rattle.limits.specs.Limits.{most_runs, least_turn, most_turn}
 use Rattle.laws.specs.Sum.{total}
 use Rattle.laws.proofs.Sums.{total_at}
+use Rattle.laws.proofs.Totals.{total_front}
 use Rattle.laws.proofs.Any.{any_head, any_rest}
 use Rattle.run_record.specs.declared.Stage.{Stage}
 use Rattle.run_record.specs.declared.Stage.TheVariants.{Open, Stopped}
@@ -69,11 +70,6 @@ pub open_below_some : (at : ℕ → Run) (n i : ℕ) → i < n → (at i).stage 
 open_below_some at n i l e = open_some e (open_counts at n i l)
 
 -- ---- by the library's `filter` and `count`
-
-total_front : (n : ℕ) (f : ℕ → ℕ) → total (suc n) f ≡ f 0 + total n (λ k. f (suc k))
-unfolding total
-total_front zero f = omega arith
-total_front (suc n) f = let h = total_front n f in omega (arith, h)
 
 abbrev pub is_open : Run → Bool
 is_open run = not (is_stopped run.stage)

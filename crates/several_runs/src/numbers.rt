@@ -18,10 +18,7 @@ use run_record::numbers::member_number;
 pub fn bad_turn(sweeps: u32) -> bool
     ensures { result ≡ bad_turn sweeps }
 {
-    if sweeps < LEAST_TURN {
-        return true;
-    }
-    MOST_TURN < sweeps
+    sweeps < LEAST_TURN || MOST_TURN < sweeps
 }
 
 // 26.
@@ -29,10 +26,7 @@ pub fn bad_turn(sweeps: u32) -> bool
 pub fn bad_count(run_count: usize) -> bool
     ensures { result ≡ bad_count run_count }
 {
-    if run_count == 0 {
-        return true;
-    }
-    MOST_RUNS < run_count
+    run_count == 0 || MOST_RUNS < run_count
 }
 
 // What is refused of the first run that is refused.

@@ -13,7 +13,7 @@ pub fn open_one(stage: Stage) -> u32
     u32::from(!is_stopped(stage))
 }
 
-// How many of the runs before `end` are open.
+// How many of the runs before `end` are open, at most eight, so that `as u32` loses none.
 pub fn open_below(runs: [Run; MOST_RUNS], end: usize) -> u32
     requires { end ≤ most_runs }
     ensures { result ≡ open_below (run_at runs) end }
@@ -30,11 +30,7 @@ fn share(sweeps: u32, open: u32, place: u32) -> u32
     requires { (1 ≤ «open») × (sweeps ≤ most_turn) }
     ensures { result ≡ share sweeps «open» place }
 {
-    let each = sweeps / open;
-    if place < sweeps % open {
-        return each + 1;
-    }
-    each
+    sweeps / open + u32::from(place < sweeps % open)
 }
 
 // A run's share, none for a stopped one.

@@ -1,4 +1,5 @@
 // The calls on choices in words. Neither has a `requires`: what can't be used is refused, and a refusal writes nothing.
+// `m, x, y` and `m, signs, words` are in no struct: they are the arguments of a call of the C interface.
 #![tactic(auto)]
 
 mod numbers;

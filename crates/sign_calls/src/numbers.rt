@@ -1,4 +1,5 @@
 // What each call refuses, by its number. These write nothing.
+// `m, x, y` and `m, signs, words` are in no struct: they are the arguments of a call of the C interface.
 ghost use Rattle.std.specs.Prelude.{◌≡◌};
 ghost use Rattle.refusal.specs.Number.{numbered};
 ghost use Rattle.sign_calls.specs.Numbers.{distance_short, distance_number, pack_short, pack_number};

@@ -14,14 +14,13 @@ use lib.ListN.{length, take, drop, get_or, length-take, length-drop}
 use mir.Syntax.{w64}
 use mir.Val.{SFits}
 use Rattle.sign_words.specs.Packed.{unpacked, Tidy}
-use Rattle.sign_words.proofs.PackedLaws.{length_unpacked, unpacked_flip, tidy_flip}
-use Rattle.local_search.specs.LocalSearch.{All, insert, keep_best, children_of}
+use Rattle.sign_words.proofs.PackedLaws.{length_unpacked, unpacked_flip}
+use Rattle.local_search.specs.LocalSearch.{All, keep_best, children_of}
 use Rattle.local_search.specs.Level.{Choice, below, child_of, word_child, level_of, decoded, sign_level, TidyChoice, TidyLevel}
 use Rattle.local_search.specs.SignSearch.{improving, improves_c, flip_c}
 use Rattle.local_search.specs.Children.{change_of, flip_w, listed_children, ListedSafe, parent_of, Expands, Kept, Appends, Appended}
 use Rattle.local_search.proofs.SignLaws.{improving_ext}
-use Rattle.local_search.proofs.All.{all_append, all_take}
-use Rattle.local_search.proofs.SearchLaws.{all_insert, next_level_is}
+use Rattle.local_search.proofs.SearchLaws.{next_level_is}
 use Rattle.local_search.proofs.ExpandLaws.{part_long, parent_is}
 use Rattle.local_search.proofs.Decoded.{kept_decoded, kept_tidy, tidy_children, all_sign_choices, children_of_decoded}
 use Rattle.tables.specs.Table.{Table}

@@ -8,15 +8,15 @@ use mathlib.Core.List.{List, [], ◌∷◌, ◌++◌, append-nil}
 use mathlib.Core.Path.{◌≡◌, refl, sym, ap, ap₂, ◌∙◌, subst}
 use lib.Dec.{eqb, leb}
 use lib.IntN.{ℤ}
-use lib.ListN.{length, get_or}
-use lib.Seq.{get_or-set_same, get_or-set_other}
+use lib.ListN.{length}
 use Rattle.laws.specs.Lists.{elem}
 use Rattle.laws.specs.Sum.{total}
 use Rattle.laws.proofs.Totals.{total_ext, total_mono, total_zero, total_const}
 use Rattle.sign_words.specs.Signs.{flip_byte, flip_sign, sign_digit}
 use Rattle.sign_words.specs.Packed.{packed, unpacked, Tidy}
 use Rattle.sign_words.specs.Distance.{ones_apart, places_apart}
-use Rattle.sign_words.proofs.PackedLaws.{length_unpacked, packed_unpacked}
+use Rattle.std.proofs.lemmas.Bool.{cond_both}
+use Rattle.sign_words.proofs.PackedLaws.{length_unpacked, packed_unpacked, flip_sign_here, flip_sign_there}
 use Rattle.sign_words.proofs.DistanceLaws.{packed_apart}
 use Rattle.local_search.specs.LocalSearch.{keep_best}
 use Rattle.local_search.specs.Level.{Choice, below}
@@ -51,34 +51,22 @@ one_of zero (suc b) = refl
 one_of (suc a) zero = refl
 one_of (suc a) (suc b) = refl
 
-at_most_one : (b : Bool) → cond b 0 1 ≤ 1
-at_most_one true = omega arith
-at_most_one false = omega arith
-
 pub apart_few : (x p : List ℕ) → places_apart x p ≤ length x
 unfolding places_apart
 apart_few x p =
-    omega (arith, total_mono (length x) (differ x p) (λ j. 1) (λ j q. at_most_one (eqb (sign_digit (elem x j)) (sign_digit (elem p j)))), total_const (length x) 1)
+    omega (arith, total_mono (length x) (differ x p) (λ j. 1) (λ j q. cond_both (eqb (sign_digit (elem x j)) (sign_digit (elem p j))) 0 1 (λ n. n ≤ 1) (λ e. omega arith) (λ e. omega arith)), total_const (length x) 1)
 
 module _ (x p : List ℕ) (i : ℕ) (h : i < length x) where
-  here : elem (flip_sign i x) i ≡ flip_byte (elem x i)
-  unfolding flip_sign
-  here = get_or-set_same x i (flip_byte (get_or x i 0)) 0 h
-
-  there : (j : ℕ) → (j ≡ i → ⊥) → elem (flip_sign i x) j ≡ elem x j
-  unfolding flip_sign
-  there j d = get_or-set_other x i j (flip_byte (get_or x i 0)) 0 d
-
   -- the flipped sign differs exactly where the sign didn't
   turned : differ (flip_sign i x) p i + differ x p i ≡ 1
-  turned = ap (λ (s : ℕ). cond (eqb (sign_digit s) (sign_digit (elem p i))) 0 1 + differ x p i) here ∙ one_of (elem x i) (elem p i)
+  turned = ap (λ (s : ℕ). cond (eqb (sign_digit s) (sign_digit (elem p i))) 0 1 + differ x p i) (flip_sign_here i x h) ∙ one_of (elem x i) (elem p i)
 
   moved : places_apart (flip_sign i x) p + differ x p i ≡ places_apart x p + differ (flip_sign i x) p i
   unfolding places_apart
   moved =
       ap (λ (n : ℕ). total n (differ (flip_sign i x) p) + differ x p i) (flipped_length i x)
       ∙ total_change (length x) i (differ x p) (differ (flip_sign i x) p) h
-      (λ j d. ap (λ (s : ℕ). cond (eqb (sign_digit s) (sign_digit (elem p j))) 0 1) (sym (there j d)))
+      (λ j d. ap (λ (s : ℕ). cond (eqb (sign_digit s) (sign_digit (elem p j))) 0 1) (sym (flip_sign_there i x j d)))
 
   -- one more or one less
   pub apart_flip : (places_apart (flip_sign i x) p ≤ places_apart x p + 1) × (places_apart x p ≤ places_apart (flip_sign i x) p + 1)

@@ -202,7 +202,7 @@ pub record Searchable (t : Table) (width : ℕ) (objective : ℤ) (flips : ℕ) 
   pub flips_few : flips ≤ length x
 
 -- what a search leaves: its answer's objective and signs, and the rounds
-pub record Leaves (found : Found Choice) (least : ℤ) (rounds : ℕ) (signs : List ℕ) : Type 0 where
+pub record SearchLeaves (found : Found Choice) (least : ℤ) (rounds : ℕ) (signs : List ℕ) : Type 0 where
   pub answer_is : parent_of least signs ≡ found.answer
   pub rounds_are : rounds ≡ found.rounds
 

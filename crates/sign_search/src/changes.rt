@@ -13,7 +13,8 @@ use local_search::rows::sign_at;
 use tables::entries::Entries;
 
 // Sets the first m changes to 0; those behind them stay. Not the caller's cut and `fill`: what `changes_of` proves three times would each time speak of
-// a front and the rest, and here it is the one list of the clause.
+// a front and the rest, and here it is the one list of the clause. `clear` of reduced is the same of f64: one for both would be a generic one in a crate
+// below both, with a third contract for one line.
 pub fn clear(changes: &mut [i64], m: usize)
     requires { m ≤ length changes.old }
     ensures { changes.new ≡ fill (λ i. pos 0) m changes.old }
@@ -21,7 +22,8 @@ pub fn clear(changes: &mut [i64], m: usize)
     changes[..m].fill(0);
 }
 
-// A value times a sign's byte.
+// A value times a sign's byte. The bound of a value stands in three contracts and in no struct: each caller reads a plain i64 from the table, and
+// `weighed` would have to make a second such value of what the first signing answers.
 #[tactic(auto, using(crate::proofs::ChangeLaws::plus, crate::proofs::ChangeLaws::minus))]
 pub fn signed(value: i64, x: u8) -> i64
     requires { nat_abs value ≤ most_sign_magnitude }

@@ -1,6 +1,7 @@
 // Level by level: level 1 has all children of the start, level k + 1 the first `width` of those of level k.
 // `current, current_row, changes` stay apart: as a struct of three `&mut` (tried on `flip_at_hand`, where no goal is left) a function that takes it
 // promises besides that three references keep their names, and each length is `hand.old.signs.now`'s. No plainer.
+// `objectives, signs, count, width` stay apart, for the reason at the head of level.rt in local_search.
 // `from_objectives, from_signs, from_count` stay apart: `expand_level` alone reads them, of a level that is its caller's to write.
 ghost use Rattle.std.specs.Prelude.{◌≡◌, [], ◌≤◌, length, take};
 ghost use Rattle.sign_words.specs.Packed.{unpacked, Tidy};
@@ -85,6 +86,8 @@ pub fn append_row(
 }
 
 // Level k + 1 from level k: the children by parent, then index, the first `width` of them in order.
+// Row k of `from_signs` is cut here, as in `keep_least` of local_search, and in no function of both, as `row` of factor is for f64: the lemmas on it
+// (`part_long`, `parent_is`, `tidy_part`) speak of the part as it is cut, and it would have to be asked for what the cut asks for now.
 pub fn expand_level(
     table: Entries,
     words: usize,

@@ -1,4 +1,6 @@
 // The search from signs whose table has been checked.
+// Arrays have a fixed size: no heap, a rule of the project (limits/src/lib.rt).
+// `objectives, signs` stay apart for the reason at the head of level.rt in local_search, `current, current_row, changes` for that at the head of levels.rt.
 ghost use Rattle.std.specs.Prelude.{◌≡◌, ◌*◌, ◌≤◌, length};
 ghost use Rattle.limits.specs.Limits.{most_signs, most_words};
 ghost use Rattle.sign_words.specs.Signs.{Binary};
@@ -6,7 +8,7 @@ ghost use Rattle.sign_words.specs.Packed.{unpacked, Tidy};
 ghost use Rattle.local_search.specs.Children.{parent_of};
 ghost use Rattle.sign_search.specs.Search.{objective_in};
 ghost use Rattle.sign_search.specs.Within.{bounds};
-ghost use Rattle.sign_search.specs.Clauses.{Sound, StartRow, SearchFits, LevelRoom, Searchable, Leaves, Found-by, Found-within, searched_in};
+ghost use Rattle.sign_search.specs.Clauses.{Sound, StartRow, SearchFits, LevelRoom, Searchable, SearchLeaves, Found-by, Found-within, searched_in};
 ghost use Rattle.tables.specs.Entries.{listed};
 
 use crate::levels::{advance, append_row};
@@ -28,19 +30,16 @@ pub struct Searched {
 // A search at least one choice wide: on which table, how wide, of which objective the start is, and how far it may go. What is asked of it speaks of
 // the start's signs too (`Searchable`): these are written, and a struct that held them would have no fact of their number to keep.
 #[derive(Clone, Copy)]
-struct Search<'a> {
-    table: Entries<'a>,
-    width: usize,
-    objective: i64,
-    leeway: Leeway,
+pub struct Search<'a> {
+    pub table: Entries<'a>,
+    pub width: usize,
+    pub objective: i64,
+    pub leeway: Leeway,
 }
 
-// The search from the signs in `current`, of this objective, at least one choice wide, level by level. `kept`, `current_row` and `origin`
-// have them in words; `kept` takes the answer.
+// The search from the signs in `current`, level by level. `kept`, `current_row` and `origin` have them in words; `kept` takes the answer.
 pub fn search_levels(
-    table: Entries,
-    width: usize,
-    objective: i64,
+    search: Search,
     kept: &mut [u64],
     current: &mut [u8],
     current_row: &mut [u64],
@@ -49,32 +48,37 @@ pub fn search_levels(
     signs: &mut [u64],
     next_objectives: &mut [i64],
     next_signs: &mut [u64],
-    reach: Reach,
+    origin: &[u64],
 ) -> Searched
-    requires { SearchFits (length kept.old) (length current.old) width (length changes.old) (length objectives.old) (length signs.old)
-        (length next_objectives.old) (length next_signs.old) × Sound (length current.old) (listed table) × (objective ≡ objective_in (listed table) current.old) × StartRow current.old kept.old current_row.old × (reach.leeway.flips ≤ length current.old) × (reach.origin.now ≡ kept.old) }
-    ensures kept_after { let r = reach.entry.leeway in Leaves (searched_in (listed table.entry) (bounds r.flips r.most current.old) width
-        (parent_of objective current.old)) result.least result.rounds (unpacked (length current.old) kept.new) }
+    requires { SearchFits (length kept.old) (length current.old) search.width (length changes.old) (length objectives.old) (length signs.old)
+        (length next_objectives.old) (length next_signs.old) × Sound (length current.old) (listed search.table)
+        × (search.objective ≡ objective_in (listed search.table) current.old) × StartRow current.old kept.old current_row.old × (search.leeway.flips ≤ length current.old) × (origin.now ≡ kept.old) }
+    ensures kept_after { let s = search.entry in SearchLeaves (searched_in (listed s.table) (bounds s.leeway.flips s.leeway.most current.old) s.width
+        (parent_of s.objective current.old)) result.least result.rounds (unpacked (length current.old) kept.new) }
     ensures tidy { Tidy (length current.old) kept.new }
 {
     let words = kept.len();
-    let mut least = objective;
+    let reach = Reach {
+        origin,
+        leeway: search.leeway,
+    };
+    let mut least = search.objective;
     let mut rounds: u64 = 0;
     let mut count = append_row(
-        table,
-        objective,
+        search.table,
+        search.objective,
         current,
         kept,
         changes,
         objectives,
         signs,
-        reach.leeway,
+        search.leeway,
     );
     // A `while`: it goes on as long as a level has choices, so that nothing is counted but the rounds.
     while 0 < count {
         least = keep_least(objectives, signs, count, least, kept);
         count = advance(
-            table,
+            search.table,
             words,
             current,
             current_row,
@@ -84,7 +88,7 @@ pub fn search_levels(
             count,
             next_objectives,
             next_signs,
-            width,
+            search.width,
             reach,
         );
         rounds += 1;
@@ -102,7 +106,7 @@ fn search_packed(
 ) -> Searched
     requires searchable { Searchable (listed search.table) search.width search.objective search.leeway.flips current.old (length level.old) }
     requires start_row { StartRow current.old kept.old current_row.old × (length kept.old ≤ most_words) × (length current.old ≤ 64 * length kept.old) }
-    ensures kept_after { let s = search.entry in Leaves (searched_in (listed s.table) (bounds s.leeway.flips s.leeway.most current.old) s.width
+    ensures kept_after { let s = search.entry in SearchLeaves (searched_in (listed s.table) (bounds s.leeway.flips s.leeway.most current.old) s.width
         (parent_of s.objective current.old)) result.least result.rounds (unpacked (length current.old) kept.new) }
     ensures tidy { Tidy (length current.old) kept.new }
 {
@@ -113,14 +117,9 @@ fn search_packed(
     let mut origin: [u64; MOST_WORDS] = [0; MOST_WORDS];
     let words = kept.len();
     origin[0..words].copy_from_slice(kept);
-    let reach = Reach {
-        origin: &origin[0..words],
-        leeway: search.leeway,
-    };
+    let start = &origin[0..words];
     search_levels(
-        search.table,
-        search.width,
-        search.objective,
+        search,
         kept,
         current,
         current_row,
@@ -129,7 +128,7 @@ fn search_packed(
         level,
         &mut next_objectives,
         &mut next_level,
-        reach,
+        start,
     )
 }
 
@@ -143,7 +142,7 @@ fn search_words(
 ) -> Searched
     requires searchable { Searchable (listed search.table) search.width search.objective search.leeway.flips current.old (length level.old) × Binary current.old }
     requires words_held { (length kept.old ≤ most_words) × (length current.old ≤ 64 * length kept.old) × (length current_row.old ≡ length kept.old) }
-    ensures { let s = search.entry in Leaves (searched_in (listed s.table) (bounds s.leeway.flips s.leeway.most current.old) s.width
+    ensures { let s = search.entry in SearchLeaves (searched_in (listed s.table) (bounds s.leeway.flips s.leeway.most current.old) s.width
         (parent_of s.objective current.old)) result.least result.rounds current.new }
 {
     pack(current, kept);
@@ -156,7 +155,7 @@ fn search_words(
 // The same in as many words as a choice of so many signs takes.
 fn search_room(search: Search, current: &mut [u8], level: &mut [u64]) -> Searched
     requires { Searchable (listed search.table) search.width search.objective search.leeway.flips current.old (length level.old) × Binary current.old }
-    ensures { let s = search.entry in Leaves (searched_in (listed s.table) (bounds s.leeway.flips s.leeway.most current.old) s.width
+    ensures { let s = search.entry in SearchLeaves (searched_in (listed s.table) (bounds s.leeway.flips s.leeway.most current.old) s.width
         (parent_of s.objective current.old)) result.least result.rounds current.new }
 {
     let mut kept: [u64; MOST_WORDS] = [0; MOST_WORDS];

@@ -6,12 +6,13 @@ ghost use Rattle.sign_words.specs.Packed.{unpacked};
 ghost use Rattle.sign_words.specs.Distance.{places_apart};
 ghost use Rattle.local_search.specs.Level.{level_of, Ascending};
 ghost use Rattle.local_search.specs.SignSearch.{improving, child_at};
-ghost use Rattle.local_search.specs.Children.{choice_of, flip_w, Expands, Kept};
+ghost use Rattle.local_search.specs.Children.{parent_choice, flip_w, Expands, Kept};
 ghost use Rattle.sign_search.specs.Within.{goes_back, stays_near};
 ghost use Rattle.sign_search.specs.Clauses.{BothPacked};
 
 use local_search::children::{Parent, consider_child, expand_parent};
 use sign_words::distance::distance;
+use sign_words::pack::sign_digit;
 use sign_words::words::sign_in;
 
 // How far a search may go: the first `flips` signs may flip, and at most `most` signs may differ from the start's.
@@ -37,15 +38,15 @@ pub struct Reach<'a> {
     pub leeway: Leeway,
 }
 
-// Whether two signs differ. `same_sign` of tables says the opposite of it by a definition of its own; with that one in its place `back_child` would need
-// besides that the two definitions agree.
+// Whether two signs differ. `same_sign` of tables, which says the opposite, is that crate's own, by a definition of its own: in its place `back_child`
+// would need besides that the two definitions agree.
 fn differs(x: u8, y: u8) -> bool
     ensures { result ≡ cond (eqb (sign_digit x) (sign_digit y)) false true }
 {
-    (x == 0) != (y == 0)
+    sign_digit(x) != sign_digit(y)
 }
 
-// In how many signs a choice, which is in `current` too, differs from the start.
+// In how many signs a choice, which is in `current` too, differs from the start. `as`: no `From` takes a u64 to a usize.
 #[tactic(auto, using(crate::proofs::NearLaws::words_apart))]
 fn places_apart(current: &[u8], parent: &[u64], origin: &[u64]) -> usize
     requires { (length parent.now ≡ length origin.now) × (length parent.now < 65536) × BothPacked current.now parent.now origin.now }
@@ -65,10 +66,10 @@ fn back_child(
     current: &[u8],
     origin: &[u64],
 ) -> usize
-    requires { Expands parent.changes.now (suc i) (choice_of parent) count width (length objectives.old) (length signs.old)
+    requires { Expands parent.changes.now (suc i) (parent_choice parent) count width (length objectives.old) (length signs.old)
         × Ascending (take count objectives.old) × (i < length current.now) × (i < 64 * length origin.now) }
     ensures { let p = parent.entry in Kept width (level_of (length p.row.now) count objectives.old signs.old)
-        (child_at (goes_back p.changes.now current.now (unpacked (length current.now) origin.now)) (flip_w p.changes.now) (choice_of p) i)
+        (child_at (goes_back p.changes.now current.now (unpacked (length current.now) origin.now)) (flip_w p.changes.now) (parent_choice p) i)
         (level_of (length p.row.now) result objectives.new signs.new) result }
 {
     let sign = sign_in(origin, i);
@@ -89,10 +90,10 @@ fn expand_back(
     current: &[u8],
     origin: &[u64],
 ) -> usize
-    requires { Expands parent.changes.now flips (choice_of parent) count width (length objectives.old) (length signs.old)
+    requires { Expands parent.changes.now flips (parent_choice parent) count width (length objectives.old) (length signs.old)
         × Ascending (take count objectives.old) × (flips ≤ length current.now) × (flips ≤ 64 * length origin.now) }
     ensures { let p = parent.entry in Kept width (level_of (length p.row.now) count objectives.old signs.old)
-        (improving (goes_back p.changes.now current.now (unpacked (length current.now) origin.now)) (flip_w p.changes.now) flips (choice_of p))
+        (improving (goes_back p.changes.now current.now (unpacked (length current.now) origin.now)) (flip_w p.changes.now) flips (parent_choice p))
         (level_of (length p.row.now) result objectives.new signs.new) result }
 {
     let mut kept = count;
@@ -114,10 +115,10 @@ pub fn expand_near(
     current: &[u8],
     reach: Reach,
 ) -> usize
-    requires { Expands parent.changes.now reach.leeway.flips (choice_of parent) count width (length objectives.old) (length signs.old)
+    requires { Expands parent.changes.now reach.leeway.flips (parent_choice parent) count width (length objectives.old) (length signs.old)
         × Ascending (take count objectives.old) × (reach.leeway.flips ≤ length current.now) × BothPacked current.now parent.row.now reach.origin.now }
     ensures { let p = parent.entry in Kept width (level_of (length p.row.now) count objectives.old signs.old)
-        (improving (stays_near p.changes.now reach.entry.leeway.most (unpacked (length current.now) reach.entry.origin.now) current.now) (flip_w p.changes.now) reach.entry.leeway.flips (choice_of p))
+        (improving (stays_near p.changes.now reach.entry.leeway.most (unpacked (length current.now) reach.entry.origin.now) current.now) (flip_w p.changes.now) reach.entry.leeway.flips (parent_choice p))
         (level_of (length p.row.now) result objectives.new signs.new) result }
 {
     if current.len() <= reach.leeway.most {

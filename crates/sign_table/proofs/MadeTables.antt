@@ -11,7 +11,7 @@ use Rattle.tables.specs.Table.{Table, table_of}
 use Rattle.tables.specs.Check.{Hall, Accepted}
 use Rattle.tables.specs.Stored.{rows_of, cols_of, values_of, Wrote}
 use Rattle.sign_table.specs.SignTable.{sign_of, sign_places, sign_table}
-use Rattle.sign_table.specs.Made.{made_table, Made}
+use Rattle.sign_table.specs.Made.{made_table, TableMade}
 use Rattle.sign_table.specs.declared.made.SignTable.{SignTable}
 use Rattle.sign_table.proofs.Theorems.{hall_sign_table}
 
@@ -40,7 +40,7 @@ module _ (n : ℕ) (h : Table) (c : ℕ → ℤ) where
   pub made : {rows cols rows' cols' : List ℕ} {values values' : List ℤ} (entries : ℕ) → Hall most_wagons most_entries most_magnitude n h c
       → Wrote (sign_of n h c) (sign_places n h c) 0 rows cols values rows' cols' values' → entries ≡ length (sign_places n h c)
       → length rows ≡ most_sign_entries → length cols ≡ most_sign_entries → length values ≡ most_sign_entries
-      → Made n h c (record { count = entries; rows = rows'; cols = cols'; values = values' })
+      → TableMade n h c (record { count = entries; rows = rows'; cols = cols'; values = values' })
   made entries hall w e r k v =
       let few : length (sign_places n h c) ≤ most_sign_entries = (hall_sign_table hall).entries in
       record {
@@ -49,6 +49,6 @@ module _ (n : ℕ) (h : Table) (c : ℕ → ℤ) where
       }
 
 -- it meets 01's limits
-pub made_accepted : {n : ℕ} {h : Table} {c : ℕ → ℤ} {s : SignTable} → Made n h c s → Hall most_wagons most_entries most_magnitude n h c
+pub made_accepted : {n : ℕ} {h : Table} {c : ℕ → ℤ} {s : SignTable} → TableMade n h c s → Hall most_wagons most_entries most_magnitude n h c
     → Accepted most_signs most_sign_entries most_sign_magnitude (suc n) (made_table s)
 made_accepted m hall = rw m.is (hall_sign_table hall)

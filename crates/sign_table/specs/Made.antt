@@ -10,6 +10,6 @@ abbrev pub made_table : SignTable → Table
 made_table s = table_of s.count (take s.count s.rows) (take s.count s.cols) (take s.count s.values)
 
 -- the arrays hold the sign table of n wagons, of the table h of quadratic costs and the linear costs c
-pub record Made (n : ℕ) (h : Table) (c : ℕ → ℤ) (s : SignTable) : Type 0 where
+pub record TableMade (n : ℕ) (h : Table) (c : ℕ → ℤ) (s : SignTable) : Type 0 where
   pub fits : s.count ≤ most_sign_entries
   pub is : made_table s ≡ sign_table n h c

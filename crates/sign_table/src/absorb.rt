@@ -29,21 +29,14 @@ fn is_here(table: Entries, i: usize, j: usize, k: usize) -> bool
 fn stored_column(table: Entries, i: usize, k: usize) -> Option<usize>
     ensures { result ≡ stored_column table.entry.count (elem table.entry.rows.now) (elem table.entry.cols.now) i k }
 {
-    if in_row(table, i, k) {
-        Some(usize::from(table.cols[k]))
-    } else {
-        None
-    }
+    in_row(table, i, k).then(|| usize::from(table.cols[k]))
 }
 
 // Whether column i comes before the other, if there is one.
 fn comes_first(i: usize, other: Option<usize>) -> bool
     ensures { result ≡ comes_first i other }
 {
-    match other {
-        Some(j) => i < j,
-        None => true,
-    }
+    other.is_none_or(|j| i < j)
 }
 
 // The next kept column of row i, from j on.
@@ -64,7 +57,7 @@ pub(crate) fn next_column(table: Entries, c: &[i64], i: usize, j: usize, k: usiz
 pub(crate) fn after_here(table: Entries, i: usize, j: usize, k: usize) -> usize
     ensures { result ≡ after_here table.entry.count (elem table.entry.rows.now) (elem table.entry.cols.now) i j k }
 {
-    if is_here(table, i, j, k) { k + 1 } else { k }
+    k + usize::from(is_here(table, i, j, k))
 }
 
 // The value of entry k where it stands at (i, j), else 0.

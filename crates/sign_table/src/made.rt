@@ -3,7 +3,7 @@ ghost use Rattle.std.specs.Prelude.{◌≡◌, ◌≤◌, replicate, pos};
 ghost use Rattle.laws.specs.Lists.{elem_z};
 ghost use Rattle.limits.specs.Limits.{most_sign_entries};
 ghost use Rattle.tables.specs.Entries.{listed};
-ghost use Rattle.sign_table.specs.Made.{made_table, Made};
+ghost use Rattle.sign_table.specs.Made.{made_table, TableMade};
 
 use crate::sign_matrix::sign_matrix;
 use limits::MOST_SIGN_ENTRIES;
@@ -37,7 +37,7 @@ impl SignTable {
 
     // Makes it that of (H, c).
     pub fn make(&mut self, hall: JudgedHall)
-        ensures { let h = hall.entry in Made h.n (listed h.table) (elem_z h.c.now) self.new }
+        ensures { let h = hall.entry in TableMade h.n (listed h.table) (elem_z h.c.now) self.new }
     {
         self.count = sign_matrix(
             hall.n,
@@ -49,7 +49,7 @@ impl SignTable {
         );
     }
 
-    // Its entries. The count's clause is no fact of the struct: tried as a ghost field, for which the struct has to leave this file (the methods' clauses name `Made`,
+    // Its entries. The count's clause is no fact of the struct: tried as a ghost field, for which the struct has to leave this file (the methods' clauses name `TableMade`,
     // which names the struct), while each caller's search finds the clause.
     pub fn entries(&self) -> Entries
         requires { self.now.count ≤ most_sign_entries }

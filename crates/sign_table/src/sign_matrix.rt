@@ -1,5 +1,6 @@
 // `qubo_hessian_to_sign_matrix`, of the absorbed table, in one walk of the entries of H.
 // The slices that are written stay apart: tried as a struct in `reduced`, where it is proved, but each function has three clauses more, on names.
+// So do n, table and c: tried, `Rising` of `Convertible` is no ghost field as it stands (`Before` says "or"), and with none no clause would go.
 ghost use Rattle.std.specs.Prelude.{◌≡◌, not, [], ◌∷◌, suc, ◌+◌, ◌*◌, ◌≤◌, ◌<◌, ◌^◌, length, nat_abs, neg_ℤ};
 ghost use Rattle.laws.specs.Lists.{elem_z};
 ghost use Rattle.tables.specs.Entries.{listed};
@@ -10,7 +11,8 @@ ghost use Rattle.sign_table.specs.Clauses.{Fits, RowFits, wagon_rows, anchor_row
 use crate::absorb::{after_here, here_value, next_column, row_sum};
 use tables::entries::Entries;
 
-// One entry, at `at`.
+// One entry, at `at`. Row and column are narrowed by `as`: they are below 65536, and `try_from` would leave a refusal that never comes.
+// `put_slot` of reduced ends with the same three writes: one function for both would be a public one in a crate below both, with a contract longer than it.
 fn put(
     rows: &mut [u16],
     cols: &mut [u16],

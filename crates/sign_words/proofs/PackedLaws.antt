@@ -3,18 +3,20 @@ use Prim.Native.Nat.{ℕ, zero, suc, ◌+◌, ◌*◌, ◌/◌, ◌%◌, ◌^◌
 use native.Mathlib.Nat.{zero-lt-suc}
 use native.Mathlib.Omega.{arith}
 use mathlib.Core.List.{List}
-use mathlib.Core.Logic.{◌⊎◌, inl, inr, ⊎_elim}
+use mathlib.Core.Logic.{⊎_elim}
 use mathlib.Core.Path.{◌≡◌, refl, sym, ap, ap₂, ◌∙◌, subst}
-use lib.Bits.{bit_xor, differ, xor_lt}
+use lib.Bits.{bit_xor, xor_lt}
 use lib.Pow.{pow-lt, pow_pos}
-use native.Mathlib.Decide.{dec_le}
+use Rattle.std.specs.Int.{bit_at}
+use Rattle.std.proofs.lemmas.Bool.{cases_eq}
+use Rattle.std.proofs.lemmas.Nat.Bits.{bit_at-zero, bit_at-lt, bit_at_xor, bit_at-pow_same, bit_at-pow_other, same_from_bits_below}
 use lib.ListN.{length, set, length-set, get_or-eq_default}
 use lib.Seq.{ext_get_or, get_or-set_same, get_or-set_other}
 use Rattle.laws.specs.Lists.{elem, tabulate}
 use Rattle.laws.proofs.Made.{length_tabulate, get_d_tabulate, below_or_not}
 use Rattle.sign_words.specs.Signs.{flip_byte, flip_sign, sign_digit, Binary}
-use Rattle.sign_words.specs.Packed.{digit, sign_in, unpacked, word, digit_at, packed, flip_in, Tidy, Flipped, Packs}
-use Rattle.sign_words.proofs.Digits.{digit_lt, word_lt, digit_word, same_digits, digit_one, digit_none, digit_xor, digit_zero}
+use Rattle.sign_words.specs.Packed.{sign_in, unpacked, word, digit_at, packed, flip_in, Tidy, Flipped, Packs}
+use Rattle.sign_words.proofs.Digits.{word_lt, digit_word}
 
 pub sign_digit_lt : (s : ℕ) → sign_digit s < 2
 sign_digit_lt zero = zero-lt-suc 1
@@ -26,12 +28,12 @@ sign_digit_bit (suc zero) h = refl
 sign_digit_bit (suc (suc s)) h = absurd (omega arith)
 
 -- digit j of word k
-pub sign_at_lem : (words : List ℕ) (k j : ℕ) → j < 64 → sign_in words (64 * k + j) ≡ digit (elem words k) j
+pub sign_at_lem : (words : List ℕ) (k j : ℕ) → j < 64 → sign_in words (64 * k + j) ≡ bit_at (elem words k) j
 unfolding sign_in
 sign_at_lem words k j h =
     let quot : (64 * k + j) / 64 ≡ k = omega arith in
     let rest : (64 * k + j) % 64 ≡ j = omega arith in
-    ap₂ (λ (a b : ℕ). digit (elem words a) b) quot rest
+    ap₂ (λ (a b : ℕ). bit_at (elem words a) b) quot rest
 
 -- ---- in and out
 
@@ -51,7 +53,7 @@ pub sign_packed : (n : ℕ) (x : List ℕ) (i : ℕ) → i < 64 * n → sign_in 
 unfolding sign_in packed
 sign_packed n x i h =
     let back : 64 * (i / 64) + i % 64 ≡ i = omega arith in
-    ap (λ (w : ℕ). digit w (i % 64)) (get_d_tabulate (λ k. word (digit_at x k) 64) n (i / 64) 0 (omega arith))
+    ap (λ (w : ℕ). bit_at w (i % 64)) (get_d_tabulate (λ k. word (digit_at x k) 64) n (i / 64) 0 (omega arith))
     ∙ digit_word (digit_at x (i / 64)) 64 (i % 64) (λ j. sign_digit_lt (elem x (64 * (i / 64) + j))) (omega arith)
     ∙ ap (λ (k : ℕ). sign_digit (elem x k)) back
 
@@ -69,7 +71,7 @@ pub same_words : (a b : List ℕ) → length a ≡ length b → ((k : ℕ) → e
 same_words a b long p q e =
     ext_get_or 0 a b long
     (λ k h.
-    same_digits (elem a k) (elem b k) 64 (p k) (q k)
+    same_from_bits_below 64 (elem a k) (elem b k) (p k) (q k)
     (λ j l. sym (sign_at_lem a k j l) ∙ e (64 * k + j) (omega arith) ∙ sign_at_lem b k j l))
 
 pub packed_words : (n : ℕ) (x : List ℕ) (k : ℕ) → elem (packed n x) k < 2 ^ 64
@@ -84,24 +86,24 @@ packed_words n x k = ⊎_elim inside outside (below_or_not k n)
 
 pub sign_lt : (words : List ℕ) (i : ℕ) → sign_in words i < 2
 unfolding sign_in
-sign_lt words i = digit_lt (elem words (i / 64)) (i % 64)
+sign_lt words i = bit_at-lt (elem words (i / 64)) (i % 64)
 
 -- no digit is set behind the last word
 pub sign_outside : (words : List ℕ) (i : ℕ) → 64 * length words ≤ i → sign_in words i ≡ 0
 unfolding sign_in
-sign_outside words i h = ap (λ (w : ℕ). digit w (i % 64)) (get_or-eq_default words 0 (omega arith)) ∙ digit_zero (i % 64)
+sign_outside words i h = ap (λ (w : ℕ). bit_at w (i % 64)) (get_or-eq_default words 0 (omega arith)) ∙ bit_at-zero (i % 64)
 
 -- ---- a flip of one sign of a list
 
-flip_sign_here : (i : ℕ) (x : List ℕ) → i < length x → elem (flip_sign i x) i ≡ flip_byte (elem x i)
+pub flip_sign_here : (i : ℕ) (x : List ℕ) → i < length x → elem (flip_sign i x) i ≡ flip_byte (elem x i)
 unfolding flip_sign
 flip_sign_here i x h = get_or-set_same x i (flip_byte (elem x i)) 0 h
 
-flip_sign_there : (i : ℕ) (x : List ℕ) (j : ℕ) → (j ≡ i → ⊥) → elem (flip_sign i x) j ≡ elem x j
+pub flip_sign_there : (i : ℕ) (x : List ℕ) (j : ℕ) → (j ≡ i → ⊥) → elem (flip_sign i x) j ≡ elem x j
 unfolding flip_sign
 flip_sign_there i x j d = get_or-set_other x i j (flip_byte (elem x i)) 0 d
 
-length_flip_sign : (i : ℕ) (x : List ℕ) → length (flip_sign i x) ≡ length x
+pub length_flip_sign : (i : ℕ) (x : List ℕ) → length (flip_sign i x) ≡ length x
 unfolding flip_sign
 length_flip_sign i x = length-set x i (flip_byte (elem x i))
 
@@ -112,55 +114,41 @@ digit_flip (suc s) = refl
 
 -- ---- a flip
 
-other : (d : ℕ) → d < 2 → differ d 1 ≡ flip_byte d
+other : (d : ℕ) → d < 2 → (d + 1) % 2 ≡ flip_byte d
 unfolding flip_byte
 other zero h = refl
 other (suc zero) h = refl
 other (suc (suc d)) h = absurd (omega arith)
 
-differ_none : (d : ℕ) → differ d 0 ≡ d
-differ_none zero = refl
-differ_none (suc d) = refl
-
-pub equal_or_not : (a b : ℕ) → (a ≡ b) ⊎ (a ≡ b → ⊥)
-equal_or_not a b = go (dec_le a b) (dec_le b a)
-  where
-    go : Dec (a ≤ b) → Dec (b ≤ a) → (a ≡ b) ⊎ (a ≡ b → ⊥)
-    go (yes p) (yes q) = inl (omega arith)
-    go (yes p) (no q) = inr (λ e. omega arith)
-    go (no p) q = inr (λ e. omega arith)
+pub length_flip_in : (i : ℕ) (words : List ℕ) → length (flip_in i words) ≡ length words
+unfolding flip_in
+length_flip_in i words = length-set words (i / 64) (bit_xor (elem words (i / 64)) (2 ^ (i % 64)))
 
 module _ (i : ℕ) (words : List ℕ) (inside : i < 64 * length words) where
   pub flipped_here : sign_in (flip_in i words) i ≡ flip_byte (sign_in words i)
   unfolding sign_in flip_in
   flipped_here =
-      ap (λ (w : ℕ). digit w (i % 64)) (get_or-set_same words (i / 64) (bit_xor (elem words (i / 64)) (2 ^ (i % 64))) 0 (omega arith))
-      ∙ digit_xor (elem words (i / 64)) (2 ^ (i % 64)) (i % 64)
-      ∙ ap (differ (digit (elem words (i / 64)) (i % 64))) (digit_one (i % 64))
-      ∙ other (digit (elem words (i / 64)) (i % 64)) (digit_lt (elem words (i / 64)) (i % 64))
+      ap (λ (w : ℕ). bit_at w (i % 64)) (get_or-set_same words (i / 64) (bit_xor (elem words (i / 64)) (2 ^ (i % 64))) 0 (omega arith))
+      ∙ bit_at_xor (elem words (i / 64)) (2 ^ (i % 64)) (i % 64)
+      ∙ ap (λ (d : ℕ). (bit_at (elem words (i / 64)) (i % 64) + d) % 2) (bit_at-pow_same (i % 64))
+      ∙ other (bit_at (elem words (i / 64)) (i % 64)) (bit_at-lt (elem words (i / 64)) (i % 64))
 
   pub flipped_there : (j : ℕ) → (j ≡ i → ⊥) → sign_in (flip_in i words) j ≡ sign_in words j
   unfolding sign_in flip_in
-  flipped_there j other_place = ⊎_elim same_word other_word (equal_or_not (j / 64) (i / 64))
+  flipped_there j other_place = ⊎_elim same_word other_word (cases_eq (j / 64) (i / 64))
     where
       w : ℕ
       w = bit_xor (elem words (i / 64)) (2 ^ (i % 64))
 
-      same_word : j / 64 ≡ i / 64 → digit (elem (set words (i / 64) w) (j / 64)) (j % 64) ≡ digit (elem words (j / 64)) (j % 64)
+      same_word : j / 64 ≡ i / 64 → bit_at (elem (set words (i / 64) w) (j / 64)) (j % 64) ≡ bit_at (elem words (j / 64)) (j % 64)
       same_word e =
-          let apart : i % 64 ≡ j % 64 → ⊥ = λ r. other_place (omega arith) in
+          let apart : j % 64 ≡ i % 64 → ⊥ = λ r. other_place (omega arith) in
           rw e
-          (ap (λ (v : ℕ). digit v (j % 64)) (get_or-set_same words (i / 64) w 0 (omega arith))
-          ∙ digit_xor (elem words (i / 64)) (2 ^ (i % 64)) (j % 64)
-          ∙ ap (differ (digit (elem words (i / 64)) (j % 64))) (digit_none (i % 64) (j % 64) apart)
-          ∙ differ_none (digit (elem words (i / 64)) (j % 64)))
+          (ap (λ (v : ℕ). bit_at v (j % 64)) (get_or-set_same words (i / 64) w 0 (omega arith))
+          ∙ omega (arith, bit_at_xor (elem words (i / 64)) (2 ^ (i % 64)) (j % 64), bit_at-pow_other (i % 64) (j % 64) apart))
 
-      other_word : (j / 64 ≡ i / 64 → ⊥) → digit (elem (set words (i / 64) w) (j / 64)) (j % 64) ≡ digit (elem words (j / 64)) (j % 64)
-      other_word h = ap (λ (v : ℕ). digit v (j % 64)) (get_or-set_other words (i / 64) (j / 64) w 0 h)
-
-  pub length_flip_in : length (flip_in i words) ≡ length words
-  unfolding flip_in
-  length_flip_in = length-set words (i / 64) (bit_xor (elem words (i / 64)) (2 ^ (i % 64)))
+      other_word : (j / 64 ≡ i / 64 → ⊥) → bit_at (elem (set words (i / 64) w) (j / 64)) (j % 64) ≡ bit_at (elem words (j / 64)) (j % 64)
+      other_word h = ap (λ (v : ℕ). bit_at v (j % 64)) (get_or-set_other words (i / 64) (j / 64) w 0 h)
 
   -- sign i of any m signs that the words hold is flipped
   pub unpacked_flip : (m : ℕ) → i < m → unpacked m (flip_in i words) ≡ flip_sign i (unpacked m words)
@@ -177,7 +165,7 @@ module _ (i : ℕ) (words : List ℕ) (inside : i < 64 * length words) where
       (λ (e : j ≡ i).
       rw e (flipped_here ∙ sym (get_or-set_same x i y 0 (omega (arith, length_unpacked m words)) ∙ ap flip_byte (elem_unpacked m words i h))))
       (λ (n : j ≡ i → ⊥). flipped_there j n ∙ sym (get_or-set_other x i j y 0 n ∙ elem_unpacked m words j j-in))
-      (equal_or_not j i))
+      (cases_eq j i))
 
   -- and the digits behind the last sign stay 0
   pub tidy_flip : (m : ℕ) → i < m → Tidy m words → Tidy m (flip_in i words)
@@ -189,7 +177,7 @@ module _ (i : ℕ) (words : List ℕ) (inside : i < 64 * length words) where
 
   words_flip : ((k : ℕ) → elem words k < 2 ^ 64) → (k : ℕ) → elem (flip_in i words) k < 2 ^ 64
   unfolding flip_in
-  words_flip small k = ⊎_elim here there (equal_or_not k (i / 64))
+  words_flip small k = ⊎_elim here there (cases_eq k (i / 64))
     where
       w : ℕ
       w = bit_xor (elem words (i / 64)) (2 ^ (i % 64))
@@ -228,10 +216,10 @@ flip_packed n x i h q =
     let a : List ℕ = packed n x in
     let inside : i < 64 * length a = omega (arith, length_packed n x) in
     same_words (flip_in i a) (packed n (flip_sign i x))
-    (length_flip_in i a inside ∙ length_packed n x ∙ sym (length_packed n (flip_sign i x)))
+    (length_flip_in i a ∙ length_packed n x ∙ sym (length_packed n (flip_sign i x)))
     (words_flip i a inside (packed_words n x)) (packed_words n (flip_sign i x))
     (λ j l.
-    let j-in : j < 64 * n = omega (arith, length_flip_in i a inside, length_packed n x) in
+    let j-in : j < 64 * n = omega (arith, length_flip_in i a, length_packed n x) in
     ⊎_elim
     (λ (e : j ≡ i).
     rw e
@@ -240,15 +228,15 @@ flip_packed n x i h q =
     (λ (d : j ≡ i → ⊥).
     flipped_there i a inside j d ∙ sign_packed n x j j-in
     ∙ sym (sign_packed n (flip_sign i x) j j-in ∙ ap sign_digit (flip_sign_there i x j d)))
-    (equal_or_not j i))
+    (cases_eq j i))
 
-flip_byte_lt : (s : ℕ) → flip_byte s < 2
+pub flip_byte_lt : (s : ℕ) → flip_byte s < 2
 unfolding flip_byte
 flip_byte_lt zero = omega arith
 flip_byte_lt (suc s) = omega arith
 
 pub binary_flip : (i : ℕ) (x : List ℕ) → Binary x → Binary (flip_sign i x)
-binary_flip i x b = record { small = λ j. ⊎_elim (here j) (λ (d : j ≡ i → ⊥). rw (flip_sign_there i x j d) (b.small j)) (equal_or_not j i) }
+binary_flip i x b = record { small = λ j. ⊎_elim (here j) (λ (d : j ≡ i → ⊥). rw (flip_sign_there i x j d) (b.small j)) (cases_eq j i) }
   where
     here : (j : ℕ) → j ≡ i → elem (flip_sign i x) j < 2
     here j e =

@@ -1,11 +1,12 @@
 -- How far two choices are apart, and where.
 use Rattle.std.specs.Prelude.{ℕ, ◌*◌, ◌≤◌, ◌<◌, cond, List, ◌≡◌, eqb, length, Option, Some, None}
+use Rattle.std.specs.Int.{bit_at}
 use Rattle.std.specs.Int.Bits.{bit_xor}
 use Rattle.std.specs.Int.Count.{ones}
 use Rattle.laws.specs.Lists.{elem}
 use Rattle.laws.specs.Sum.{total}
 use Rattle.sign_words.specs.Signs.{sign_digit}
-use Rattle.sign_words.specs.Packed.{digit, sign_in}
+use Rattle.sign_words.specs.Packed.{sign_in}
 
 -- the distance between two choices in n words: the number of ones in their exclusive or
 unfoldable pub ones_apart : ℕ → List ℕ → List ℕ → ℕ
@@ -22,7 +23,7 @@ pub data FirstApart (f g : ℕ → ℕ) (from m : ℕ) : Option ℕ → Type 0 w
 
 -- the first bit from `from` on in which two words differ
 abbrev pub BitApart : ℕ → ℕ → ℕ → Option ℕ → Type 0
-BitApart a b from = FirstApart (digit a) (digit b) from 64
+BitApart a b from = FirstApart (bit_at a) (bit_at b) from 64
 
 -- the first sign from `from` on in which two choices differ
 abbrev pub SignApart : List ℕ → List ℕ → ℕ → Option ℕ → Type 0

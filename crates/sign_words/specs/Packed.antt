@@ -1,17 +1,14 @@
 -- A choice of signs in words of 64 bits: bit i mod 64 of word i div 64 is set for the sign −, and the bits behind the last sign are 0.
 -- The number of words is that of the list.
 use Rattle.std.specs.Prelude.{ℕ, zero, suc, ◌+◌, ◌*◌, ◌/◌, ◌%◌, ◌^◌, ◌≤◌, ◌<◌, List, ◌≡◌, set}
+use Rattle.std.specs.Int.{bit_at}
 use Rattle.std.specs.Int.Bits.{bit_xor}
 use Rattle.laws.specs.Lists.{elem, tabulate}
 use Rattle.sign_words.specs.Signs.{flip_sign, sign_digit}
 
--- bit i of a number, from the low end
-abbrev pub digit : ℕ → ℕ → ℕ
-digit w i = w / 2 ^ i % 2
-
 -- sign i
 unfoldable pub sign_in : List ℕ → ℕ → ℕ
-sign_in words i = digit (elem words (i / 64)) (i % 64)
+sign_in words i = bit_at (elem words (i / 64)) (i % 64)
 
 -- the first m signs, a byte for each
 unfoldable pub unpacked : ℕ → List ℕ → List ℕ

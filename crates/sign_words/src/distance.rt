@@ -8,7 +8,7 @@ ghost use Rattle.sign_words.specs.Distance.{ones_apart, BitApart, SignApart};
 fn ones_in(w: u64) -> u64
     ensures { (result ≡ ones w) × (result ≤ 64) }
 {
-    u64::count_ones(w) as u64
+    u64::from(w.count_ones())
 }
 
 // The number of bits in which two words differ.
@@ -24,19 +24,15 @@ pub fn distance(a: &[u64], b: &[u64]) -> u64
     ensures value { result ≡ ones_apart (length a.now) a.now b.now }
     ensures few { result ≤ 64 * length a.now }
 {
-    let mut sum: u64 = 0;
-    for k in 0..a.len() {
-        sum += bits_apart(a[k], b[k]);
-    }
-    sum
+    (0..a.len()).map(|k| bits_apart(a[k], b[k])).sum()
 }
 
-// The first bit from `from` on in which two words differ.
+// The first bit from `from` on in which two words differ. `as`: no `From` takes a u32 to a usize.
 fn bit_apart(a: u64, b: u64, from: usize) -> Option<usize>
     requires { from < 64 }
     ensures { BitApart a b from result }
 {
-    let r = from + u64::trailing_zeros((a ^ b) >> from) as usize;
+    let r = from + ((a ^ b) >> from).trailing_zeros() as usize;
     if r < 64 { Some(r) } else { None }
 }
 
@@ -45,15 +41,12 @@ pub fn sign_apart(a: &[u64], b: &[u64], from: usize) -> Option<usize>
     requires { (length a.now ≡ length b.now) × (length a.now < 65536) × (from ≤ 64 * length a.now) }
     ensures { SignApart a.now b.now from result }
 {
-    let end = 64 * a.len();
-    let mut i = from;
-    // A `while`: how far each turn goes on is found from the words, so that nothing is counted.
-    while i < end {
-        let k = i / 64;
-        if let Some(r) = bit_apart(a[k], b[k], i % 64) {
+    let mut at = from % 64;
+    for k in from / 64..a.len() {
+        if let Some(r) = bit_apart(a[k], b[k], at) {
             return Some(64 * k + r);
         }
-        i = 64 * k + 64;
+        at = 0;
     }
     None
 }

@@ -6,6 +6,13 @@ ghost use Rattle.sign_words.specs.Packed.{unpacked, word, digit_at, packed, Pack
 
 use crate::words::sign_in;
 
+// A sign's byte as 0 or 1: any byte but 0 is 1.
+pub fn sign_digit(x: u8) -> u8
+    ensures { result ≡ sign_digit x }
+{
+    u8::from(x != 0)
+}
+
 // The bit of a sign's byte; 0 behind the last sign.
 fn sign_bit(signs: &[u8], i: usize) -> u64
     ensures { result ≡ sign_digit (elem signs.now i) }

@@ -1,11 +1,12 @@
 // One sign of a choice in words, and a copy of words.
 ghost use Rattle.std.specs.Prelude.{◌≡◌, ◌*◌, ◌^◌, ◌<◌, length};
-ghost use Rattle.sign_words.specs.Packed.{digit, sign_in, flip_in, Flipped};
+ghost use Rattle.std.specs.Int.{bit_at};
+ghost use Rattle.sign_words.specs.Packed.{sign_in, flip_in, Flipped};
 
-// Bit i of a word.
-fn bit(w: u64, i: u64) -> u8
+// Bit i of a word. `as`: no `From` takes a u64 to a u8; a rest by 2 fits.
+fn bit(w: u64, i: usize) -> u8
     requires { i < 64 }
-    ensures { result ≡ digit w i }
+    ensures { result ≡ bit_at w i }
 {
     ((w >> i) % 2) as u8
 }
@@ -16,11 +17,11 @@ pub fn sign_in(words: &[u64], i: usize) -> u8
     requires { i < 64 * length words.now }
     ensures { result ≡ sign_in words.now i }
 {
-    bit(words[i / 64], (i % 64) as u64)
+    bit(words[i / 64], i % 64)
 }
 
 // The number with bit i set.
-fn one_at(i: u64) -> u64
+fn one_at(i: usize) -> u64
     requires { i < 64 }
     ensures { result ≡ 2 ^ i }
 {
@@ -34,7 +35,7 @@ pub fn flip_in(words: &mut [u64], i: usize)
     ensures words_after { words.new ≡ flip_in i words.old }
     ensures flipped { Flipped i words.old words.new }
 {
-    words[i / 64] = words[i / 64] ^ one_at((i % 64) as u64);
+    words[i / 64] ^= one_at(i % 64);
 }
 
 // A level's words or objectives, copied. A loop: with the library's `copy_from_slice` in both places a search took 1.03 to 1.07 of its time (W 1, 16, 128).

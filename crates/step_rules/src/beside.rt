@@ -5,7 +5,7 @@ ghost use Rattle.ieee.specs.Floats.{◌+ᶠ◌};
 
 use factor::term::Term;
 
-// The terms of the sums beside row `vertex`: every entry off the diagonal, added.
+// The terms of the sums beside row `vertex`: every entry off the diagonal, added. row_gradient's against.rt says why it has a type of its own.
 #[derive(Clone, Copy)]
 pub struct Beside {
     pub vertex: usize,

@@ -1,4 +1,4 @@
-// The choice that signs decode to.
+// The choice that signs decode to. `m, signs, b` are in no struct: they are the arguments of a call of the C interface.
 ghost use Rattle.std.specs.Prelude.{◌≡◌, ◌-◌};
 ghost use Rattle.laws.specs.Lists.{fill};
 ghost use Rattle.tables.specs.Cost.{decoded_byte};

@@ -33,7 +33,8 @@ pub fn obj_rounded(table: LentTable, signs: &[u8]) -> Result<i64, Refusal>
     Ok(objective::obj_rounded(entries, signs))
 }
 
-// The floor under every objective, in eighths.
+// The floor under every objective, in eighths. This and the next differ in what they answer of the entries: one function that takes that as a closure would be
+// a third contract, which says of any closure what these two say, to save two lines.
 pub fn floor_eighths(table: LentTable) -> Result<i64, Refusal>
     ensures { let t = table.entry in in_numbers result ≡ eighths_answer (floor_number t.size t.count t.rows.now t.cols.now t.values.now)
         (floor_of (lent_table t)) }

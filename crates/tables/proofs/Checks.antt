@@ -5,14 +5,12 @@ use mathlib.Core.Bool.{Bool, true, false, not, ◌&&◌}
 use mathlib.Core.List.{List, [], ◌∷◌}
 use mathlib.Core.Logic.{◌⊎◌, inl, inr}
 use native.Mathlib.Omega.{arith}
-use native.Mathlib.Numerals.{add-one}
 use native.Mathlib.Nat.{eq-or-lt_of_le}
 use native.Mathlib.Decide.{ℕ_discrete, dec_lt}
 use borrow.Author.Tests.{eq-eqb, ne_eqb, eqb-true, ltb-false, leb-false, lt-ltb, le-ltb, lt-leb, not-false}
 use lib.ListN.{length}
 use lib.Dec.{eqb, ltb}
 use lib.IntN.{ℤ, pos, negsuc}
-use Rattle.laws.specs.Sum.{total}
 use Rattle.laws.specs.Lists.{any_below}
 use Rattle.laws.specs.Refusal.{◌if◌, or_else, first, short}
 use Rattle.laws.proofs.Refusal.{stop, pass, clear, first_head, first_rest, first_skip, first_end}
@@ -77,13 +75,7 @@ module _ (t : Table) (k j key : ℕ) (placed : Placed t.row t.column t.count) (t
   pub present : j < t.count → is_mirror t k j ≡ any_below t.count (is_mirror t k)
   present m = sym (below_only _ t.count j m (λ i l other. off i l (elsewhere m i l other)))
 
--- ---- the capped sum
-
-pub capped_more : (f : ℕ → ℕ) (i cap : ℕ) {sum x : ℕ} → sum ≡ min (total i f) cap → x ≡ f i → min (sum + x) cap ≡ min (total (i + 1) f) cap
-unfolding total
-capped_more f i cap {sum} {x} s v = rw add-one (omega arith)
-
--- a capped sum is above the limit exactly where the sum is
+-- ---- the capped sum: it is above the limit exactly where the sum is
 same_test : (limit a b : ℕ) → (limit < b → limit < a) → (b ≤ limit → a ≤ limit) → ltb limit a ≡ ltb limit b
 same_test limit a b up down = go (dec_lt limit b)
   where

@@ -10,7 +10,6 @@ ghost use Rattle.limits.specs.Limits.{most_wagons, most_entries, most_magnitude,
 ghost use Rattle.tables.specs.Lent.{LentWithin, lent_table, costs_of};
 ghost use Rattle.tables.specs.Check.{bad_size, bad_signs, signs_number, before, bad_entry, bad_order, placed_number, hall_number, table_number, short_table, short_hall};
 
-use crate::entries::Entries;
 use crate::lent::{LentHall, LentTable};
 use crate::mirror::unmirrored;
 use limits::{
@@ -34,7 +33,7 @@ pub fn bad_signs(m: usize) -> bool
     m < 1 || MOST_SIGNS < m
 }
 
-// The number of a call on signs alone, of which `short` says whether a slice is: 31, else 13 of m.
+// The number of a call on signs alone, of which `short` says whether a slice is: 31, else 13 of m. A flag, since the slices are the caller's.
 #[tactic(auto, unfolding(laws::specs::Refusal::first, laws::specs::Refusal::or_else))]
 pub fn signs_number(short: bool, m: usize) -> Result<(), Refusal>
     ensures { numbered result ≡ signs_number short m }
@@ -53,7 +52,7 @@ pub fn signs_number(short: bool, m: usize) -> Result<(), Refusal>
 fn before(i: u16, j: u16, k: u16, l: u16) -> bool
     ensures { result ≡ before i j k l }
 {
-    i < k || i == k && j < l
+    (i, j) < (k, l)
 }
 
 // Entry k is out of range, or not after the entry before.
@@ -80,11 +79,7 @@ pub fn magnitudes_capped(cap: u64, count: usize, values: &[i64]) -> u64
     requires { (count ≤ length values.now) × (cap ≤ 2 ^ 62) }
     ensures { result ≡ min (total count (λ k. nat_abs (elem_z values.now k))) cap }
 {
-    let mut sum: u64 = 0;
-    for k in 0..count {
-        sum = (sum + values[k].unsigned_abs()).min(cap);
-    }
-    sum
+    (0..count).fold(0, |sum: u64, k| (sum + values[k].unsigned_abs()).min(cap))
 }
 
 // 16 for (H, c): its magnitude is above the limit.
@@ -122,13 +117,7 @@ fn placed_number(
     if bad_order(table.size, table.count, table.rows, table.cols) {
         return Err(Refusal::Entry);
     }
-    let entries = Entries {
-        count: table.count,
-        rows: table.rows,
-        cols: table.cols,
-        values: table.values,
-    };
-    if unmirrored(entries) {
+    if unmirrored(table.entries()) {
         return Err(Refusal::Mirror);
     }
     Ok(())
@@ -136,6 +125,7 @@ fn placed_number(
 
 // The first number of (H, c), within limits that the caller names. This and `table_number_within` stay beside those of 01's limits, since they promise of any
 // limits; and they are two, since of (H, c) another least size is asked, and 16 has the costs in it.
+// `most, capacity, limit` stay three numbers: these two alone take all three, and the definitions that they cite take them so.
 pub fn hall_number_within(
     most: usize,
     capacity: usize,

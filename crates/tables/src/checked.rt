@@ -1,4 +1,6 @@
-// 31 first, then the numbers of what is lent; what none of them refuses is handed over. Two functions: a sign table and (H, c) have other limits.
+// 31 first, then the numbers of what is lent; what none of them refuses is handed over. Two functions: a `LentTable` becomes `Entries`, a
+// `LentHall` a `JudgedHall`, each within its own limits. `short` stays beside what is lent, no `Option` of it: a caller judges it by its other slices too (signs, a
+// choice), and the numbers are said of what is lent where a slice is short as well.
 ghost use Rattle.std.specs.Prelude.{◌≡◌, false, [], ◌∷◌, ◌≤◌, length};
 ghost use Rattle.std.specs.Result.{IfOk};
 ghost use Rattle.laws.specs.Lists.{elem_z};
@@ -28,13 +30,7 @@ pub fn checked_table(short: bool, table: LentTable) -> Result<Entries, Refusal>
         return Err(Refusal::Slice);
     }
     table_number(table)?;
-    let entries = Entries {
-        count: table.count,
-        rows: table.rows,
-        cols: table.cols,
-        values: table.values,
-    };
-    Ok(entries)
+    Ok(table.entries())
 }
 
 // (H, c) as it is once judged, for who has judged it.
@@ -44,15 +40,9 @@ pub fn judged_hall(hall: LentHall) -> JudgedHall
     requires judged { hall_number most_wagons most_entries most_magnitude hall.table.size (lent_table hall.table) (elem_z hall.c.now) ≡ 0 }
     ensures { JudgedOf hall.entry result }
 {
-    let table = Entries {
-        count: hall.table.count,
-        rows: hall.table.rows,
-        cols: hall.table.cols,
-        values: hall.table.values,
-    };
     JudgedHall {
         n: hall.table.size,
-        table,
+        table: hall.table.entries(),
         c: hall.c,
     }
 }

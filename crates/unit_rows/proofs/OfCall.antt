@@ -42,6 +42,7 @@ use Rattle.tables.specs.CostTable.{CostTable}
 use Rattle.run_record.specs.Numbers.{is_stopped, sweep_number}
 use Rattle.run_sweep.specs.Work.{Work, sign_table_of, work_of, call_work}
 use Rattle.run_sweep.specs.Sweep.{State, while_open, swept_once, standing_once, sweeps_up_to, run_after, advanced}
+use Rattle.run_sweep.proofs.Loop.{goes}
 use Rattle.run_contract.specs.Calls.{Sweeps, used}
 use Rattle.run_contract.specs.Log.{Made, is_left}
 use Rattle.run_contract.proofs.Accepting.{Sweeping, sweep_accepted}
@@ -256,13 +257,9 @@ ever_once : (w : Work) (run : Run) (rows : List Float) (i : ℕ) → is_stopped 
 unfolding ever_rewritten_by
 ever_once w run rows i e = open_once run.stage (rewritten_by w run rows i) e
 
-open_picks : (s : Stage) (next last : State) → is_stopped s ≡ false → while_open s next last ≡ next
-open_picks Open next last e = refl
-open_picks Stopped next last e = let z : ◌≡◌ {A = ℕ} 0 1 = cc in absurd (omega arith)
-
 one_standing : (w : Work) (run : Run) (rows : List Float) → is_stopped run.stage ≡ false → (sweeps_up_to 1 w run rows).run.standing ≡ run.standing + standing_once w run rows
 unfolding sweeps_up_to run_after advanced
-one_standing w run _ e = ap (λ (s : State). s.run.standing) (open_picks run.stage _ _ e)
+one_standing w run _ e = ap (λ (s : State). s.run.standing) (goes run.stage _ _ e)
 
 length_only : (b : Bool) (i : ℕ) → length (only_if (not b) i) ≡ cond b 0 1
 length_only true i = refl
@@ -339,7 +336,7 @@ first_left k w run rows e =
     let next = run_after run w (swept_once w run rows) (standing_once w run rows) in
     let rest = never_falls k w next (swept_once w run rows) in
     let grown = next_standing w run rows in
-    let picked = ap (λ (s : State). s.run.standing) (open_picks run.stage (sweeps_up_to k w next (swept_once w run rows)) (record { run = run; factor = rows }) e) in
+    let picked = ap (λ (s : State). s.run.standing) (goes run.stage (sweeps_up_to k w next (swept_once w run rows)) (record { run = run; factor = rows }) e) in
     omega (arith, rest, grown, picked)
 
 only_none : (b : Bool) (i : ℕ) → length (only_if b i) ≡ 0 → b ≡ false

@@ -7,4 +7,4 @@ update_at-requires c = rw c.gradient_at.auto.g c.requires.whole
 
 pub returns : goal.returns
 unfolding swept_row row_by
-returns c = record { value = rw (c.sqrt-norm.ensures, c.squared_norm.ensures, c.gradient_at.ensures) at c.writes.ensures; factor_after = rw (c.gradient_at.auto.g, c.sqrt-norm.ensures, c.squared_norm.ensures, c.gradient_at.ensures) at c.update_at.ensures.factor_after; g_after = c.gradient_at.ensures }
+returns c = record { value = rw (c.sqrt-norm.ensures, c.squared_norm.ensures, c.gradient_at.ensures) at c.update_at.ensures.value; factor_after = rw (c.gradient_at.auto.g, c.sqrt-norm.ensures, c.squared_norm.ensures, c.gradient_at.ensures) at c.update_at.ensures.factor_after; g_after = c.gradient_at.ensures }

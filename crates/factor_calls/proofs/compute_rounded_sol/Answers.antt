@@ -1,10 +1,7 @@
 -- `factor_calls::compute_rounded_sol` meets its contract. By the number. Assumes nothing.
 use Rattle.std.specs.Prelude.{Ok}
-use Prim.Native.Nat.{◌≤◌}
-use mathlib.Core.Path.{refl, sym, ap, subst, ◌∙◌}
+use mathlib.Core.Path.{refl, sym, ap, ◌∙◌}
 use Rattle.laws.proofs.Integer.{held}
-use Rattle.limits.specs.Limits.{most_sign_magnitude}
-use Rattle.tables.specs.Table.{Table, InRange, magnitude_of}
 use Rattle.refusal.proofs.Passed.{passed, some_number}
 use Rattle.refusal.specs.Number.{in_numbers}
 use Rattle.table_calls.proofs.Accepting.{refused_is, accepted_is}
@@ -17,9 +14,13 @@ returns-in_err-entries c = record { answers = ap in_numbers (passed c.from_resid
 pub rank_meant-meant-requires : goal.rank_meant-meant-requires
 rank_meant-meant-requires c = let u = rounded_accepted _ _ _ _ _ _ _ _ _ _ (sym c.in_ok-entries.ensures.number) in (λ e. u.table.signs, u.rank_low)
 
+pub invariant_of-qv : goal.invariant_of-qv
+invariant_of-qv c = let u = rounded_accepted _ _ _ _ _ _ _ _ _ _ (sym c.in_ok-entries.ensures.number) in
+    record { judged = rw c.in_ok-entries.ensures.entries u.judged; rank_few = c.rank_meant-meant.ensures.1; rows_there = rw c.rank_meant-meant.ensures.0 u.factor_long }
+
 pub round-objective-requires : goal.round-objective-requires
 round-objective-requires c = let u = rounded_accepted _ _ _ _ _ _ _ _ _ _ (sym c.in_ok-entries.ensures.number) in
-    record { table_in_bounds = subst (λ (t : Table). InRange c.args.table.size t × (magnitude_of t ≤ most_sign_magnitude)) (sym c.in_ok-entries.ensures.entries) (u.table.in_range, u.table.magnitude); rank_in_bounds = (rw c.rank_meant-meant.ensures.0 u.factor_long, rw c.rank_meant-meant.ensures.0 u.draws_long, u.some, u.out_long, u.table.signs, c.rank_meant-meant.ensures.1) }
+    (rw c.rank_meant-meant.ensures.0 u.draws_long, u.some, u.out_long)
 
 pub returns : goal.returns
 returns c = record { answers = ap Ok (held c.round-objective.result c.round-objective.type_inv ∙ (rw (c.rank_meant-meant.ensures.0, c.in_ok-entries.ensures.entries) at c.round-objective.ensures.value)) ∙ accepted_is _ _ _ c.in_ok-entries.ensures.number refl; signs_are = (rw (c.rank_meant-meant.ensures.0, c.in_ok-entries.ensures.entries) at c.round-objective.ensures.out_after) ∙ accepted_is _ _ _ c.in_ok-entries.ensures.number refl }

@@ -1,6 +1,5 @@
 -- `factor_calls::dual_variables` meets its contract. By the number. Assumes nothing.
-use mathlib.Core.Path.{refl, sym, ap, subst, ◌∙◌}
-use Rattle.tables.specs.Table.{Table, InRange, Rising}
+use mathlib.Core.Path.{refl, sym, ap, ◌∙◌}
 use Rattle.refusal.proofs.Passed.{passed, some_number}
 use Rattle.refusal.specs.Number.{numbered}
 use Rattle.table_calls.proofs.Accepting.{refused_is, accepted_is}
@@ -14,9 +13,12 @@ returns-in_err-entries c = record { answers = ap numbered (passed c.from_residua
 pub rank_meant-meant-requires : goal.rank_meant-meant-requires
 rank_meant-meant-requires c = let u = dual_accepted _ _ _ _ _ _ _ _ (sym c.in_ok-entries.ensures.number) in (λ e. u.table.signs, u.rank_low)
 
+pub invariant_of-qv : goal.invariant_of-qv
+invariant_of-qv c = let u = dual_accepted _ _ _ _ _ _ _ _ (sym c.in_ok-entries.ensures.number) in
+    record { judged = rw c.in_ok-entries.ensures.entries u.judged; rank_few = c.rank_meant-meant.ensures.1; rows_there = rw c.rank_meant-meant.ensures.0 u.factor_long }
+
 pub multiply-requires : goal.multiply-requires
-multiply-requires c = let u = dual_accepted _ _ _ _ _ _ _ _ (sym c.in_ok-entries.ensures.number) in
-    record { in_order = subst (λ (t : Table). InRange c.args.table.size t × Rising t) (sym c.in_ok-entries.ensures.entries) (u.table.in_range, u.table.rising); rank_in_bounds = (rw c.rank_meant-meant.ensures.0 u.factor_long, u.out_long, c.rank_meant-meant.ensures.1) }
+multiply-requires c = (dual_accepted _ _ _ _ _ _ _ _ (sym c.in_ok-entries.ensures.number)).out_long
 
 pub returns : goal.returns
 returns c = record {

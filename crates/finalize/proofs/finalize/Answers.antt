@@ -9,9 +9,9 @@ use lib.Seq.{length-take-le}
 use Rattle.laws.specs.Lists.{elem_z}
 use Rattle.limits.specs.Limits.{most_signs, most_rank}
 use Rattle.tables.specs.Entries.{listed}
-use Rattle.tables.proofs.Checks.{hall_accepted}
+use Rattle.tables.proofs.Checks.{hall_accepted, table_passes}
 use Rattle.sign_table.proofs.MadeTables.{made_accepted}
-use Rattle.finalize.proofs.Assembled.{cut_fits, finalizes}
+use Rattle.finalize.proofs.Assembled.{finalizes}
 use Rattle.finalize.proofs.finalize.Goals as goal
 
 pub overflow_mul-size : goal.overflow_mul-size
@@ -20,19 +20,26 @@ overflow_mul-size c = let a = c.args in
     let size : (a.hall.n + 1) * a.rank ≤ most_signs * most_rank = mul-le-mul m c.requires.rank_few in
     omega (arith, size)
 
-pub slice_bounds-finalize_signs-end : goal.slice_bounds-finalize_signs-end
-slice_bounds-finalize_signs-end c = let a = c.args in
+pub slice_bounds-finish-end : goal.slice_bounds-finish-end
+slice_bounds-finish-end c = let a = c.args in
     let e : (a.hall.n + 1) * a.rank ≡ suc a.hall.n * a.rank = ap (λ k. k * a.rank) (add-one a.hall.n) in
     sym (length-take-le _ _ (omega (arith, e, c.requires.factor_room)))
 
-pub finalize_signs-requires : goal.finalize_signs-requires
-finalize_signs-requires c = let a = c.args in
+pub invariant_of-finish : goal.invariant_of-finish
+invariant_of-finish c = let a = c.args in
     let e : (a.hall.n + 1) * a.rank ≡ suc a.hall.n * a.rank = ap (λ k. k * a.rank) (add-one a.hall.n) in
     let long : length (take ((a.hall.n + 1) * a.rank) a.factor.now) ≡ suc a.hall.n * a.rank = length-take-le _ _ (omega (arith, e, c.requires.factor_room)) ∙ e in
     record {
-      accepted = rw c.entries.ensures (made_accepted c.make.ensures (hall_accepted a.hall.judged));
-      fits = (cut_fits c.requires (omega (arith, long)) c.requires.space_room, long);
+      judged = rw c.entries.ensures (table_passes (made_accepted c.make.ensures (hall_accepted a.hall.judged)));
+      rank_few = c.requires.rank_few;
+      width_few = c.requires.width_few;
+      draws_some = c.requires.draws_some;
+      draws_there = c.requires.draws_room;
+      rows_are = long;
     }
+
+pub finalize_signs-requires : goal.finalize_signs-requires
+finalize_signs-requires c = (c.requires.b_room, c.requires.multipliers_room, c.requires.space_room)
 
 pub returns : goal.returns
 returns c =

@@ -1,16 +1,26 @@
 -- `finalize::finalize_signs` meets its contract. By what its callees ensure. Assumes nothing.
 use mathlib.Core.Path.{◌∙◌}
 use native.Mathlib.Numerals.{add-one}
+use native.Mathlib.Omega.{arith}
 use Rattle.laws.proofs.Integer.{held}
-use Rattle.finalize.proofs.Assembled.{works, search_fits}
+use Rattle.tables.proofs.Checks.{table_accepted}
+use Rattle.finalize.proofs.Assembled.{works}
 use Rattle.finalize.proofs.finalize_signs.Goals as goal
 
+pub floor_eighths-floor-requires : goal.floor_eighths-floor-requires
+floor_eighths-floor-requires c = (table_accepted c.args.finish.judged).magnitude
+
+pub entrywise_lower_bound-float_bound-requires : goal.entrywise_lower_bound-float_bound-requires
+entrywise_lower_bound-float_bound-requires c = let t = table_accepted c.args.finish.judged in (t.magnitude, omega (arith, t.entries))
+
 pub multipliers-diagonal_sum-requires : goal.multipliers-diagonal_sum-requires
-multipliers-diagonal_sum-requires c = rw (add-one c.args.n)
-    (record { in_range = (c.requires.accepted.in_range, c.requires.fits.1); m_le_most_signs = (c.requires.accepted.signs, c.requires.accepted.entries, c.requires.fits.0.rank_few, c.requires.fits.0.multipliers_room) })
+multipliers-diagonal_sum-requires c = let f = c.args.finish in
+    let t = table_accepted f.judged in
+    rw (add-one f.n)
+    (record { in_range = (t.in_range, f.rows_are); m_le_most_signs = (t.signs, t.entries, f.rank_few, c.requires.1) })
 
 pub choose-chosen-requires : goal.choose-chosen-requires
-choose-chosen-requires c = record { accepted = c.requires.accepted; choice_fits = (search_fits c.requires.fits.0, c.requires.fits.0.rank_few) }
+choose-chosen-requires c = (c.requires.0, c.requires.2)
 
 pub returns : goal.returns
 returns c = works c.choose-chosen.ensures c.multipliers-diagonal_sum.ensures.value c.entrywise_lower_bound-float_bound.ensures

@@ -23,20 +23,20 @@ returns-in_err-limited_number c = let e = c.in_err-limited_number.ensures in rw 
 })
 
 pub slice_bounds-search_limited-end : goal.slice_bounds-search_limited-end
-slice_bounds-search_limited-end c = let a = c.args in (ready (costs_of a.hall) a.present.now a.k a.width (length a.choice.now) (length a.workspace.now) (sym c.in_ok-limited_number.ensures)).choice_there
+slice_bounds-search_limited-end c = let a = c.args in (ready (costs_of a.hall) a.request.present.now a.request.most a.request.width (length a.choice.now) (length a.workspace.now) (sym c.in_ok-limited_number.ensures)).choice_there
 
 pub slice_bounds-search_limited-end-2 : goal.slice_bounds-search_limited-end-2
-slice_bounds-search_limited-end-2 c = let a = c.args in (ready (costs_of a.hall) a.present.now a.k a.width (length a.choice.now) (length a.workspace.now) (sym c.in_ok-limited_number.ensures)).space_there
+slice_bounds-search_limited-end-2 c = let a = c.args in (ready (costs_of a.hall) a.request.present.now a.request.most a.request.width (length a.choice.now) (length a.workspace.now) (sym c.in_ok-limited_number.ensures)).space_there
 
 pub judged_hall-requires : goal.judged_hall-requires
 judged_hall-requires c = let a = c.args in
-    let r = ready (costs_of a.hall) a.present.now a.k a.width (length a.choice.now) (length a.workspace.now) (sym c.in_ok-limited_number.ensures) in
+    let r = ready (costs_of a.hall) a.request.present.now a.request.most a.request.width (length a.choice.now) (length a.workspace.now) (sym c.in_ok-limited_number.ensures) in
     record { lent = r.lent; costs_there = r.costs_there; judged = hall_passes r.hall }
 
 pub search_limited-found-requires : goal.search_limited-found-requires
 search_limited-found-requires c =
     let a = c.args in
-    let r = ready (costs_of a.hall) a.present.now a.k a.width (length a.choice.now) (length a.workspace.now) (sym c.in_ok-limited_number.ensures) in
+    let r = ready (costs_of a.hall) a.request.present.now a.request.most a.request.width (length a.choice.now) (length a.workspace.now) (sym c.in_ok-limited_number.ensures) in
     let n : length (take (a.hall.table.size - 0) (drop 0 a.choice.now)) ≡ a.hall.table.size = part_size a.hall.table.size a.choice.now r.choice_there in
     let s : length (take (search_workspace - 0) (drop 0 a.workspace.now)) ≡ search_workspace = part_size search_workspace a.workspace.now r.space_there in
     rw c.judged_hall.ensures.0 (r.fits _ _ (omega (arith, n)) (omega (arith, s)))
@@ -44,10 +44,10 @@ search_limited-found-requires c =
 pub returns : goal.returns
 returns c =
     let a = c.args in
-    let r = ready (costs_of a.hall) a.present.now a.k a.width (length a.choice.now) (length a.workspace.now) (sym c.in_ok-limited_number.ensures) in
+    let r = ready (costs_of a.hall) a.request.present.now a.request.most a.request.width (length a.choice.now) (length a.workspace.now) (sym c.in_ok-limited_number.ensures) in
     let n : length (take (a.hall.table.size - 0) (drop 0 a.choice.now)) ≡ a.hall.table.size = part_size a.hall.table.size a.choice.now r.choice_there in
     let s : length (take (search_workspace - 0) (drop 0 a.workspace.now)) ≡ search_workspace = part_size search_workspace a.workspace.now r.space_there in
     let of = c.judged_hall.ensures in
-    searches (costs_of a.hall) a.present.now a.k a.width a.choice.now a.workspace.now
+    searches (costs_of a.hall) a.request.present.now a.request.most a.request.width a.choice.now a.workspace.now
     (sym c.in_ok-limited_number.ensures) (take (a.hall.table.size - 0) (drop 0 a.choice.now)) c.search_limited-found.new.found c.search_limited-found.new.workspace
     c.search_limited-found.result.least c.search_limited-found.result.rounds n (c.search_limited-found.auto.found ∙ n) (c.search_limited-found.auto.workspace ∙ s) (rw (of.0, of.1, of.2) at c.search_limited-found.ensures)

@@ -16,40 +16,37 @@ use Rattle.sdp_local_search.proofs.Numbers.{call_ready}
 use Rattle.sdp_local_search.proofs.Calls.{answered, written, tail_kept}
 use Rattle.sdp_local_search.proofs.beam_search.Goals as goal
 
-pub returns-in_err-search_refusal : goal.returns-in_err-search_refusal
-returns-in_err-search_refusal c = let out = ap in_numbers (passed c.from_residual.ensures.1) in
+pub returns-in_err-entries : goal.returns-in_err-entries
+returns-in_err-entries c = let out = ap in_numbers (passed c.from_residual.ensures.1) in
     record {
-      numbered = ap number_of out ∙ c.in_err-search_refusal.ensures;
+      numbered = ap number_of out ∙ c.in_err-entries.ensures.number;
       refused = λ n. (refl, refl);
-      answers = λ e. absurd (some_number _ (c.in_err-search_refusal.ensures ∙ e));
-      writes = λ e. absurd (some_number _ (c.in_err-search_refusal.ensures ∙ e));
+      answers = λ e. absurd (some_number _ (c.in_err-entries.ensures.number ∙ e));
+      writes = λ e. absurd (some_number _ (c.in_err-entries.ensures.number ∙ e));
       kept = refl;
     }
 
 pub slice_bounds-search_from-end : goal.slice_bounds-search_from-end
-slice_bounds-search_from-end c = (call_ready (sym c.in_ok-search_refusal.ensures)).out_there
+slice_bounds-search_from-end c = (call_ready (sym c.in_ok-entries.ensures.number)).out_there
 
 pub slice_bounds-search_from-end-2 : goal.slice_bounds-search_from-end-2
-slice_bounds-search_from-end-2 c = (call_ready (sym c.in_ok-search_refusal.ensures)).workspace_there
-
-pub invariant_of-entries : goal.invariant_of-entries
-invariant_of-entries c = record { lent = (call_ready (sym c.in_ok-search_refusal.ensures)).lent }
+slice_bounds-search_from-end-2 c = (call_ready (sym c.in_ok-entries.ensures.number)).workspace_there
 
 pub search_from-found-requires : goal.search_from-found-requires
 search_from-found-requires c = let a = c.args in
-    let k = call_ready (sym c.in_ok-search_refusal.ensures) in
+    let k = call_ready (sym c.in_ok-entries.ensures.number) in
     let m : length (take (a.table.size - 0) (drop 0 a.out.now)) ≡ a.table.size = part_size a.table.size a.out.now k.out_there in
-    let n : length (take (search_workspace - 0) (drop 0 a.workspace.now)) ≡ search_workspace = part_size search_workspace a.workspace.now k.workspace_there in (rw (m, n) (record { signs_few = k.signs_few; width_few = omega (arith, k.width_few); level_room = omega arith }), rw m k.sound, rw m k.start_there)
+    let n : length (take (search_workspace - 0) (drop 0 a.workspace.now)) ≡ search_workspace = part_size search_workspace a.workspace.now k.workspace_there in (rw (m, n) (record { signs_few = k.signs_few; width_few = omega (arith, k.width_few); level_room = omega arith }), rw (m, c.in_ok-entries.ensures.entries) k.sound, rw m k.start_there)
 
 pub returns : goal.returns
 returns c = let a = c.args in
-    let k = call_ready (sym c.in_ok-search_refusal.ensures) in
+    let k = call_ready (sym c.in_ok-entries.ensures.number) in
     let v = c.search_from-found in
-    let none = sym c.in_ok-search_refusal.ensures in
+    let none = sym c.in_ok-entries.ensures.number in
     let t = lent_table a.table in
     let from = sign_bytes a.table.size a.start.now in
     let m : length (take (a.table.size - 0) (drop 0 a.out.now)) ≡ a.table.size = part_size a.table.size a.out.now k.out_there in
-    let found : Found-by t a.width from v.result.least v.result.rounds v.new.kept = rw m at v.ensures in
+    let found : Found-by t a.width from v.result.least v.result.rounds v.new.kept = rw (m, c.in_ok-entries.ensures.entries) at v.ensures in
     record {
       numbered = sym none;
       refused = λ n. absurd (n none);

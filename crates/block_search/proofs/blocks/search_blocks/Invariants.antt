@@ -10,7 +10,7 @@ use Rattle.block_search.specs.Clauses.{Low}
 use Rattle.block_search.proofs.blocks.search_blocks.Given as goal
 
 abbrev pub invariant-loop-k : goal.invariant-loop-k
-invariant-loop-k l = (l.k ≤ length l.blocks.sizes.now) × (l.at ≡ total l.k (elem l.blocks.sizes.now))
-    × (l.b ≡ choice_from l.hall.n (listed l.hall.table) (elem_z l.hall.c.now) l.width (block_moves l.pinned l.blocks.sizes.now l.blocks.wagons.now) l.initial.b l.k)
-    × (l.falls ≡ over (tabulate (block_fall l.hall.n (listed l.hall.table) (elem_z l.hall.c.now) l.width (block_moves l.pinned l.blocks.sizes.now l.blocks.wagons.now) l.initial.b) l.k) l.initial.falls)
+invariant-loop-k l = (l.k ≤ length l.blocks.lent.sizes.now) × (l.at ≡ total l.k (elem l.blocks.lent.sizes.now))
+    × (l.b ≡ choice_from l.hall.n (listed l.hall.table) (elem_z l.hall.c.now) l.width (block_moves l.pinned l.blocks.lent.sizes.now l.blocks.lent.wagons.now) l.initial.b l.k)
+    × (l.falls ≡ over (tabulate (block_fall l.hall.n (listed l.hall.table) (elem_z l.hall.c.now) l.width (block_moves l.pinned l.blocks.lent.sizes.now l.blocks.lent.wagons.now) l.initial.b) l.k) l.initial.falls)
     × (length l.falls ≡ length l.initial.falls) × (length l.b ≡ l.hall.n) × Low l.b × (length l.workspace ≡ length l.initial.workspace)

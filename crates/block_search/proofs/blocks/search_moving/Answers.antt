@@ -42,6 +42,6 @@ search_held-requires c =
 
 pub returns : goal.returns
 returns c =
-    let cut : take c.args.hall.n c.hold.new.states ≡ held c.args.hall.n (moved_by c.args.pinned.now c.args.block) c.args.b.now =
-    ap (take c.args.hall.n) c.hold.ensures ∙ take_at (held c.args.hall.n (moved_by c.args.pinned.now c.args.block) c.args.b.now) _ c.args.hall.n (length_states c.args.hall.n (moved_by c.args.pinned.now c.args.block) c.args.b.now c.requires.bytes_low) in
-    let p = moving_made c.args.hall.n (listed c.args.hall.table) (elem_z c.args.hall.c.now) c.args.width (moved_by c.args.pinned.now c.args.block) c.args.b.now _ _ _ (cut) c.search_held.ensures in (kept c.search_held.result c.search_held.type_inv ∙ p.0, p.1)
+    let cut : take c.args.hall.n c.hold.new.states ≡ held c.args.hall.n (moved_by c.args.moving.pinned.now c.args.moving.block) c.args.b.now =
+    ap (take c.args.hall.n) c.hold.ensures ∙ take_at (held c.args.hall.n (moved_by c.args.moving.pinned.now c.args.moving.block) c.args.b.now) _ c.args.hall.n (length_states c.args.hall.n (moved_by c.args.moving.pinned.now c.args.moving.block) c.args.b.now c.requires.bytes_low) in
+    let p = moving_made c.args.hall.n (listed c.args.hall.table) (elem_z c.args.hall.c.now) c.args.width (moved_by c.args.moving.pinned.now c.args.moving.block) c.args.b.now _ _ _ (cut) c.search_held.ensures in (kept c.search_held.result c.search_held.type_inv ∙ p.0, p.1)

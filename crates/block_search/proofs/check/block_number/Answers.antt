@@ -19,8 +19,11 @@ pub returns-in_err-hall_number : goal.returns-in_err-hall_number
 unfolding block_number
 returns-in_err-hall_number c = ap numbered (passed c.from_residual.ensures.1) ∙ c.in_err-hall_number.ensures ∙ sym (first_skip 31 _ _ (sym c.call_short.ensures ∙ c.if-call_short.false) ∙ first_found _ _ (λ e. some_number _ (c.in_err-hall_number.ensures ∙ e)))
 
-pub list_number-requires : goal.list_number-requires
-list_number-requires c = let l = slices_long (sym c.call_short.ensures ∙ c.if-call_short.false) in let ok = hall_accepted (sym c.in_ok-hall_number.ensures) in (ok.wagons, l.stores_long, l.present_long ok.wagons, λ h. l.wagons_long h)
+pub invariant_of-long : goal.invariant_of-long
+invariant_of-long c =
+    let l = slices_long (sym c.call_short.ensures ∙ c.if-call_short.false) in
+    let ok = hall_accepted (sym c.in_ok-hall_number.ensures) in
+    record { wagons_few = ok.wagons; stores_there = l.stores_long; present_there = l.present_long ok.wagons; wagons_there = λ h. l.wagons_long h }
 
 pub returns : goal.returns
 unfolding block_number

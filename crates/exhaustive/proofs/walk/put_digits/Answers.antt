@@ -1,23 +1,30 @@
 -- `exhaustive::walk::put_digits` meets its contract. Assumes nothing.
-use Prim.Native.Nat.{◌/◌, ℕ, ◌%◌}
-use mathlib.Core.Path.{◌≡◌, refl, ap, ◌∙◌}
+use Prim.Native.Nat.{◌/◌, ℕ}
+use mathlib.Core.Path.{◌≡◌, refl, sym, ap, ◌∙◌}
+use mathlib.Core.List.{List, ◌++◌}
 use native.Mathlib.Omega.{arith}
-use lib.ListN.{set, length-set}
+use lib.ListN.{length, set, take, drop}
+use lib.Seq.{length-take-le}
 use Rattle.laws.specs.Lists.{over, tabulate}
-use Rattle.exhaustive.specs.Choices.{digit}
-use Rattle.laws.proofs.Made.{tabulate_next}
+use Rattle.exhaustive.specs.Choices.{digit, digits_of}
+use Rattle.laws.proofs.Made.{length_tabulate, tabulate_all, tabulate_next}
 use Rattle.exhaustive.proofs.Digits.{next_half, digit_at_lem}
 use Rattle.exhaustive.proofs.walk.put_digits.Goals as goal
 
-pub loop-i-init : goal.loop-i-init
+pub loop-byte-init : goal.loop-byte-init
 unfolding tabulate
-loop-i-init c = (omega arith, omega arith, refl, refl)
+loop-byte-init c = (omega arith, refl)
 
-pub loop-i-preserved : goal.loop-i-preserved
-loop-i-preserved c = (omega arith, ap (λ (y : ℕ). y / 2) c.loop-i.invariant.1 ∙ next_half c.args.k c.loop-i.i, ap (λ (v : ℕ). set c.loop-i.b c.loop-i.i v) (digit_at_lem c.args.k c.loop-i.i c.loop-i.x c.loop-i.invariant.1) ∙ tabulate_next (digit c.args.k) c.loop-i.i c.args.b.now c.loop-i.b 0 (omega arith) c.loop-i.invariant.2, length-set c.loop-i.b c.loop-i.i (c.loop-i.x % 2) ∙ c.loop-i.invariant.3)
-
-pub shape_of-b : goal.shape_of-b
-shape_of-b c = c.loop-i.invariant.3
+pub loop-byte-preserved : goal.loop-byte-preserved
+loop-byte-preserved c = let l = c.loop-byte in let a = c.args in (
+  ap (λ (y : ℕ). y / 2) l.invariant.0 ∙ next_half a.k l.byte-index,
+  ap (λ (v : ℕ). set l.front l.byte-index v) (digit_at_lem a.k l.byte-index l.x l.invariant.0)
+      ∙ tabulate_next (digit a.k) l.byte-index (take a.n a.b.now) l.front 0 c.loop-byte-test.true l.invariant.1,
+)
 
 pub returns : goal.returns
-returns c = let all : c.loop-i.i ≡ c.args.n = omega arith in c.loop-i.invariant.2 ∙ ap (λ (m : ℕ). over (tabulate (digit c.args.k) m) c.args.b.now) all
+returns c = let l = c.loop-byte in let a = c.args in
+    let size : length (take a.n a.b.now) ≡ a.n = length-take-le a.n a.b.now c.requires in
+    let all : l.byte-index ≡ a.n = omega (arith, size) in
+    let is : l.front ≡ digits_of a.n a.k = l.invariant.1 ∙ ap (λ (m : ℕ). over (tabulate (digit a.k) m) (take a.n a.b.now)) all ∙ tabulate_all (digit a.k) a.n (take a.n a.b.now) size in
+    ap (λ (front : List ℕ). front ++ drop a.n a.b.now) is ∙ ap (λ (m : ℕ). digits_of a.n a.k ++ drop m a.b.now) (sym (length_tabulate (digit a.k) a.n))

@@ -7,18 +7,18 @@ use Rattle.laws.specs.Lists.{tabulate}
 use Rattle.laws.proofs.Made.{tabulate_next, tabulate_all}
 use Rattle.laws.proofs.Parts.{row_within}
 use Rattle.factor_calls.specs.Equation8.{multipliers_by}
-use Rattle.factor_calls.proofs.Cursor.{at_first}
+use Rattle.sign_table.proofs.Cursor.{at_start}
 use Rattle.factor_calls.proofs.whole.whole_multipliers.Goals as goal
 
 pub loop-i-init : goal.loop-i-init
 unfolding tabulate
-loop-i-init c = (omega arith, c.requires.rank_in_bounds.1, omega arith, refl, at_first _)
+loop-i-init c = (omega arith, c.requires.0, omega arith, refl, at_start _)
 
 pub whole_row-from-requires : goal.whole_row-from-requires
-whole_row-from-requires c = record { in_range = c.requires.in_order.0; rising = (c.requires.in_order.1, c.loop-i.invariant.4); rank_in_bounds = (c.requires.rank_in_bounds.0, c.loop-i.invariant.1) }
+whole_row-from-requires c = (c.loop-i.invariant.4, c.loop-i.invariant.1)
 
 pub row-requires : goal.row-requires
-row-requires c = omega (arith, row_within _ _ c.args.rank c.loop-i-test.true, c.requires.rank_in_bounds.0)
+row-requires c = omega (arith, row_within _ _ c.args.qv.rank c.loop-i-test.true, c.args.qv.rows_there)
 
 pub value_of-requires : goal.value_of-requires
 value_of-requires c = omega (arith, c.row.ensures.result_len)
@@ -28,4 +28,4 @@ loop-i-preserved c = (omega arith, omega arith, simp length-set (omega arith), r
 
 pub returns : goal.returns
 unfolding multipliers_by
-returns c = let e : c.loop-i.i ≡ c.args.m = omega arith in rw (tabulate_all _ _ _ c.requires.rank_in_bounds.2) at (rw e at c.loop-i.invariant.3)
+returns c = let e : c.loop-i.i ≡ c.args.qv.m = omega arith in rw (tabulate_all _ _ _ c.requires.1) at (rw e at c.loop-i.invariant.3)

@@ -11,7 +11,7 @@ use Rattle.factor_calls.specs.Equation8.{value_of}
 use Rattle.factor_calls.proofs.whole.whole_multipliers.Given as goal
 
 abbrev pub invariant-loop-i : goal.invariant-loop-i
-invariant-loop-i l = (l.i ≤ l.m) × (length l.sums ≡ l.rank) × (length l.dual ≡ length l.initial.dual) × (l.dual ≡ over (tabulate (λ j. value_of l.divided (whole_row (listed l.table) l.rank l.factor j) (row_of l.rank l.factor j)) l.i) l.initial.dual) × At (listed l.table) l.from l.i 0
+invariant-loop-i l = (l.i ≤ l.qv.m) × (length l.sums ≡ l.qv.rank) × (length l.dual ≡ length l.initial.dual) × (l.dual ≡ over (tabulate (λ j. value_of l.divided (whole_row (listed l.qv.table) l.qv.rank l.qv.factor.now j) (row_of l.qv.rank l.qv.factor.now j)) l.i) l.initial.dual) × At (listed l.qv.table) l.from l.i 0
 
 abbrev pub decreases-loop-i : goal.decreases-loop-i
-decreases-loop-i l = l.m - l.i
+decreases-loop-i l = l.qv.m - l.i

@@ -10,4 +10,4 @@ use Rattle.maxcut_oracle.specs.Whole.{whole_turn}
 use Rattle.factor_calls.proofs.whole.whole_row.Given as goal
 
 abbrev pub invariant-loop-e : goal.invariant-loop-e
-invariant-loop-e l = RowAt l.table.count (elem l.table.rows.now) l.e l.i × (length l.sums ≡ l.rank) × (l.sums ≡ up_to (whole_turn (listed l.table) l.rank l.factor l.i) l.e (replicate l.rank zero64))
+invariant-loop-e l = RowAt l.qv.table.count (elem l.qv.table.rows.now) l.e l.i × (length l.sums ≡ l.qv.rank) × (l.sums ≡ up_to (whole_turn (listed l.qv.table) l.qv.rank l.qv.factor.now l.i) l.e (replicate l.qv.rank zero64))

@@ -3,36 +3,35 @@ use mathlib.Core.Path.{sym, ◌∙◌}
 use native.Mathlib.Numerals.{add-one}
 use native.Mathlib.Omega.{arith}
 use lib.Seq.{length-take-le}
+use Rattle.tables.proofs.Checks.{table_accepted}
 use Rattle.finalize.proofs.choice.choose.Goals as goal
 
 pub slice_bounds-direction-end : goal.slice_bounds-direction-end
-slice_bounds-direction-end c = omega (arith, c.direction-direction.ensures.most_rank_value, c.requires.choice_fits.1)
+slice_bounds-direction-end c = omega (arith, c.direction-direction.ensures.most_rank_value, c.args.finish.rank_few)
 
 pub slice_bounds-search_from-end : goal.slice_bounds-search_from-end
-slice_bounds-search_from-end c = sym (length-take-le _ _ (omega (arith, c.direction-direction.ensures.most_rank_value, c.requires.choice_fits.1)))
+slice_bounds-search_from-end c = sym (length-take-le _ _ (omega (arith, c.direction-direction.ensures.most_rank_value, c.args.finish.rank_few)))
 
 pub slice_bounds-signs-end : goal.slice_bounds-signs-end
-slice_bounds-signs-end c = omega (arith, c.signs-signs.ensures.most_signs_value, c.requires.accepted.signs)
+slice_bounds-signs-end c = omega (arith, c.signs-signs.ensures.most_signs_value, (table_accepted c.args.finish.judged).signs)
 
 pub slice_bounds-search_from-end-2 : goal.slice_bounds-search_from-end-2
-slice_bounds-search_from-end-2 c = sym (length-take-le _ _ (omega (arith, c.signs-signs.ensures.most_signs_value, c.requires.accepted.signs)))
+slice_bounds-search_from-end-2 c = sym (length-take-le _ _ (omega (arith, c.signs-signs.ensures.most_signs_value, (table_accepted c.args.finish.judged).signs)))
 
 pub slice_bounds-best-end : goal.slice_bounds-best-end
-slice_bounds-best-end c = omega (arith, c.signs-best.ensures.most_signs_value, c.requires.accepted.signs)
+slice_bounds-best-end c = omega (arith, c.signs-best.ensures.most_signs_value, (table_accepted c.args.finish.judged).signs)
 
 pub slice_bounds-search_from-end-3 : goal.slice_bounds-search_from-end-3
-slice_bounds-search_from-end-3 c = sym (length-take-le _ _ (omega (arith, c.signs-best.ensures.most_signs_value, c.requires.accepted.signs)))
+slice_bounds-search_from-end-3 c = sym (length-take-le _ _ (omega (arith, c.signs-best.ensures.most_signs_value, (table_accepted c.args.finish.judged).signs)))
 
 pub search_from-requires : goal.search_from-requires
-search_from-requires c = record {
-  accepted = c.requires.accepted;
-  choice_fits = (
-    c.requires.choice_fits.0,
-    length-take-le _ _ (omega (arith, c.direction-direction.ensures.most_rank_value, c.requires.choice_fits.1)),
-    length-take-le _ _ (omega (arith, c.signs-signs.ensures.most_signs_value, c.requires.accepted.signs)) ∙ add-one _,
-    length-take-le _ _ (omega (arith, c.signs-best.ensures.most_signs_value, c.requires.accepted.signs)) ∙ add-one _,
-  );
-}
+search_from-requires c = (
+  c.requires.0,
+  c.requires.1,
+  length-take-le _ _ (omega (arith, c.direction-direction.ensures.most_rank_value, c.args.finish.rank_few)),
+  length-take-le _ _ (omega (arith, c.signs-signs.ensures.most_signs_value, (table_accepted c.args.finish.judged).signs)) ∙ add-one _,
+  length-take-le _ _ (omega (arith, c.signs-best.ensures.most_signs_value, (table_accepted c.args.finish.judged).signs)) ∙ add-one _,
+)
 
 pub returns : goal.returns
 returns c = c.search_from.ensures

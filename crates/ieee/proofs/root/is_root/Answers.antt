@@ -15,4 +15,4 @@ returns c e =
     let half : Halved _ (bits % 2 ^ 52 + 2 ^ 52) = halved (omega arith) (c.is_rounded.ensures e) in
     sym (held)
     ∙ ap (of_bits binary64) (c.if-bits-s.false ∙ ap (λ (y : ℕ). (c.scaled-s.result.h - 26) * 2 ^ 52 + y) (sym half.half))
-    ∙ (root_pattern c.requires.0 c.requires.1 s half.root).1
+    ∙ (root_pattern c.args.b.some c.args.b.finite s half.root).1

@@ -3,4 +3,4 @@ use Rattle.ieee.proofs.Patterns.{root_pattern}
 use Rattle.ieee.proofs.root.root_bits.Goals as goal
 
 pub returns : goal.returns
-returns c = root_pattern c.requires.0 c.requires.1 c.scaled-s.ensures c.isqrt54-q.ensures
+returns c = root_pattern c.args.b.some c.args.b.finite c.scaled-s.ensures c.isqrt54-q.ensures

@@ -1,15 +1,15 @@
 use Rattle.limits.specs.Limits.{most_rank, most_draws}
 use mathlib.Core.Path.{◌≡◌, ◌∙◌}
 use Prim.Native.Nat.{◌*◌}
+use native.Mathlib.Nat.{mul-le-mul}
 use native.Mathlib.Omega.{arith}
 use Rattle.job_record.specs.Values.{job_drawn}
-use Rattle.job_record.proofs.Products.{area}
 use Rattle.job_record.proofs.Accepted.{fields, drawn_held}
 use Rattle.job_record.proofs.job.read_draws.Goals as goal
 
 pub overflow_mul-count : goal.overflow_mul-count
 overflow_mul-count c = let d = drawn_held c.args.job.bytes.now c.args.job.accepted c.parts_of-p.ensures.3 c.field_at-drawn.ensures in let f = fields c.args.job.bytes.now c.args.job.accepted in
-    omega (arith, area c.unwrap_or.result c.parts_of-p.result.rank most_draws most_rank (omega (arith, c.unwrap_or.ensures, d, f.draws.few)) c.parts_of-p.ensures.4)
+    omega (arith, mul-le-mul {n₁ = c.unwrap_or.result} {m₁ = c.parts_of-p.result.rank} {n₂ = most_draws} {m₂ = most_rank} (omega (arith, c.unwrap_or.ensures, d, f.draws.few)) c.parts_of-p.ensures.4)
 
 pub overflow_add-p : goal.overflow_add-p
 overflow_add-p c = let f = fields c.args.job.bytes.now c.args.job.accepted in omega (arith, c.parts_of-p.ensures.3, f.draws.there, f.small)

@@ -6,26 +6,26 @@ pub read_entries-requires : goal.read_entries-requires
 read_entries-requires c = omega (arith, c.whole_entries-whole.ensures, c.requires)
 
 pub bad_order-requires : goal.bad_order-requires
-bad_order-requires c = omega (arith, c.whole_entries-whole.ensures, c.requires)
+bad_order-requires c = omega (arith, c.whole_entries-whole.ensures, c.requires, c.args.head.there.n, c.args.head.few)
 
 pub returns-then-bad_order : goal.returns-then-bad_order
-returns-then-bad_order c = let a = c.args in let w = c.whole_entries-whole in
-    refused_14 a.job.now a.n a.count w.result w.ensures.0 w.ensures.1 w.ensures.2 a.rows.now a.cols.now a.values.now c.read_entries.ensures.rows_after c.read_entries.ensures.cols_after c.read_entries.ensures.values_after (omega (arith, w.ensures.0, c.requires)) (omega (arith, w.ensures.0, c.requires)) (omega (arith, w.ensures.0, c.requires)) c.bad_order.ensures c.if-bad_order.true
+returns-then-bad_order c = let a = c.args in let s = a.head.bytes.now in let n = a.head.values.n in let count = a.head.values.count in let w = c.whole_entries-whole in
+    refused_14 s n count w.result w.ensures.0 w.ensures.1 w.ensures.2 a.rows.now a.cols.now a.values.now c.read_entries.ensures.rows_after c.read_entries.ensures.cols_after c.read_entries.ensures.values_after (omega (arith, w.ensures.0, c.requires)) (omega (arith, w.ensures.0, c.requires)) (omega (arith, w.ensures.0, c.requires)) c.bad_order.ensures c.if-bad_order.true
 
 pub returns-then-whole-count : goal.returns-then-whole-count
-returns-then-whole-count c = let a = c.args in let w = c.whole_entries-whole in
-    refused_11 a.job.now a.n a.count w.result w.ensures.0 w.ensures.1 w.ensures.2 a.rows.now a.cols.now a.values.now c.read_entries.ensures.rows_after c.read_entries.ensures.cols_after c.read_entries.ensures.values_after (omega (arith, w.ensures.0, c.requires)) (omega (arith, w.ensures.0, c.requires)) (omega (arith, w.ensures.0, c.requires)) c.bad_order.ensures c.if-bad_order.false c.if-whole-count.true
+returns-then-whole-count c = let a = c.args in let s = a.head.bytes.now in let n = a.head.values.n in let count = a.head.values.count in let w = c.whole_entries-whole in
+    refused_11 s n count w.result w.ensures.0 w.ensures.1 w.ensures.2 a.rows.now a.cols.now a.values.now c.read_entries.ensures.rows_after c.read_entries.ensures.cols_after c.read_entries.ensures.values_after (omega (arith, w.ensures.0, c.requires)) (omega (arith, w.ensures.0, c.requires)) (omega (arith, w.ensures.0, c.requires)) c.bad_order.ensures c.if-bad_order.false c.if-whole-count.true
 
 pub invariant_of-table : goal.invariant_of-table
-invariant_of-table c = let a = c.args in let w = c.whole_entries-whole in record { lent = record { rows_there = omega (arith, c.requires); cols_there = omega (arith, c.requires); values_there = omega (arith, c.requires) } }
+invariant_of-table c = record { lent = record { rows_there = omega (arith, c.requires); cols_there = omega (arith, c.requires); values_there = omega (arith, c.requires) } }
 
 pub unmirrored-requires : goal.unmirrored-requires
-unmirrored-requires c = let a = c.args in let w = c.whole_entries-whole in placed a.job.now a.n a.count w.result w.ensures.0 w.ensures.1 w.ensures.2 a.rows.now a.cols.now a.values.now c.read_entries.ensures.rows_after c.read_entries.ensures.cols_after c.read_entries.ensures.values_after (omega (arith, w.ensures.0, c.requires)) (omega (arith, w.ensures.0, c.requires)) (omega (arith, w.ensures.0, c.requires)) c.bad_order.ensures c.if-bad_order.false c.if-whole-count.false (omega (arith, c.requires))
+unmirrored-requires c = let a = c.args in let s = a.head.bytes.now in let n = a.head.values.n in let count = a.head.values.count in let w = c.whole_entries-whole in placed s n count w.result w.ensures.0 w.ensures.1 w.ensures.2 a.rows.now a.cols.now a.values.now c.read_entries.ensures.rows_after c.read_entries.ensures.cols_after c.read_entries.ensures.values_after (omega (arith, w.ensures.0, c.requires)) (omega (arith, w.ensures.0, c.requires)) (omega (arith, w.ensures.0, c.requires)) c.bad_order.ensures c.if-bad_order.false c.if-whole-count.false (omega (arith, a.head.there.n, a.head.few))
 
 pub returns-then-unmirrored : goal.returns-then-unmirrored
-returns-then-unmirrored c = let a = c.args in let w = c.whole_entries-whole in
-    refused_15 a.job.now a.n a.count w.result w.ensures.0 w.ensures.1 w.ensures.2 a.rows.now a.cols.now a.values.now c.read_entries.ensures.rows_after c.read_entries.ensures.cols_after c.read_entries.ensures.values_after (omega (arith, w.ensures.0, c.requires)) (omega (arith, w.ensures.0, c.requires)) (omega (arith, w.ensures.0, c.requires)) c.bad_order.ensures c.if-bad_order.false c.if-whole-count.false c.unmirrored.ensures c.if-unmirrored.true
+returns-then-unmirrored c = let a = c.args in let s = a.head.bytes.now in let n = a.head.values.n in let count = a.head.values.count in let w = c.whole_entries-whole in
+    refused_15 s n count w.result w.ensures.0 w.ensures.1 w.ensures.2 a.rows.now a.cols.now a.values.now c.read_entries.ensures.rows_after c.read_entries.ensures.cols_after c.read_entries.ensures.values_after (omega (arith, w.ensures.0, c.requires)) (omega (arith, w.ensures.0, c.requires)) (omega (arith, w.ensures.0, c.requires)) c.bad_order.ensures c.if-bad_order.false c.if-whole-count.false c.unmirrored.ensures c.if-unmirrored.true
 
 pub returns : goal.returns
-returns c = let a = c.args in let w = c.whole_entries-whole in
-    accepted a.job.now a.n a.count w.result w.ensures.0 w.ensures.1 w.ensures.2 a.rows.now a.cols.now a.values.now c.read_entries.ensures.rows_after c.read_entries.ensures.cols_after c.read_entries.ensures.values_after (omega (arith, w.ensures.0, c.requires)) (omega (arith, w.ensures.0, c.requires)) (omega (arith, w.ensures.0, c.requires)) c.bad_order.ensures c.if-bad_order.false c.if-whole-count.false c.unmirrored.ensures c.if-unmirrored.false
+returns c = let a = c.args in let s = a.head.bytes.now in let n = a.head.values.n in let count = a.head.values.count in let w = c.whole_entries-whole in
+    accepted s n count w.result w.ensures.0 w.ensures.1 w.ensures.2 a.rows.now a.cols.now a.values.now c.read_entries.ensures.rows_after c.read_entries.ensures.cols_after c.read_entries.ensures.values_after (omega (arith, w.ensures.0, c.requires)) (omega (arith, w.ensures.0, c.requires)) (omega (arith, w.ensures.0, c.requires)) c.bad_order.ensures c.if-bad_order.false c.if-whole-count.false c.unmirrored.ensures c.if-unmirrored.false

@@ -6,16 +6,16 @@ use Rattle.job_record.proofs.Handed.{handed, refused}
 use Rattle.job_record.proofs.number.table_number.Goals as goal
 
 pub entries_number-requires : goal.entries_number-requires
-entries_number-requires c = let h = c.requires.0 in let room = c.requires.4 in
-    (c.requires.1, omega (arith, h.n, c.requires.2), omega (arith, h.count, c.requires.3, room.rows_room), omega (arith, h.count, c.requires.3, room.cols_room), omega (arith, h.count, c.requires.3, room.values_room))
+entries_number-requires c = let h = c.args.head.there in let room = c.requires.1 in
+    (c.requires.0, omega (arith, h.count, c.args.head.short, room.rows_room), omega (arith, h.count, c.args.head.short, room.cols_room), omega (arith, h.count, c.args.head.short, room.values_room))
 
 pub returns-in_err-entries_number : goal.returns-in_err-entries_number
-returns-in_err-entries_number c = let p = passed c.from_residual.ensures.1 in (table_refused c.args.job.now c.requires.0.n c.requires.0.count (handed p c.in_err-entries_number.ensures.0) (refused p), λ z. absurd (refused p z))
+returns-in_err-entries_number c = let p = passed c.from_residual.ensures.1 in (table_refused c.args.head.bytes.now c.args.head.there.n c.args.head.there.count (handed p c.in_err-entries_number.ensures.0) (refused p), λ z. absurd (refused p z))
 
 pub costs_number-requires : goal.costs_number-requires
-costs_number-requires c = let h = c.requires.0 in let room = c.requires.4 in
-    (omega (arith, h.n, c.requires.2), omega (arith, h.count, c.requires.3), omega (arith, h.count, c.requires.3, room.values_room, c.entries_number.auto), omega (arith, h.n, c.requires.2, room.c_room), values_are c.args.job.now c.args.head.count (c.in_ok-entries_number.ensures.1 refl) (omega (arith, h.count, c.requires.3, room.values_room)))
+costs_number-requires c = let h = c.args.head.there in let room = c.requires.1 in
+    (omega (arith, h.count, c.args.head.short, room.values_room, c.entries_number.auto), omega (arith, h.n, c.args.head.few, room.c_room), values_are c.args.head.bytes.now c.args.head.values.count (c.in_ok-entries_number.ensures.1 refl) (omega (arith, h.count, c.args.head.short, room.values_room)))
 
 pub returns : goal.returns
-returns c = let h = c.requires.0 in
-    (table_passed c.args.job.now h.n h.count c.in_ok-entries_number.ensures.0 refl c.costs_number.ensures.0, λ z. stored c.args.job.now h.n h.count (c.in_ok-entries_number.ensures.1 refl) (c.costs_number.ensures.1 z))
+returns c = let h = c.args.head.there in
+    (table_passed c.args.head.bytes.now h.n h.count c.in_ok-entries_number.ensures.0 refl c.costs_number.ensures.0, λ z. stored c.args.head.bytes.now h.n h.count (c.in_ok-entries_number.ensures.1 refl) (c.costs_number.ensures.1 z))

@@ -11,15 +11,15 @@ use Rattle.job_record.proofs.Accepted.{costs_place, version_pinned, version_none
 use Rattle.job_record.proofs.pins.version_pins.Goals as goal
 
 pub returns-then-not-carries_pins : goal.returns-then-not-carries_pins
-returns-then-not-carries_pins c = version_none c.args.job.now (version_pinned c.args.job.now c.requires.0 c.carries_pins.ensures (ap not c.if-not-carries_pins.true))
+returns-then-not-carries_pins c = version_none c.args.head.bytes.now (version_pinned c.args.head.bytes.now c.args.head.there c.carries_pins.ensures (ap not c.if-not-carries_pins.true))
 
 pub costs_end-requires : goal.costs_end-requires
-costs_end-requires c = omega (arith, c.requires.0.n, c.requires.0.count, c.requires.1, c.requires.2)
+costs_end-requires c = omega (arith, c.args.head.there.n, c.args.head.there.count, c.args.head.few, c.args.head.short)
 
 pub pins_number-requires : goal.pins_number-requires
-pins_number-requires c = take-replicate c.args.head.n most_wagons free_state (omega (arith, c.requires.0.n, c.requires.1))
+pins_number-requires c = take-replicate c.args.head.values.n most_wagons free_state (omega (arith, c.args.head.there.n, c.args.head.few))
 
 pub returns : goal.returns
-returns c = let s = c.args.job.now in let h = c.requires.0 in
+returns c = let s = c.args.head.bytes.now in let h = c.args.head.there in
     c.pins_number.ensures.0 ∙ ap (λ (n : ℕ). first (pins_numbers s n c.costs_end.result)) h.n ∙ ap (λ (at : ℕ). first (pins_numbers s (wagons s) at)) (costs_place s h c.costs_end.ensures)
     ∙ version_some s (version_pinned s h c.carries_pins.ensures (ap not c.if-not-carries_pins.false))

@@ -2,6 +2,7 @@ use Prim.Native.Nat.{ℕ, ◌+◌, ◌*◌, ◌<◌, ◌≤◌}
 use mathlib.Core.Path.{◌≡◌, refl, sym, ap, ◌∙◌}
 use mathlib.Core.List.{List, [], ◌∷◌}
 use mathlib.Core.Logic.{◌⊎◌, inl, inr}
+use native.Mathlib.Nat.{mul-le-mul}
 use native.Mathlib.Omega.{arith}
 use borrow.Author.Tests.{lt-ltb, le-ltb, eq-eqb, ne_eqb}
 use lib.ListN.{length}
@@ -16,7 +17,6 @@ use Rattle.job_record.specs.Reading.{field_number}
 use Rattle.job_record.specs.Number.{bounded_number, draws_numbers}
 use Rattle.job_record.proofs.Bounded.{bounded_passed}
 use Rattle.job_record.proofs.FieldByField.{field_limit, field_there}
-use Rattle.job_record.proofs.Products.{area}
 use Rattle.refusal.proofs.Passed.{passed}
 use Rattle.job_record.proofs.Handed.{handed, refused}
 use Rattle.job_record.proofs.settings.draws_number.Goals as goal
@@ -74,13 +74,13 @@ pub returns-then-count-eq0 : goal.returns-then-count-eq0
 returns-then-count-eq0 c = let k = counted c.args.job.now c.args.at c.field_at-drawn.ensures c.in_ok-limit_number.ensures c.unwrap_or-count.ensures in none c.args.job.now c.args.at c.args.rank k c.if-job-at.false c.if-count-eq0.true
 
 pub overflow_mul-end : goal.overflow_mul-end
-overflow_mul-end c = let k = counted c.args.job.now c.args.at c.field_at-drawn.ensures c.in_ok-limit_number.ensures c.unwrap_or-count.ensures in omega (arith, area c.unwrap_or-count.result c.args.rank most_draws most_rank k.low (omega arith))
+overflow_mul-end c = let k = counted c.args.job.now c.args.at c.field_at-drawn.ensures c.in_ok-limit_number.ensures c.unwrap_or-count.ensures in omega (arith, mul-le-mul {n₁ = c.unwrap_or-count.result} {m₁ = c.args.rank} {n₂ = most_draws} {m₂ = most_rank} k.low (omega arith))
 
 pub overflow_mul-end-2 : goal.overflow_mul-end-2
-overflow_mul-end-2 c = let k = counted c.args.job.now c.args.at c.field_at-drawn.ensures c.in_ok-limit_number.ensures c.unwrap_or-count.ensures in omega (arith, area c.unwrap_or-count.result c.args.rank most_draws most_rank k.low (omega arith))
+overflow_mul-end-2 c = let k = counted c.args.job.now c.args.at c.field_at-drawn.ensures c.in_ok-limit_number.ensures c.unwrap_or-count.ensures in omega (arith, mul-le-mul {n₁ = c.unwrap_or-count.result} {m₁ = c.args.rank} {n₂ = most_draws} {m₂ = most_rank} k.low (omega arith))
 
 pub overflow_add-end : goal.overflow_add-end
-overflow_add-end c = let k = counted c.args.job.now c.args.at c.field_at-drawn.ensures c.in_ok-limit_number.ensures c.unwrap_or-count.ensures in omega (arith, area c.unwrap_or-count.result c.args.rank most_draws most_rank k.low (omega arith))
+overflow_add-end c = let k = counted c.args.job.now c.args.at c.field_at-drawn.ensures c.in_ok-limit_number.ensures c.unwrap_or-count.ensures in omega (arith, mul-le-mul {n₁ = c.unwrap_or-count.result} {m₁ = c.args.rank} {n₂ = most_draws} {m₂ = most_rank} k.low (omega arith))
 
 pub returns-then-job-end : goal.returns-then-job-end
 returns-then-job-end c = let k = counted c.args.job.now c.args.at c.field_at-drawn.ensures c.in_ok-limit_number.ensures c.unwrap_or-count.ensures in not_whole c.args.job.now c.args.at c.args.rank k c.if-job-at.false c.if-count-eq0.false c.if-job-end.true

@@ -15,7 +15,7 @@ returns-then-call_short c = sym (first_here 30 _ _ (sym c.call_short.ensures ∙
 
 pub hall_number-requires : goal.hall_number-requires
 hall_number-requires c = let a = c.args in
-    let l = slices_long (costs_of a.hall) (length a.present.now) a.choice a.workspace (sym c.call_short.ensures ∙ c.if-call_short.false) in
+    let l = slices_long (costs_of a.hall) (length a.request.present.now) a.choice a.workspace (sym c.call_short.ensures ∙ c.if-call_short.false) in
     (λ h. l.table_long h, λ h. l.costs_long h)
 
 pub returns-in_err-hall_number : goal.returns-in_err-hall_number
@@ -24,7 +24,7 @@ returns-in_err-hall_number c = ap numbered (passed c.from_residual.ensures.1) �
 
 pub move_number-requires : goal.move_number-requires
 move_number-requires c = let a = c.args in
-    let l = slices_long (costs_of a.hall) (length a.present.now) a.choice a.workspace (sym c.call_short.ensures ∙ c.if-call_short.false) in
+    let l = slices_long (costs_of a.hall) (length a.request.present.now) a.choice a.workspace (sym c.call_short.ensures ∙ c.if-call_short.false) in
     let ok = hall_accepted (sym c.in_ok-hall_number.ensures) in
     l.present_long ok.wagons
 

@@ -11,7 +11,7 @@ use mir.Syntax.{w64}
 use mir.Val.{to_z, of_z}
 use Rattle.laws.proofs.Integer.{held}
 use Rattle.local_search.specs.SignSearch.{improves_c}
-use Rattle.local_search.specs.Children.{change_of, flip_w, choice_of}
+use Rattle.local_search.specs.Children.{change_of, flip_w, parent_choice}
 use Rattle.local_search.specs.Level.{word_child, level_of}
 use Rattle.local_search.proofs.ExpandLaws.{child_appended, child_skipped}
 use Rattle.local_search.proofs.LevelLaws.{words_length, level_appended}
@@ -38,8 +38,8 @@ returns-then-change-lt0 c =
     let change = change_of a.start.changes.now in
     let h : suc a.count ≤ suc a.i = omega arith in
     let added = to_z-of_z {w = w64} (rw (held c.args.start.objective c.struct_told-1.given.0.1, changed) (c.requires.0.safe a.i (omega arith))) ∙ ap₂ ◌+ℤ◌ (held c.args.start.objective c.struct_told-1.given.0.1) (changed) in
-    let exists : improves_c change (choice_of a.start) a.i ≡ true = rw (changed) at c.if-change-lt0.true in record {
-      appended = child_appended _ _ a.count a.i a.start.changes.now (improves_c change) (choice_of a.start)
+    let exists : improves_c change (parent_choice a.start) a.i ≡ true = rw (changed) at c.if-change-lt0.true in record {
+      appended = child_appended _ _ a.count a.i a.start.changes.now (improves_c change) (parent_choice a.start)
           (word_child _ a.i a.start.row.now)
           exists
           (ap (λ (z : ℤ). word_child z a.i a.start.row.now) added)
@@ -55,7 +55,7 @@ returns c =
     let changed : let a = c.args in to_z w64 (of_z w64 (get_or a.start.changes.now a.i (pos 0))) ≡ get_or a.start.changes.now a.i (pos 0) =
     to_z-of_z {w = w64} (sfits_of c.change-1.given) in
     let change = change_of c.args.start.changes.now in record {
-      appended = child_skipped _ _ c.args.count c.args.i c.args.start.changes.now (improves_c change) (choice_of c.args.start)
+      appended = child_skipped _ _ c.args.count c.args.i c.args.start.changes.now (improves_c change) (parent_choice c.args.start)
           (rw (changed) at c.if-change-lt0.false) refl c.requires.1;
       stays_out = λ q. record { objectives_stay = refl; signs_stay = refl; count_stays = refl };
     }

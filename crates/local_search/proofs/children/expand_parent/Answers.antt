@@ -2,7 +2,7 @@ use native.Mathlib.Omega.{arith}
 use lib.ListN.{length}
 use Rattle.local_search.specs.Level.{level_of, Ascending}
 use Rattle.local_search.specs.SignSearch.{improves_c}
-use Rattle.local_search.specs.Children.{change_of, choice_of}
+use Rattle.local_search.specs.Children.{change_of, parent_choice}
 use Rattle.local_search.proofs.LevelLaws.{objectives_of, objectives_are}
 use Rattle.local_search.proofs.OrderLaws.{kept_rising}
 use Rattle.local_search.proofs.ExpandLaws.{children_none, children_one_more}
@@ -19,7 +19,7 @@ rising c =
 pub loop-i-init : goal.loop-i-init
 loop-i-init c = let a = c.args in (
   omega arith,
-  children_none a.width (level_of (length a.parent.row.now) a.count a.objectives.now a.signs.now) a.parent.changes.now (improves_c (change_of a.parent.changes.now)) (choice_of a.parent) a.count c.requires.0.used,
+  children_none a.width (level_of (length a.parent.row.now) a.count a.objectives.now a.signs.now) a.parent.changes.now (improves_c (change_of a.parent.changes.now)) (parent_choice a.parent) a.count c.requires.0.used,
 )
 
 pub next_child-requires : goal.next_child-requires
@@ -56,8 +56,8 @@ loop-i-preserved c =
     let level = level_of n a.count a.objectives.now a.signs.now in
     let found = first_is c.in-Some.ensures in (
       omega (arith, found.1),
-      children_one_more a.width level a.parent.changes.now (improves_c (change_of a.parent.changes.now)) (choice_of a.parent) c.in-Some.i _ _ l.kept c.consider_child-kept.result
-          (passed_over a.width level a.parent.changes.now (choice_of a.parent) n l.kept l.objectives l.signs l.from c.in-Some.i
+      children_one_more a.width level a.parent.changes.now (improves_c (change_of a.parent.changes.now)) (parent_choice a.parent) c.in-Some.i _ _ l.kept c.consider_child-kept.result
+          (passed_over a.width level a.parent.changes.now (parent_choice a.parent) n l.kept l.objectives l.signs l.from c.in-Some.i
           c.requires.0.some (omega (arith, l.auto.objectives, c.requires.0.objectives_room)) (rising (goal.at.loop-i-preserved c).Start) found.0 found.2 l.invariant.1)
           c.consider_child-kept.ensures.kept,
     )
@@ -67,5 +67,5 @@ returns c =
     let l = c.loop-i in
     let a = c.args in
     let n = length a.parent.row.now in
-    passed_over a.width (level_of n a.count a.objectives.now a.signs.now) a.parent.changes.now (choice_of a.parent) n l.kept l.objectives l.signs l.from a.m
+    passed_over a.width (level_of n a.count a.objectives.now a.signs.now) a.parent.changes.now (parent_choice a.parent) n l.kept l.objectives l.signs l.from a.m
     c.requires.0.some (omega (arith, l.auto.objectives, c.requires.0.objectives_room)) (rising (goal.at.returns c).Start) l.invariant.0 (none_is c.in_default.ensures) l.invariant.1

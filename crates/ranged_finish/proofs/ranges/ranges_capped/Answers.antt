@@ -1,21 +1,18 @@
 -- `ranged_finish::ranges::ranges_capped` meets its contract. Assumes nothing.
-use mathlib.Core.Path.{◌≡◌, ◌∙◌, ap₂}
+use Rattle.std.proofs.Common.{ℕ, refl, rules}
+use Rattle.std.proofs.lemmas.Iterator.{YieldsList-from_range}
 use native.Mathlib.Omega.{arith}
-use Rattle.laws.specs.Sum.{total}
 use Rattle.laws.specs.Lists.{elem_z}
-use Rattle.laws.proofs.Integer.{held}
-use Rattle.tables.proofs.Checks.{capped_more}
+use Rattle.tables.proofs.Added.{fold_callable, fold_is}
 use Rattle.ranged_finish.specs.Numbers.{larger}
 use Rattle.ranged_finish.proofs.ranges.ranges_capped.Goals as goal
 
-pub loop-k-init : goal.loop-k-init
-unfolding total
-loop-k-init c = omega arith
-
-pub loop-k-preserved : goal.loop-k-preserved
-loop-k-preserved c = let a = c.args in
-    let e = ap₂ larger (held (elem_z a.low.now c.loop-k.k) c.with_range-arg-1.given) (held (elem_z a.high.now c.loop-k.k) c.with_range-arg-in-loop-k-1.given) in
-    (omega arith, c.with_range-sum.ensures ∙ capped_more (λ l. larger (elem_z a.low.now l) (elem_z a.high.now l)) _ _ c.loop-k.invariant.1 e)
+pub fold-requires-clause-callable : goal.fold-requires-clause-callable
+fold-requires-clause-callable c = let a = c.args in
+    let f : ℕ → ℕ = λ k. larger (elem_z a.low.now k) (elem_z a.high.now k) in
+    fold_callable a.count f a.cap (YieldsList-from_range 0 a.count a.count refl (omega arith)) (λ b k r h q. search rules) (λ b k few below. search rules)
 
 pub returns : goal.returns
-returns c = let e : c.loop-k.k ≡ c.args.count = omega arith in rw (← e) c.loop-k.invariant.1
+returns c = let a = c.args in
+    let f : ℕ → ℕ = λ k. larger (elem_z a.low.now k) (elem_z a.high.now k) in
+    fold_is a.count f a.cap (YieldsList-from_range 0 a.count a.count refl (omega arith)) (λ b k r h q. search rules) _ c.fold.ensures.ran

@@ -39,7 +39,7 @@ invariant_of-decoded c =
     }
 
 pub finish_job-requires : goal.finish_job-requires
-finish_job-requires c = (draws_read c.args.job.bytes.now c.args.job.accepted c.drawn_numbers-drawn.result _ _ c.drawn_numbers-drawn.ensures.0 c.read_draws.ensures (omega arith), c.requires.2, c.requires.3)
+finish_job-requires c = (draws_read c.args.job.bytes.now c.args.job.accepted c.drawn_numbers-drawn.result _ _ c.drawn_numbers-drawn.ensures.0 c.read_draws.ensures (omega arith), c.requires.2)
 
 pub returns : goal.returns
 returns c = c.finish_job.ensures

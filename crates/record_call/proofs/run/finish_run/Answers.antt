@@ -7,8 +7,8 @@ pub run_job-run-requires : goal.run_job-run-requires
 run_job-run-requires c = c.requires.1
 
 pub finish_accepted-requires : goal.finish_accepted-requires
-finish_accepted-requires c = finishes_now c.args.job.decoded c.args.b.now c.args.dual.now c.args.workspace.now c.run_job-run.ensures.0 c.requires.0 c.run_job-run.ensures.1 c.requires.2 c.requires.3 c.requires.4
+finish_accepted-requires c = finishes_now c.args.job.decoded c.args.b.now c.args.dual.now c.args.workspace.now c.run_job-run.ensures.0 c.requires.0 c.run_job-run.ensures.1 c.requires.3.choice_room c.requires.2 c.requires.3.search_room
 
 pub returns : goal.returns
-returns c = let f = finished c.args.job.decoded c.run_job-run.ensures.0 c.requires.0 c.run_job-run.ensures.1 c.requires.2 c.requires.3 c.requires.4 c.finish_accepted.ensures in
-    (same_ok refl f.0, f.1)
+returns c = let f = finished c.args.job.decoded c.run_job-run.ensures.0 c.requires.0 c.run_job-run.ensures.1 c.requires.3.choice_room c.requires.2 c.requires.3.search_room c.finish_accepted.ensures in
+    record { result_is = same_ok refl f.0; choice_is = f.1 }

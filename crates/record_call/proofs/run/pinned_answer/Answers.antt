@@ -17,7 +17,7 @@ pub invariant_of-pinned : goal.invariant_of-pinned
 invariant_of-pinned c = record { states_are = own_states c.args.job.own _ _ c.read_states.ensures }
 
 pub finish_pinned-fields-requires : goal.finish_pinned-fields-requires
-finish_pinned-fields-requires c = (omega arith, omega arith, c.requires.1)
+finish_pinned-fields-requires c = (omega arith, record { choice_room = omega arith; search_room = c.requires.search_room })
 
 pub slice_bounds-states-end-2 : goal.slice_bounds-states-end-2
 slice_bounds-states-end-2 c = omega (arith, own_few c.args.job.own, c.read_states.auto.states)
@@ -33,7 +33,11 @@ slice_bounds-lift_choice-end-2 c = sym (length-take-le _ _ (omega (arith, free_f
 
 pub lift_choice-requires : goal.lift_choice-requires
 lift_choice-requires c = let a = lift_asks c.args.job.record.bytes.now c.args.job.own.accepted c.args.job.settings.n (own_n c.args.job.own) (own_states c.args.job.own _ _ c.read_states.ensures) (free_cut c.args.job.record.bytes.now c.args.job.own.accepted c.args.job.settings c.args.job.own.job_is _ _ c.finish_pinned-fields.ensures.wagons_are) in
-    (a.0, a.1, omega (arith, a.2, c.finish_pinned-fields.auto.chosen), omega (arith, a.3, c.requires.0))
+    (a.0, a.1, omega (arith, a.2, c.finish_pinned-fields.auto.chosen), omega (arith, a.3, c.requires.choice_room))
 
 pub returns : goal.returns
-returns c = (c.finish_pinned-fields.ensures.fields_are, lifted_choice c.args.job.record.bytes.now c.args.job.own.accepted c.args.job.settings.n _ _ _ _ _ (own_n c.args.job.own) (own_states c.args.job.own _ _ c.read_states.ensures) c.finish_pinned-fields.ensures.choice_is c.lift_choice.ensures)
+returns c =
+    record {
+      fields_are = c.finish_pinned-fields.ensures.fields_are;
+      choice_is = lifted_choice c.args.job.record.bytes.now c.args.job.own.accepted c.args.job.settings.n _ _ _ _ _ (own_n c.args.job.own) (own_states c.args.job.own _ _ c.read_states.ensures) c.finish_pinned-fields.ensures.choice_is c.lift_choice.ensures;
+    }

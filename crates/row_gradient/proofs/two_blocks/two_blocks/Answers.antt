@@ -13,19 +13,19 @@ pub loop-e-init : goal.loop-e-init
 loop-e-init g c = (omega arith, refl, block_start_lem ◌-ᶠ◌ (λ k. eqb k c.args.vertex) c.args.row.cols.now c.args.row.values.now c.args.factor.now c.args.rank 0 g.row.N, block_start_lem ◌-ᶠ◌ (λ k. eqb k c.args.vertex) c.args.row.cols.now c.args.row.values.now c.args.factor.now c.args.rank (c.args.rank - g.row.M) g.row.M)
 
 pub overflow_mul-start : goal.overflow_mul-start
-overflow_mul-start g c = omega (arith, at_rank _ _ _ _ c.requires.in_bounds.3 c.requires.columns_within c.loop-e.e c.loop-e-test.true)
+overflow_mul-start g c = rw c.from-k.ensures (omega (arith, at_rank _ _ _ _ c.requires.in_bounds.3 c.requires.columns_within c.loop-e.e c.loop-e-test.true))
 
 pub overflow_add-there : goal.overflow_add-there
-overflow_add-there g c = omega (arith, at_rank _ _ _ _ c.requires.in_bounds.3 c.requires.columns_within c.loop-e.e c.loop-e-test.true)
+overflow_add-there g c = rw c.from-k.ensures (omega (arith, at_rank _ _ _ _ c.requires.in_bounds.3 c.requires.columns_within c.loop-e.e c.loop-e-test.true))
 
 pub add_entry-requires : goal.add_entry-requires
-add_entry-requires g c = omega (arith, c.requires.in_bounds.0, c.requires.in_bounds.3, at_rank _ _ _ _ c.requires.in_bounds.3 c.requires.columns_within c.loop-e.e c.loop-e-test.true)
+add_entry-requires g c = rw c.from-k.ensures (omega (arith, c.requires.in_bounds.0, c.requires.in_bounds.3, at_rank _ _ _ _ c.requires.in_bounds.3 c.requires.columns_within c.loop-e.e c.loop-e-test.true))
 
 pub add_entry-requires-in-loop-e : goal.add_entry-requires-in-loop-e
-add_entry-requires-in-loop-e g c = omega (arith, c.requires.in_bounds.1, c.requires.in_bounds.3, at_rank _ _ _ _ c.requires.in_bounds.3 c.requires.columns_within c.loop-e.e c.loop-e-test.true)
+add_entry-requires-in-loop-e g c = rw c.from-k.ensures (omega (arith, c.requires.in_bounds.1, c.requires.in_bounds.3, at_rank _ _ _ _ c.requires.in_bounds.3 c.requires.columns_within c.loop-e.e c.loop-e-test.true))
 
 pub loop-e-preserved : goal.loop-e-preserved
-loop-e-preserved g c = (omega arith, omega arith, c.add_entry.ensures ∙ (rw add-zero at (block_next _ _ _ _ _ _ 0 g.row.N _ _ c.loop-e.invariant.2)), c.add_entry-in-loop-e.ensures ∙ block_next _ _ _ _ _ _ _ _ _ _ c.loop-e.invariant.3)
+loop-e-preserved g c = (omega arith, omega arith, (rw c.from-k.ensures at c.add_entry.ensures) ∙ (rw add-zero at (block_next _ _ _ _ _ _ 0 g.row.N _ _ c.loop-e.invariant.2)), (rw c.from-k.ensures at c.add_entry-in-loop-e.ensures) ∙ block_next _ _ _ _ _ _ _ _ _ _ c.loop-e.invariant.3)
 
 pub returns : goal.returns
 returns g c = let l = c.loop-e in rw (← c.requires.in_bounds.3) (two_ends _ _ _ _ c.args.rank g.row.N g.row.M (c.args.rank - g.row.M) l.e c.args.g.now _ _ _ _ (sym c.requires.in_bounds.3) c.put_sums.auto.g (omega (arith, c.requires.in_bounds.1, c.requires.in_bounds.3)) (omega (arith, c.requires.in_bounds.2, c.requires.in_bounds.3)) (omega (arith, c.requires.in_bounds.0, c.requires.in_bounds.3)) (omega arith) l.invariant.2 l.invariant.3 c.put_sums.ensures c.put_sums-2.ensures)

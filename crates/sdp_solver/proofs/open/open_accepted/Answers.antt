@@ -1,6 +1,6 @@
 -- `sdp_solver::open::open_accepted` meets its contract, by what its parts ensure. Assumes nothing.
 use Prim.Native.Nat.{◌+◌, ◌*◌}
-use mathlib.Core.Path.{◌≡◌, refl, sym, ap, subst}
+use mathlib.Core.Path.{refl, sym, ap}
 use native.Mathlib.Nat.{le_trans}
 use native.Mathlib.Omega.{arith}
 use lib.ListN.{take}
@@ -8,10 +8,8 @@ use lib.Seq.{length-take-le}
 use Rattle.std.specs.Prelude.{Ok}
 use Rattle.run_limits.proofs.Ranks.{given_under}
 use Rattle.run_limits.proofs.Starts.{counted}
-use Rattle.tables.specs.CostTable.{CostTable}
 use Rattle.tables.specs.Lent.{costs_of}
-use Rattle.maxcut_oracle.specs.Table.{work_objective}
-use Rattle.run_sweep.specs.Work.{sign_table_of}
+use Rattle.tables.proofs.Checks.{hall_passes}
 use Rattle.run_contract.specs.Calls.{asked_of}
 use Rattle.run_contract.proofs.Accepting.{open_accepted}
 use Rattle.sdp_solver.proofs.Opening.{room, started, opened}
@@ -54,12 +52,12 @@ pub judged_hall-judged-requires : goal.judged_hall-judged-requires
 judged_hall-judged-requires c =
     let settings = asked_of (costs_of c.args.hall) c.args.asked c.args.numbers.now in
     let openable = open_accepted settings _ c.requires in
-    record { slices = openable.slices; costs = openable.costs; hall = openable.hall }
+    record { lent = openable.slices; costs_there = openable.costs; judged = hall_passes openable.hall }
 
 pub first_objective-last_objective-requires : goal.first_objective-last_objective-requires
 first_objective-last_objective-requires c =
     let settings = asked_of (costs_of c.args.hall) c.args.asked c.args.numbers.now in
-    rw (ap (λ (t : CostTable). t.n) c.judged_hall-judged.ensures)
+    rw c.judged_hall-judged.ensures.0
     (length-take-le _ _ (room settings c.args.factor.now c.requires c.rank_meant-meant.ensures.0 _ c.prepare_initial_factor.auto.factor))
 
 pub rule_of-step-requires : goal.rule_of-step-requires
@@ -70,7 +68,8 @@ rule_of-step-requires c =
 pub returns : goal.returns
 returns c =
     let o = asked_of (costs_of c.args.hall) c.args.asked c.args.numbers.now in
-    let objective = subst (λ (t : CostTable). c.first_objective-last_objective.result ≡ work_objective (sign_table_of t) c.rank_meant-meant.result (take ((c.args.hall.table.size + 1) * c.rank_meant-meant.result) c.prepare_initial_factor.new.factor)) c.judged_hall-judged.ensures c.first_objective-last_objective.ensures in
+    let of = c.judged_hall-judged.ensures in
+    let objective = rw (of.0, of.1, of.2) at c.first_objective-last_objective.ensures in
     let new = started o c.args.factor.now c.requires c.rank_meant-meant.ensures.0 c.start_of.ensures c.prepare_initial_factor.ensures in
     record {
       numbered = sym c.requires;

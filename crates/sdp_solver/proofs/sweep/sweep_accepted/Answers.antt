@@ -1,19 +1,21 @@
 -- `sdp_solver::sweep::sweep_accepted` meets its contract, on the table that `call_work` made. Assumes nothing.
-use Prim.Native.Nat.{◌+◌, ◌*◌}
-use mathlib.Core.Path.{ap, ◌∙◌, subst}
+use Prim.Native.Nat.{◌*◌}
+use mathlib.Core.Path.{ap, ◌∙◌}
 use native.Mathlib.Omega.{arith}
-use Rattle.tables.specs.CostTable.{CostTable}
 use Rattle.tables.specs.Lent.{costs_of}
-use Rattle.prepared_table.specs.Made.{MadeOf}
-use Rattle.run_sweep.specs.Work.{sign_table_of}
+use Rattle.tables.proofs.Checks.{hall_passes}
 use Rattle.prepared_table.proofs.MadeTables.{made_fits, made_shaped}
 use Rattle.sdp_solver.proofs.Prepared.{in_range, made_work}
 use Rattle.sdp_solver.proofs.sweep.sweep_accepted.Goals as goal
 
+pub judged_hall-requires : goal.judged_hall-requires
+judged_hall-requires c = let u = c.requires.0 in record { lent = u.slices; costs_there = u.costs; judged = hall_passes u.hall }
+
 pub sweep_work-requires : goal.sweep_work-requires
 sweep_work-requires c =
     let a = c.args in
-    let k = subst (λ (t : CostTable). MadeOf (sign_table_of t) (t.n + 1) c.call_work.new.work) c.judged_hall.ensures c.call_work.ensures in
+    let of = c.judged_hall.ensures in
+    let k = rw (of.0, of.1, of.2) at c.call_work.ensures in
     let w = c.table.ensures in
     let r = in_range c.requires.0 in
     let size = c.requires.2 in
@@ -28,5 +30,6 @@ sweep_work-requires c =
 pub returns : goal.returns
 returns c =
     let w = c.table.ensures in
-    let k = subst (λ (t : CostTable). MadeOf (sign_table_of t) (t.n + 1) c.call_work.new.work) c.judged_hall.ensures c.call_work.ensures in
+    let of = c.judged_hall.ensures in
+    let k = rw (of.0, of.1, of.2) at c.call_work.ensures in
     rw (w.rows_value, w.cols_value, w.values_value, w.starts_value, made_work (costs_of c.args.hall) k) at c.sweep_work.ensures

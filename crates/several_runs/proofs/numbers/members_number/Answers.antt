@@ -1,13 +1,15 @@
 -- `several_runs::numbers::members_number` meets its contract. Assumes nothing.
 use mathlib.Core.Path.{refl, sym, ◌∙◌}
 use native.Mathlib.Omega.{arith}
+use Rattle.laws.specs.Refusal.{first_of}
 use Rattle.laws.proofs.Refusal.{passed, found}
 use Rattle.run_record.proofs.Refused.{handed_on, some_refusal}
-use Rattle.several_runs.proofs.Cursors.{cursor_start, cut_number, cursor_passed, none_first}
+use Rattle.several_runs.proofs.Cursors.{cursor_start, cut_number, cursor_passed}
 use Rattle.several_runs.proofs.numbers.members_number.Goals as goal
 
 pub loop-i-init : goal.loop-i-init
-loop-i-init c = (omega arith, rw (c.default-at.ensures.0, c.default-at.ensures.1.0, c.default-at.ensures.1.1) (cursor_start _ _ _), none_first _)
+unfolding first_of
+loop-i-init c = (omega arith, rw (c.default-at.ensures.0, c.default-at.ensures.1.0, c.default-at.ensures.1.1) (cursor_start _ _ _), refl)
 
 pub hall_from-table-requires : goal.hall_from-table-requires
 hall_from-table-requires c = let k = c.loop-i.invariant.1 in (k.rows_room, k.cols_room, k.values_room, k.costs_room)

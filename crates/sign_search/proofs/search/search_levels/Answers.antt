@@ -10,6 +10,7 @@ use lib.ListN.{length}
 use mir.Syntax.{w64}
 use mir.Val.{to_z, of_z}
 use mir.Facts.{to_z-of_z}
+use Rattle.laws.proofs.Integer.{held}
 use Rattle.sign_words.specs.Packed.{unpacked}
 use Rattle.local_search.specs.LocalSearch.{best}
 use Rattle.local_search.specs.Level.{Choice, below, level_of, sign_level}
@@ -28,10 +29,10 @@ use Rattle.sign_search.proofs.search.search_levels.Goals.{After-append_row-count
 -- the search that the call makes
 module _ (c : After-append_row-count) where
   abbrev start : Choice
-  start = parent_of (to_z w64 (of_z w64 c.args.objective)) c.args.current.now
+  start = parent_of c.args.search.objective c.args.current.now
 
   abbrev exists : Choice → ℕ → Bool
-  exists = let a = c.args in exists_in (listed a.table) (bounds a.reach.leeway.flips a.reach.leeway.most a.current.now)
+  exists = let a = c.args in exists_in (listed a.search.table) (bounds a.search.leeway.flips a.search.leeway.most a.current.now)
 
 -- the level in hand isn't empty, so that a round is left
 module _ (c : After-advance-count) where
@@ -40,24 +41,24 @@ module _ (c : After-advance-count) where
       omega (arith, length_sign_level (length c.args.kept.now) (length c.args.current.now) l.count l.objectives l.signs l.invariant.6)
 
   left : let a = c.args in
-      let b = bounds a.reach.leeway.flips a.reach.leeway.most a.current.now in
-      c.loop-count.rounds < (searched_in (listed a.table) b a.width (parent_of (to_z w64 (of_z w64 a.objective)) a.current.now)).rounds
+      let b = bounds a.search.leeway.flips a.search.leeway.most a.current.now in
+      c.loop-count.rounds < (searched_in (listed a.search.table) b a.search.width (parent_of a.search.objective a.current.now)).rounds
   left = let a = c.args in
-      let t = listed a.table in
-      let b = bounds a.reach.leeway.flips a.reach.leeway.most a.current.now in
-      let start = parent_of (to_z w64 (of_z w64 a.objective)) a.current.now in
-      searching_more (change_in t) (exists_in t b) a.width (height_in t a.current.now) start _ _ c.loop-count.rounds filled c.loop-count.invariant.8
+      let t = listed a.search.table in
+      let b = bounds a.search.leeway.flips a.search.leeway.most a.current.now in
+      let start = parent_of a.search.objective a.current.now in
+      searching_more (change_in t) (exists_in t b) a.search.width (height_in t a.current.now) start _ _ c.loop-count.rounds filled c.loop-count.invariant.8
 
 pub append_row-count-requires : goal.append_row-count-requires
 append_row-count-requires c = let a = c.args in (
-  rw (to_z-of_z c.ranges.objective)
+  rw (held a.search.objective (omega arith))
       (record {
         changes_room = c.requires.0.changes_room;
         objectives_room = c.requires.0.first_objectives;
         signs_room = c.requires.0.first_signs;
         signs_held = c.requires.0.signs_held;
         table = usable_of c.requires.1;
-        safe = start_safe _ _ _ _ (table_searches _ (bounds a.reach.leeway.flips a.reach.leeway.most a.current.now) (parent_of a.objective a.current.now) c.requires.1 c.requires.2);
+        safe = start_safe _ _ _ _ (table_searches _ (bounds a.search.leeway.flips a.search.leeway.most a.current.now) (parent_of a.search.objective a.current.now) c.requires.1 c.requires.2);
       }),
   c.requires.3.signs,
   c.requires.4,
@@ -67,8 +68,10 @@ pub loop-count-init : goal.loop-count-init
 loop-count-init c = let w = (goal.at.loop-count-init c).After-append_row-count in
     let f = c.append_row-count in
     let a = c.args in
-    let t = listed a.table in
-    let n = length a.kept.now in (
+    let t = listed a.search.table in
+    let n = length a.kept.now in
+    let same = held a.search.objective (omega arith) in
+    let appended = rw same at f.ensures.appended in (
       refl,
       refl,
       refl,
@@ -77,9 +80,9 @@ loop-count-init c = let w = (goal.at.loop-count-init c).After-append_row-count i
       refl,
       omega (arith, f.ensures.appended.room, c.requires.0.first_objectives, f.auto.objectives),
       omega (arith, mul-le-mul_right n f.ensures.appended.room, c.requires.0.first_signs, f.auto.signs),
-      subst (λ (x : List ℕ). Searching (change_in t) (exists w) a.width (height_in t a.current.now) (start w) (sign_level n (length a.current.now) f.result f.new.objectives f.new.signs) (parent_of (to_z w64 (of_z w64 a.objective)) x) 0) (sym c.requires.3.signs)
-          (searching_first (change_in t) (exists w) a.width (height_in t a.current.now) (start w) _ f.ensures.appended.level c.requires.0.some
-          (table_searches t (bounds a.reach.leeway.flips a.reach.leeway.most a.current.now) (start w) c.requires.1 (to_z-of_z c.ranges.objective ∙ c.requires.2))),
+      rw same (subst (λ (x : List ℕ). Searching (change_in t) (exists w) a.search.width (height_in t a.current.now) (start w) (sign_level n (length a.current.now) f.result f.new.objectives f.new.signs) (parent_of a.search.objective x) 0) (sym c.requires.3.signs)
+          (searching_first (change_in t) (exists w) a.search.width (height_in t a.current.now) (start w) _ appended.level c.requires.0.some
+          (table_searches t (bounds a.search.leeway.flips a.search.leeway.most a.current.now) (start w) c.requires.1 c.requires.2))),
       refl,
       record { changes_are = f.ensures.changes; row_is = ap (unpacked (length a.current.now)) c.requires.3.same ∙ c.requires.3.signs },
       f.ensures.tidy c.requires.3.tidy,
@@ -96,7 +99,7 @@ advance-count-requires c = let w = (goal.at.advance-count-requires c).After-appe
     let l = c.loop-count in
     let a = c.args in
     let f = c.append_row-count in
-    let t = listed a.table in (
+    let t = listed a.search.table in (
       rw l.invariant.9
           (record {
             expands = record {
@@ -109,7 +112,7 @@ advance-count-requires c = let w = (goal.at.advance-count-requires c).After-appe
               signs_held = c.requires.0.signs_held;
               words_few = c.requires.0.words_few;
               table = c.requires.1;
-              safe = searching_safe (change_in t) (exists w) a.width (height_in t a.current.now) (start w) _ _ l.rounds l.invariant.8;
+              safe = searching_safe (change_in t) (exists w) a.search.width (height_in t a.current.now) (start w) _ _ l.rounds l.invariant.8;
             };
             objectives_room = omega (arith, l.invariant.2, f.auto.objectives, c.requires.0.objectives_room);
             signs_room = omega (arith, l.invariant.3, f.auto.signs, c.requires.0.signs_room);
@@ -135,7 +138,7 @@ loop-count-preserved c =
     let l = c.loop-count in
     let a = c.args in
     let f = c.append_row-count in
-    let t = listed a.table in
+    let t = listed a.search.table in
     let m = length a.current.now in
     let n = length a.kept.now in
     let next = rw (l.invariant.9, c.requires.5, c.requires.3.signs) at v.ensures.next_level in
@@ -148,7 +151,7 @@ loop-count-preserved c =
       v.auto.next_signs ∙ l.invariant.5,
       omega (arith, next.room, v.auto.objectives, l.invariant.2, f.auto.objectives, c.requires.0.objectives_room),
       omega (arith, mul-le-mul_right n next.room, v.auto.signs, l.invariant.3, f.auto.signs, c.requires.0.signs_room),
-      searching_next (change_in t) (exists w) a.width (height_in t a.current.now) (start w)
+      searching_next (change_in t) (exists w) a.search.width (height_in t a.current.now) (start w)
           (sign_level n m l.count l.objectives l.signs) _ (parent_of (to_z w64 l.least-bits) (unpacked m l.kept)) _ l.rounds more next.level
           (least_decoded n m l.count l.objectives l.signs (parent_of (to_z w64 l.least-bits) l.kept) (parent_of (to_z w64 (of_z w64 k.result)) k.new.kept)
           (ap (λ (z : ℤ). parent_of z k.new.kept) (to_z-of_z {w = w64} (sfits_of k.type_inv)) ∙ k.ensures ∙ among))
@@ -188,11 +191,10 @@ pub returns : goal.returns
 returns c = let w = (goal.at.returns c).After-append_row-count in
     let l = c.loop-count in
     let a = c.args in
-    let t = listed a.table in
+    let t = listed a.search.table in
     let m = length a.current.now in
     let n = length a.kept.now in
     let none : l.count ≡ 0 = omega arith in
     let empty : sign_level n m l.count l.objectives l.signs ≡ [] = ap (λ (i : ℕ). sign_level n m i l.objectives l.signs) none ∙ sign_level_empty n m l.objectives l.signs in
-    let done = rw (to_z-of_z c.ranges.objective) at
-    (searching_end (change_in t) (exists w) a.width (height_in t a.current.now) (start w) _ (parent_of (to_z w64 l.least-bits) (unpacked m l.kept)) l.rounds empty l.invariant.8) in
+    let done = searching_end (change_in t) (exists w) a.search.width (height_in t a.current.now) (start w) _ (parent_of (to_z w64 l.least-bits) (unpacked m l.kept)) l.rounds empty l.invariant.8 in
     record { kept_after = record { answer_is = done.0; rounds_are = done.1 }; tidy = l.invariant.12 }

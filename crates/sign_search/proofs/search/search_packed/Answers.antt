@@ -2,7 +2,6 @@ use Prim.Native.Nat.{ℕ, ◌*◌, ◌-◌, ◌≤◌}
 use native.Mathlib.Nat.{le_trans, mul-le-mul}
 use native.Mathlib.Omega.{arith}
 use lib.ListN.{length}
-use Rattle.laws.proofs.Integer.{held}
 use Rattle.limits.specs.Limits.{most_signs, most_words}
 use mathlib.Core.List.{List, ◌++◌}
 use mathlib.Core.Path.{◌≡◌, refl, ap, ◌∙◌}
@@ -23,8 +22,8 @@ slice_bounds-origin-end c = omega (arith, c.requires.start_row.1)
 pub copy_from_slice-requires : goal.copy_from_slice-requires
 copy_from_slice-requires c = simp length-take (omega (arith, c.requires.start_row.1))
 
-pub slice_bounds-reach-end : goal.slice_bounds-reach-end
-slice_bounds-reach-end c = part-fits (length c.args.kept.now) c.args.kept.now c.copy_from_slice.new.self _ refl c.copy_from_slice.ensures.after
+pub slice_bounds-start-end : goal.slice_bounds-start-end
+slice_bounds-start-end c = part-fits (length c.args.kept.now) c.args.kept.now c.copy_from_slice.new.self _ refl c.copy_from_slice.ensures.after
 
 pub search_levels-requires : goal.search_levels-requires
 search_levels-requires c = let q = c.requires.searchable in
@@ -46,11 +45,11 @@ search_levels-requires c = let q = c.requires.searchable in
         next_signs_room = omega (arith, wide);
       },
       q.sound,
-      rw (held a.search.objective (omega arith)) q.start_is,
+      q.start_is,
       c.requires.start_row.0,
       q.flips_few,
       part-again (length a.kept.now) a.kept.now _ _ refl c.copy_from_slice.ensures.after,
     )
 
 pub returns : goal.returns
-returns c = record { kept_after = rw (held c.args.search.objective (omega arith)) at c.search_levels.ensures.kept_after; tidy = c.search_levels.ensures.tidy }
+returns c = c.search_levels.ensures

@@ -11,7 +11,7 @@ use Rattle.sign_words.specs.Packed.{sign_in, unpacked}
 use Rattle.sign_words.proofs.PackedLaws.{elem_unpacked}
 use Rattle.local_search.specs.Level.{Choice, level_of}
 use Rattle.local_search.specs.SignSearch.{improves_c}
-use Rattle.local_search.specs.Children.{change_of, choice_of, flip_w, Kept}
+use Rattle.local_search.specs.Children.{change_of, parent_choice, flip_w, Kept}
 use Rattle.local_search.proofs.ExpandLaws.{no_child}
 use Rattle.sign_search.specs.Within.{apart_at, goes_back}
 use Rattle.sign_search.proofs.NearLaws.{whole, never}
@@ -32,8 +32,8 @@ sign-is m x origin i h e is = e ∙ ap (λ (t : ℕ). cond (eqb (sign_digit (ele
 
 pub returns-then-not-differs : goal.returns-then-not-differs
 returns-then-not-differs c = let a = c.args in
-    no_child a.width _ _ a.count a.i a.parent.changes.now (goes_back a.parent.changes.now a.current.now (unpacked (length a.current.now) a.origin.now)) (choice_of a.parent)
-    (left_out a.parent.changes.now a.current.now (unpacked (length a.current.now) a.origin.now) (choice_of a.parent) a.i (sign-is (length a.current.now) a.current.now a.origin.now a.i c.requires.2 c.differs.ensures c.sign_in-sign.ensures) c.if-not-differs.true) refl c.requires.0.used
+    no_child a.width _ _ a.count a.i a.parent.changes.now (goes_back a.parent.changes.now a.current.now (unpacked (length a.current.now) a.origin.now)) (parent_choice a.parent)
+    (left_out a.parent.changes.now a.current.now (unpacked (length a.current.now) a.origin.now) (parent_choice a.parent) a.i (sign-is (length a.current.now) a.current.now a.origin.now a.i c.requires.2 c.differs.ensures c.sign_in-sign.ensures) c.if-not-differs.true) refl c.requires.0.used
 
 pub consider_child-requires : goal.consider_child-requires
 consider_child-requires c = (c.requires.0, c.requires.1)
@@ -41,7 +41,7 @@ consider_child-requires c = (c.requires.0, c.requires.1)
 pub returns : goal.returns
 returns c = let a = c.args in
     let k = c.consider_child in
-    let parent = choice_of a.parent in
+    let parent = parent_choice a.parent in
     subst (λ (b : Bool). Kept a.width (level_of (length a.parent.row.now) a.count a.objectives.now a.signs.now) (cond b (flip_w a.parent.changes.now a.i parent ∷ []) [])
     (level_of (length a.parent.row.now) k.result k.new.objectives k.new.signs) k.result)
     (taken_in a.parent.changes.now a.current.now (unpacked (length a.current.now) a.origin.now) parent a.i (sign-is (length a.current.now) a.current.now a.origin.now a.i c.requires.2 c.differs.ensures c.sign_in-sign.ensures) c.if-not-differs.false) k.ensures.kept

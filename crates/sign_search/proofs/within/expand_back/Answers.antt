@@ -3,7 +3,7 @@ use mathlib.Core.Path.{◌≡◌}
 use lib.ListN.{length}
 use Rattle.sign_words.specs.Packed.{unpacked}
 use Rattle.local_search.specs.Level.{level_of}
-use Rattle.local_search.specs.Children.{choice_of}
+use Rattle.local_search.specs.Children.{parent_choice}
 use Rattle.local_search.proofs.LevelLaws.{objectives_are}
 use Rattle.local_search.proofs.OrderLaws.{kept_rising}
 use Rattle.local_search.proofs.ExpandLaws.{children_none, children_one_more}
@@ -14,7 +14,7 @@ pub loop-i-init : goal.loop-i-init
 loop-i-init c = let a = c.args in (
   omega arith,
   children_none a.width (level_of (length a.parent.row.now) a.count a.objectives.now a.signs.now) a.parent.changes.now (goes_back a.parent.changes.now a.current.now (unpacked (length a.current.now) a.origin.now))
-      (choice_of a.parent) a.count c.requires.0.used,
+      (parent_choice a.parent) a.count c.requires.0.used,
 )
 
 pub back_child-kept-requires : goal.back_child-kept-requires
@@ -43,7 +43,7 @@ loop-i-preserved c = let l = c.loop-i in
     let a = c.args in (
       omega arith,
       children_one_more a.width (level_of (length a.parent.row.now) a.count a.objectives.now a.signs.now) a.parent.changes.now (goes_back a.parent.changes.now a.current.now (unpacked (length a.current.now) a.origin.now))
-          (choice_of a.parent) l.i _ _ l.kept k.result l.invariant.1 k.ensures,
+          (parent_choice a.parent) l.i _ _ l.kept k.result l.invariant.1 k.ensures,
     )
 
 pub returns : goal.returns

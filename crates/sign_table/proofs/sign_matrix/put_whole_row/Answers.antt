@@ -1,6 +1,5 @@
 -- `sign_table::sign_matrix::put_whole_row` meets its contract.
-use Rattle.sign_table.proofs.Built.{sum_back}
-use Rattle.sign_table.proofs.Built.{row_asks, room_less, room_on, sum_small, whole_wrote, whole_many, next_row}
+use Rattle.sign_table.proofs.Built.{sum_back, row_asks, room_less, room_on, sum_small, whole_wrote, whole_many, next_row}
 use Rattle.tables.proofs.Writing.{row_length_le}
 use Rattle.sign_table.proofs.Cursor.{row_start_lem}
 use Rattle.sign_table.proofs.Bounds.{linear_small}

@@ -18,7 +18,7 @@ overflow_add-r c =
     omega (arith, few)
 
 pub returns-then-r-lt64 : goal.returns-then-r-lt64
-returns-then-r-lt64 c = apart_inside c.args.a c.args.b c.args.from c.if-r-lt64.true
+returns-then-r-lt64 c = apart_inside c.args.a c.args.b c.args.from c.ranges.a.fits c.ranges.b.fits c.if-r-lt64.true
 
 pub returns-else-r-lt64 : goal.returns-else-r-lt64
-returns-else-r-lt64 c = apart_nowhere c.args.a c.args.b c.args.from (omega arith)
+returns-else-r-lt64 c = apart_nowhere c.args.a c.args.b c.args.from c.ranges.a.fits c.ranges.b.fits (omega arith)

@@ -1,17 +1,18 @@
 -- `tables::check::magnitudes_capped` meets its contract.
-use Rattle.laws.proofs.Integer.{held}
-use Rattle.tables.proofs.Checks.{capped_more}
-use Rattle.laws.specs.Sum.{total}
-use Rattle.laws.specs.Lists.{elem_z}
-use lib.IntN.{nat_abs}
+use Rattle.std.proofs.Common.{ℕ, refl, rules}
+use Rattle.std.proofs.lemmas.Iterator.{YieldsList-from_range}
 use native.Mathlib.Omega.{arith}
-use mathlib.Core.Path.{◌∙◌, ap}
+use lib.IntN.{nat_abs}
+use Rattle.laws.specs.Lists.{elem_z}
+use Rattle.tables.proofs.Added.{fold_callable, fold_is}
 use Rattle.tables.proofs.check.magnitudes_capped.Goals as goal
 
-pub loop-k-init : goal.loop-k-init
-unfolding total
-loop-k-init c = omega arith
+pub fold-requires-clause-callable : goal.fold-requires-clause-callable
+fold-requires-clause-callable c = let a = c.args in
+    let f : ℕ → ℕ = λ k. nat_abs (elem_z a.values.now k) in
+    fold_callable a.count f a.cap (YieldsList-from_range 0 a.count a.count refl (omega arith)) (λ b k r h q. search rules) (λ b k few below. search rules)
 
-pub loop-k-preserved : goal.loop-k-preserved
-loop-k-preserved c = let values = c.args.values.now in
-    (omega arith, c.min-sum.ensures ∙ capped_more (λ l. nat_abs (elem_z values l)) _ _ c.loop-k.invariant.1 (c.unsigned_abs.ensures.value ∙ ap nat_abs (held (elem_z values c.loop-k.k) c.unsigned_abs-arg-1.given)))
+pub returns : goal.returns
+returns c = let a = c.args in
+    let f : ℕ → ℕ = λ k. nat_abs (elem_z a.values.now k) in
+    fold_is a.count f a.cap (YieldsList-from_range 0 a.count a.count refl (omega arith)) (λ b k r h q. search rules) _ c.fold.ensures.ran

@@ -1,6 +1,7 @@
 -- `tables::check::placed_number` meets its contract, number by number.
-use mathlib.Core.Path.{sym, ◌∙◌}
+use mathlib.Core.Path.{sym, subst, ◌∙◌}
 use native.Mathlib.Omega.{arith}
+use Rattle.tables.specs.Check.{Placed}
 use Rattle.tables.specs.Lent.{lent_table}
 use Rattle.tables.proofs.Checks.{size_parts, order_placed}
 use Rattle.tables.proofs.check.placed_number.Goals as goal
@@ -8,11 +9,11 @@ use Rattle.tables.proofs.check.placed_number.Goals as goal
 pub bad_order-requires : goal.bad_order-requires
 bad_order-requires c = let l = c.requires.0 (size_parts _ _ _ _ _ (sym c.bad_size.ensures ∙ c.if-bad_size.false)).2 in (l.rows_there, l.cols_there)
 
-pub invariant_of-entries : goal.invariant_of-entries
-invariant_of-entries c = record { lent = c.requires.0 (size_parts _ _ _ _ _ (sym c.bad_size.ensures ∙ c.if-bad_size.false)).2 }
+pub entries-requires : goal.entries-requires
+entries-requires c = c.requires.0 (size_parts _ _ _ _ _ (sym c.bad_size.ensures ∙ c.if-bad_size.false)).2
 
 pub unmirrored-requires : goal.unmirrored-requires
 unmirrored-requires c = let p = c.requires in
     let s = size_parts _ _ _ _ _ (sym c.bad_size.ensures ∙ c.if-bad_size.false) in
     let a = c.args.table in
-    order_placed a.size (lent_table a) (omega (arith, s, p.1)) (sym c.bad_order.ensures ∙ c.if-bad_order.false)
+    subst (λ t. Placed t.row t.column t.count) (sym c.entries.ensures) (order_placed a.size (lent_table a) (omega (arith, s, p.1)) (sym c.bad_order.ensures ∙ c.if-bad_order.false))

@@ -3,5 +3,5 @@ use mathlib.Core.Path.{sym}
 use Rattle.tables.proofs.Checks.{table_accepted}
 use Rattle.tables.proofs.checked.checked_table.Goals as goal
 
-pub invariant_of-entries : goal.invariant_of-entries
-invariant_of-entries c = record { lent = c.requires c.if-short.false (table_accepted (sym c.in_ok-table_number.ensures)).entries }
+pub entries-requires : goal.entries-requires
+entries-requires c = c.requires c.if-short.false (table_accepted (sym c.in_ok-table_number.ensures)).entries

@@ -1,20 +1,20 @@
 -- `tables::objective::linear_cost` meets its contract.
-use Rattle.tables.proofs.Choices.{linear_held}
-use Rattle.laws.proofs.Sums.{turn_fits, turn_is}
-use Rattle.laws.specs.Lists.{elem_z}
-use Rattle.laws.specs.Sum as S
+use Rattle.std.proofs.Common.{◌∙◌, rules}
+use Rattle.std.proofs.lemmas.Iterator.{YieldsList-from_range, YieldsList-from_map}
 use native.Mathlib.Omega.{arith}
-use mathlib.Core.Path.{refl}
+use Rattle.laws.proofs.Integer.{held}
+use Rattle.laws.specs.Lists.{elem_z}
+use Rattle.tables.specs.Cost.{linear_term, choice_at}
+use Rattle.tables.proofs.Choices.{linear_held}
+use Rattle.tables.proofs.Added.{sum_fits, sum_is}
 use Rattle.tables.proofs.objective.linear_cost.Goals as goal
 
-pub loop-i-init : goal.loop-i-init
-unfolding S.sum
-loop-i-init c = (omega arith, refl)
+pub sum-requires-clause-fits : goal.sum-requires-clause-fits
+sum-requires-clause-fits c = let a = c.args in
+    let term = linear_term (elem_z a.c.now) (choice_at a.b.now) in
+    sum_fits a.n term (YieldsList-from_map _ term (YieldsList-from_range 0 a.n _ c.map.ensures.source (omega arith)) c.map.ensures.closure (λ x r q k. search rules)) (linear_held a.n (elem_z a.c.now) a.b.now c.requires.2)
 
-pub overflow_add-sum : goal.overflow_add-sum
-overflow_add-sum c = let a = c.args in
-    turn_fits (linear_held a.n (elem_z a.c.now) a.b.now c.requires.2) c.loop-i.i c.loop-i.sum-bits c.linear_term-sum.result c.loop-i-test.true c.loop-i.invariant.1 c.linear_term-sum.type_inv c.linear_term-sum.ensures
-
-pub loop-i-preserved : goal.loop-i-preserved
-loop-i-preserved c = let a = c.args in
-    (omega arith, turn_is (linear_held a.n (elem_z a.c.now) a.b.now c.requires.2) c.loop-i.i c.loop-i.sum-bits c.linear_term-sum.result c.loop-i-test.true c.loop-i.invariant.1 c.linear_term-sum.type_inv c.linear_term-sum.ensures)
+pub returns : goal.returns
+returns c = let a = c.args in
+    let term = linear_term (elem_z a.c.now) (choice_at a.b.now) in
+    held c.sum.result c.sum.type_inv ∙ sum_is a.n term (YieldsList-from_map _ term (YieldsList-from_range 0 a.n _ c.map.ensures.source (omega arith)) c.map.ensures.closure (λ x r q k. search rules)) _ c.sum.ensures.ran

@@ -1,20 +1,20 @@
 -- `tables::objective::obj_rounded` meets its contract.
-use Rattle.tables.proofs.Shares.{objective_held}
-use Rattle.laws.proofs.Sums.{turn_fits, turn_is}
-use Rattle.laws.specs.Sum as S
+use Rattle.std.proofs.Common.{◌∙◌, rules}
+use Rattle.std.proofs.lemmas.Iterator.{YieldsList-from_range, YieldsList-from_map}
 use native.Mathlib.Omega.{arith}
-use mathlib.Core.Path.{refl}
+use Rattle.laws.proofs.Integer.{held}
 use Rattle.tables.specs.Entries.{listed}
+use Rattle.tables.specs.Table.{objective_term, sign_at}
+use Rattle.tables.proofs.Shares.{objective_held}
+use Rattle.tables.proofs.Added.{sum_fits, sum_is}
 use Rattle.tables.proofs.objective.obj_rounded.Goals as goal
 
-pub loop-k-init : goal.loop-k-init
-unfolding S.sum
-loop-k-init c = (omega arith, refl)
+pub sum-requires-clause-fits : goal.sum-requires-clause-fits
+sum-requires-clause-fits c = let a = c.args in
+    let term = objective_term (listed a.table) (sign_at a.signs.now) in
+    sum_fits a.table.count term (YieldsList-from_map _ term (YieldsList-from_range 0 a.table.count _ c.map.ensures.source (omega arith)) c.map.ensures.closure (λ x r q k. search rules)) (objective_held (listed a.table) c.requires.1 a.signs.now)
 
-pub overflow_add-sum : goal.overflow_add-sum
-overflow_add-sum c = let a = c.args in
-    turn_fits (objective_held (listed a.table) c.requires.1 a.signs.now) c.loop-k.k c.loop-k.sum-bits c.objective_term-sum.result c.loop-k-test.true c.loop-k.invariant.1 c.objective_term-sum.type_inv c.objective_term-sum.ensures
-
-pub loop-k-preserved : goal.loop-k-preserved
-loop-k-preserved c = let a = c.args in
-    (omega arith, turn_is (objective_held (listed a.table) c.requires.1 a.signs.now) c.loop-k.k c.loop-k.sum-bits c.objective_term-sum.result c.loop-k-test.true c.loop-k.invariant.1 c.objective_term-sum.type_inv c.objective_term-sum.ensures)
+pub returns : goal.returns
+returns c = let a = c.args in
+    let term = objective_term (listed a.table) (sign_at a.signs.now) in
+    held c.sum.result c.sum.type_inv ∙ sum_is a.table.count term (YieldsList-from_map _ term (YieldsList-from_range 0 a.table.count _ c.map.ensures.source (omega arith)) c.map.ensures.closure (λ x r q k. search rules)) _ c.sum.ensures.ran

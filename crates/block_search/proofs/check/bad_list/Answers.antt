@@ -1,7 +1,0 @@
--- `block_search::check::bad_list` meets its contract. Assumes nothing.
-use Rattle.std.proofs.Common.{◌∙◌}
-use Rattle.block_search.proofs.Numbers.{list_judged}
-use Rattle.block_search.proofs.check.bad_list.Goals as goal
-
-pub returns : goal.returns
-returns c = c.is_err.ensures.value ∙ list_judged c.args.n c.args.list.now c.requires c.index_refusal.result c.index_refusal.ensures
