@@ -4,12 +4,13 @@
 
   tools/try_edits.py [--folder edits] [NAME..]      --folder more: those that the gate leaves out; of the crates named, else of all
 
-First the crates are proved as they stand (`rt all check`, or `rt check` in those named), over what earlier runs kept. Then `rt must-fail` tries the edits
-in a copy of the tree where they stand in crates/NAME/must-fail: each over what these checks proved, so that only what the edit touches is checked again.
-Here the other way round, a control that is `NOT REFUSED` is as it must be. Not as they must be are, beside edits that are still proved, those that are only refused
-because a proof file names what the edit took away, those that the prover only meets a limit of its own at, those that can't be applied or read (BAD EDIT), and
-those of which nothing is known (NOT TRIED). What rt says is in target/edits/FOLDER.log, for tools/check_edits.py. The last line counts; the exit status is 0
-where every edit is as it must be.
+They are tried in a copy of the tree where they stand in crates/NAME/must-fail. Of all crates by `rt ci`, which takes the crates that an earlier `rt ci`
+passed as proved, and keeps what it says of an edit for as long as the crate and those below it stay the same. Of crates that are named by `rt check`
+in each as it stands and then `rt must-fail`, each edit over what these checks proved.
+Here the other way round, a control that is `NOT REFUSED` is as it must be. Not as they must be are, beside edits that are still proved, those that are only
+refused because a proof file names what the edit took away, those that the prover only meets a limit of its own at, those that can't be applied or read (BAD
+EDIT), and those of which nothing is known (NOT TRIED). What rt says is in target/edits/FOLDER.log, for tools/check_edits.py. The last line counts; the exit
+status is 0 where every edit is as it must be.
 """
 import argparse
 import glob
@@ -36,19 +37,12 @@ def text_of(path):
         return file.read()
 
 
-def at_once():
-    """How many crates are proved side by side: one a processor, as many as 4 GB each hold."""
-    free = int(re.search(r"MemAvailable:\s+(\d+)", text_of("/proc/meminfo"))[1]) >> 20
-    return max(1, min(len(os.sched_getaffinity(0)), free // 4))
-
-
 def unproved(names):
     """What is wrong with the crates as they stand, or nothing."""
     log = os.path.join(TOP, "target", "log", "unedited.txt")
-    runs = [(os.path.join(TOP, "crates", name), ["rt", "check"]) for name in names] or [(TOP, ["rt", "all", "check", "--jobs", str(at_once())])]
-    for folder, words in runs:
-        if logged(log, words, folder):
-            return f"{os.path.basename(folder) if names else 'the crates'}: unedited not proved:\n{text_of(log)[-1500:]}"
+    for name in names:
+        if logged(log, ["rt", "check"], os.path.join(TOP, "crates", name)):
+            return f"{name}: unedited not proved:\n{text_of(log)[-1500:]}"
     return None
 
 
@@ -83,12 +77,12 @@ def main():
     names = sorted({name for name, _ in found})
     if not found:
         sys.exit(f"there are no edits in crates/*/{given.folder} of {' '.join(given.names) or 'any crate'}")
-    wrong = unproved(names if given.names else [])
+    wrong = unproved(names) if given.names else None
     if wrong:
         sys.exit(wrong)
     log = os.path.join(TOP, "target", "edits", f"{given.folder}.log")
     with tempfile.TemporaryDirectory(prefix="edits-") as base:
-        logged(log, ["rt", "must-fail", *names], copied(base, found))
+        logged(log, ["rt", "must-fail", *names] if given.names else ["rt", "ci"], copied(base, found))
     said = text_of(log)
     of, good = verdicts(said), 0
     for (name, label), edit in found.items():

@@ -10,7 +10,7 @@ use mathlib.Core.List.{List, [], ◌∷◌, ◌++◌, append_assoc}
 use native.Mathlib.Omega.{arith}
 use native.Mathlib.Nat.{not-suc-le-zero, zero-add}
 use native.Mathlib.Numerals.{add-one}
-use lib.ListN.{length, get_or, set, take, drop, length-set, length-append, length-take, length-drop}
+use lib.ListN.{length, get_or, set, take, drop, length-set, length-append}
 use lib.Seq.{length-take-le, take-set-le, drop-set-lt, drop-cons, get_or-set_same, append_snoc, take_at, drop_at, drop-drop, paste-zero, take-suc}
 use Rattle.std.proofs.lemmas.List.{flat_map_more}
 use Rattle.std.proofs.lemmas.List.Folds.{length-flat_map-take}
@@ -18,10 +18,6 @@ use Rattle.laws.specs.Lists.{over}
 use Rattle.job_reader.specs.Encode.{bytes_of}
 use Rattle.job_reader.proofs.Encode.{length_bytes_of}
 use Rattle.answer_record.specs.Put.{put, bytes_in}
-
-pub length_put : (l : List ℕ) (at : ℕ) (xs : List ℕ) → at + length xs ≤ length l → length (put l at xs) ≡ length l
-unfolding put
-length_put l at xs h = simp (length-append, length-take, length-drop) (omega arith)
 
 module _ (l : List ℕ) {m r : List ℕ} (at next : ℕ) (xs ys : List ℕ) where
   pub put_next : m ≡ put l at xs → r ≡ put m next ys → at ≤ length l → at + length xs ≡ next → r ≡ put l at (xs ++ ys)
@@ -31,13 +27,11 @@ module _ (l : List ℕ) {m r : List ℕ} (at next : ℕ) (xs ys : List ℕ) wher
       let rest : List ℕ = drop (at + length xs) l in
       let first : take next m ≡ take at l ++ xs = ap (take next) e ∙ take_at (take at l ++ xs) rest next front in
       let past : drop next m ≡ rest = ap (drop next) e ∙ drop_at (take at l ++ xs) rest next front in
+      let total : at + length xs + length ys ≡ at + length (xs ++ ys) = omega (arith, length-append xs ys) in
       let later : drop (next + length ys) m ≡ drop (at + length (xs ++ ys)) l =
       sym (drop-drop (length ys) next m) ∙ ap (drop (length ys)) past ∙ drop-drop (length ys) (at + length xs) l
-      ∙ ap (λ (k : ℕ). drop k l) (sums at (length xs) (length ys) (length (xs ++ ys)) (length-append xs ys)) in
+      ∙ ap (λ (k : ℕ). drop k l) total in
       f ∙ rw (first, later) (ap (λ (r : List ℕ). r ++ drop (at + length (xs ++ ys)) l) (append_assoc (take at l) xs ys))
-    where
-      sums : (a b c d : ℕ) → d ≡ b + c → a + b + c ≡ a + d
-      sums a b c d e = omega arith
 
 pub put_front : (l : List ℕ) {r : List ℕ} (xs : List ℕ) → r ≡ put l 0 xs → r ≡ over xs l
 unfolding put
@@ -56,10 +50,7 @@ stored_turn s at v (suc n) h = let e : suc n - 1 ≡ n = omega arith in rw e
 
 pub put_written : (n : ℕ) (s : List ℕ) (at v : ℕ) → at + n ≤ length s → stored s at v n ≡ put s at (bytes_of n v)
 unfolding stored put bytes_of
-put_written zero s at v h = none s at
-  where
-    none : (s : List ℕ) (at : ℕ) → s ≡ take at s ++ [] ++ drop (at + 0) s
-    none s at = paste-zero s at []
+put_written zero s at v h = paste-zero s at []
 put_written (suc n) s at v h =
     let low = v % 256 in
     let rest : List ℕ = set s (at + n) low in

@@ -15,14 +15,13 @@ use mathlib.Core.List.{List, [], ◌∷◌}
 use mathlib.Core.Logic.{◌⊎◌, inl, inr}
 use mathlib.Core.Path.{◌≡◌, refl, sym, ap, ◌∙◌, subst₂}
 use lib.Dec.{eqb}
-use lib.IntN.{ℤ, pos, neg_ℤ, ◌+ℤ◌, ◌-ℤ◌}
+use lib.IntN.{ℤ, pos, ◌+ℤ◌, ◌-ℤ◌}
 use lib.ListN.{length, length-append, get_or-append, get_or-eq_default}
 use lib.Seq.{get_or_at}
 use lib.Signed.{◌≤ℤ◌}
 use Rattle.laws.specs.Lists.{elem}
-use Rattle.laws.proofs.Any.{never}
 use Rattle.laws.proofs.Made.{length_tabulate, get_d_tabulate, below_or_not}
-use Rattle.laws.proofs.Integer.{integers, add_parts, neg-⁺, neg-⁻}
+use Rattle.std.proofs.lemmas.Int.{ints}
 use Rattle.tables.specs.Table.{Table, value_at, same_sign}
 use Rattle.tables.specs.Cost.{bit, choice_at, cost_eighths, decoded_byte, decoded}
 use Rattle.tables.specs.Check.{Hall}
@@ -63,7 +62,7 @@ plus_anchor (suc x) = refl
 -- ---- whole numbers
 
 fall_low : (a b : ℤ) → a ≤ℤ b → pos 0 ≤ℤ (b -ℤ a)
-fall_low a b h = omega (integers, add_parts b (neg_ℤ a), neg-⁺ a, neg-⁻ a)
+fall_low a b h = omega (arith, ints)
 
 -- ---- the signs that the search starts from
 
@@ -198,7 +197,7 @@ module _ {most capacity limit n : ℕ} {h : Table} {c : ℕ → ℤ} (hall : Hal
     unfolding answer_held held_table
     held_one =
         let (k, l, q) = (free_map n states).has d.wagon d.is_one free in
-        beside b' (record { same = λ i a e. sym (d.others i a (λ s. never (sym e ∙ ap (is_free states) s ∙ free))) ∙ ap bit (held_stays i a e) })
+        beside b' (record { same = λ i a e. sym (d.others i a (λ s. cc)) ∙ ap bit (held_stays i a e) })
         (subst₂ ◌≤ℤ◌ refl (cost_ext f (value_at H') c' (moved k l q)) (one_wagon reduced W (held_signs n states b) some (start_long n states b) k l))
 
   -- none that differs in all of them and in no other does

@@ -13,7 +13,7 @@ use lib.ListN.{length, take}
 use lib.Seq.{length-take-le, get_or-take}
 use Rattle.std.specs.List.{list_any}
 use Rattle.laws.specs.Lists.{elem, any_below}
-use Rattle.laws.proofs.Any.{never, below_at, below_none, below_true}
+use Rattle.laws.proofs.Any.{below_at, below_none, below_true}
 use Rattle.tables.specs.Cost.{choice_at}
 use Rattle.tables.proofs.Anys.{any_front, any_ext}
 use Rattle.block_search.specs.Blocks.{BlockCall, named}
@@ -46,6 +46,6 @@ pub differ_house : (q : BlockCall) (b b' : List ℕ)
     → ((i : ℕ) → i < q.n → ((k : ℕ) → k < length q.pinned → elem q.pinned k ≡ i → ⊥) → choice_at b i ≡ choice_at b' i → ⊥)
     → ((k : ℕ) → k < length q.pinned → choice_at b (elem q.pinned k) ≡ choice_at b' (elem q.pinned k)) → DifferInHouse q b b'
 differ_house q b b' d s = record {
-  differ = λ i l e. d i l (λ k a w. never (sym e ∙ is_named q.pinned i k a w));
+  differ = λ i l e. d i l (λ k a w. cc (is_named q.pinned i k a w));
   stay = λ i l e. let (k, a, w) = named_at q.pinned i e in rw (← w) (s k a);
 }

@@ -1,7 +1,8 @@
 -- What the functions of one search leave, put together. Assumes nothing.
-use Prim.Native.Nat.{ℕ, zero, suc, ◌+◌, ◌≤◌, ◌<◌}
+use Prim.Native.Nat.{ℕ, suc, ◌+◌, ◌≤◌}
 use native.Mathlib.Numerals.{add-one}
 use native.Mathlib.Omega.{arith}
+use Rattle.std.proofs.lemmas.List.{places}
 use mathlib.Core.List.{List, [], ◌∷◌, ◌++◌}
 use mathlib.Core.Path.{◌≡◌, refl, sym, ap, ap₂, subst, ◌∙◌}
 use mir.Syntax.{w64}
@@ -12,7 +13,8 @@ use lib.ListN.{length, take, set, length-append}
 use lib.Seq.{take_at, length-take-le}
 use Rattle.laws.specs.Lists.{elem, elem_z, over, fill, tabulate}
 use Rattle.laws.proofs.Made.{length_tabulate, over_next, over_all}
-use Rattle.laws.proofs.Integer.{abs_add, abs_neg, fits_abs}
+use Rattle.std.proofs.lemmas.Int.{fits_signed_from_abs}
+use Rattle.laws.proofs.Integer.{abs_add, abs_neg}
 use Rattle.limits.specs.Limits.{most_wagons, most_entries, most_magnitude, most_signs, most_sign_entries, most_sign_magnitude}
 use Rattle.tables.specs.Table.{Table, table_of, Lent, InRange, objective_of, sign_at}
 use Rattle.tables.specs.Check.{Hall, Accepted}
@@ -53,22 +55,16 @@ pub start_size : (free b : List ℕ) → length (start_signs free b) ≡ suc (le
 unfolding start_signs
 start_size free b = length-append (tabulate (λ k. elem b (elem free k)) (length free)) (0 ∷ []) ∙ ap (λ i. i + 1) (length_tabulate (λ k. elem b (elem free k)) (length free)) ∙ add-one (length free)
 
-plus_low : (xs : List ℕ) (i : ℕ) → ((j : ℕ) → elem xs j < 2) → elem (xs ++ (0 ∷ [])) i < 2
-plus_low [] zero h = omega arith
-plus_low [] (suc i) h = omega arith
-plus_low (x ∷ xs) zero h = h 0
-plus_low (x ∷ xs) (suc i) h = plus_low xs i (λ j. h (suc j))
-
 pub start_binary : (free : List ℕ) {b : List ℕ} → Low b → Binary (start_signs free b)
 unfolding start_signs
 start_binary free {b} low =
-    record { small = λ i. plus_low (tabulate (λ k. elem b (elem free k)) (length free)) i (tabulate_binary (λ k. elem b (elem free k)) (length free) (λ k. omega (arith, low.low (elem free k)))).small }
+    record { small = λ i. grind (arith, places, (tabulate_binary (λ k. elem b (elem free k)) (length free) (λ k. omega (arith, low.low (elem free k)))).small) }
 
 -- ---- the search on a sign table
 
 pub differ_fits : {m : ℕ} {t : Table} → Accepted most_signs most_sign_entries most_sign_magnitude m t → (x y : List ℕ) {a b : ℤ} → a ≡ objective_in t x → b ≡ objective_in t y → SFits w64 (a -ℤ b)
 differ_fits {t = t} ok x y p q =
-    rw (p, q) (fits_abs (objective_in t x -ℤ objective_in t y)
+    rw (p, q) (fits_signed_from_abs w64 (objective_in t x -ℤ objective_in t y)
     (omega (arith, abs_add (objective_in t x) (neg_ℤ (objective_in t y)), abs_neg (objective_in t y), objective_abs (accepted_mirrors ok) ok.magnitude x, objective_abs (accepted_mirrors ok) ok.magnitude y)))
 
 pub range_at : {m len : ℕ} {t : Table} → len ≡ m → InRange m t → InRange len t

@@ -2,14 +2,12 @@
 --     clearing      what an accepted call promises (`Cleared`)
 -- Assumes nothing.
 use Prim.Native.Nat.{ℕ, zero, suc, ◌+◌, ◌-◌, ◌≤◌, ◌<◌}
-use native.Mathlib.Nat.{le_refl}
 use native.Mathlib.Numerals.{add-one}
 use native.Mathlib.Omega.{arith}
 use mathlib.Core.Bool.{Bool, true, false, cond}
 use mathlib.Core.List.{List, [], ◌∷◌}
-use mathlib.Core.Logic.{◌⊎◌, inl, inr}
 use mathlib.Core.Path.{◌≡◌, refl, sym, ap, subst, ◌∙◌}
-use lib.IntN.{ℤ, pos, neg_ℤ, ◌-ℤ◌}
+use lib.IntN.{ℤ, pos, ◌-ℤ◌}
 use lib.ListN.{length, take, drop}
 use lib.Seq.{length-take-le, get_or-take}
 use lib.Signed.{◌≤ℤ◌}
@@ -18,11 +16,11 @@ use Rattle.std.proofs.lemmas.List.Sums.{sum_by-cons}
 use Rattle.laws.specs.Sum.{total}
 use Rattle.laws.specs.Turns.{up_to}
 use Rattle.laws.specs.Lists.{elem, tabulate, over}
-use Rattle.laws.proofs.Made.{below_or_not, tabulate_get_d, length_tabulate, over_all}
-use Rattle.laws.proofs.Any.{never}
+use Rattle.laws.proofs.Made.{tabulate_get_d, length_tabulate, over_all}
+use Rattle.laws.proofs.Sums.{total_le}
 use Rattle.laws.proofs.Totals.{total_front}
 use Rattle.laws.proofs.UpTo.{up_to_next}
-use Rattle.laws.proofs.Integer.{integers, add_parts, neg-⁺, neg-⁻}
+use Rattle.std.proofs.lemmas.Int.{ints}
 use Rattle.tables.specs.Table.{Table}
 use Rattle.tables.specs.Check.{Hall}
 use Rattle.reduced.specs.Indices.{put_each, Once}
@@ -38,12 +36,7 @@ use Rattle.block_search.proofs.Held.{low_beyond, fall_is, fall_up, stays, one_be
 
 pub block_ends : (f : ℕ → ℕ) (k n : ℕ) → k < n → total k f + f k ≤ total n f
 unfolding total
-block_ends f k zero h = absurd (omega arith)
-block_ends f k (suc n) h = go (below_or_not k n) (λ l. block_ends f k n l)
-  where
-    go : (k < n) ⊎ (n ≤ k) → (k < n → total k f + f k ≤ total n f) → total k f + f k ≤ total n f + f n
-    go (inl l) ih = omega (arith, ih l)
-    go (inr l) ih = let e : k ≡ n = omega arith in rw e (le_refl _)
+block_ends f k n h = total_le n (suc k) f h
 
 -- all sizes in one sum
 pub sizes_summed : (sizes : List ℕ) → sum_by (λ x. x) sizes ≡ total (length sizes) (elem sizes)
@@ -87,9 +80,6 @@ module _ (n : ℕ) (h : Table) (c : ℕ → ℤ) (W : ℕ) (moves : ℕ → ℕ 
     pub blocks_low : (k : ℕ) → Low (choice_from n h c W moves b₀ k)
     blocks_low k = (after k).0
 
-    pub blocks_long : (k : ℕ) → length (choice_from n h c W moves b₀ k) ≡ n
-    blocks_long k = (after k).1
-
     pub block_fall_lem : (k : ℕ) → fall_from n h c W (moves k) (choice_from n h c W moves b₀ k) ≡ block_fall n h c W moves b₀ k
     unfolding block_fall
     block_fall_lem k = refl
@@ -129,7 +119,7 @@ module _ (n : ℕ) (pinned stores present : List ℕ) (fits : PinsFit n pinned s
   present_kept i h e = go (stands i h)
     where
       go : {y : ℕ} → Last (elem pinned) (elem stores) (length pinned) i (elem present i) y → y ≡ elem present i
-      go (found j l q rest) = never (sym e ∙ is_named pinned i j l q)
+      go (found j l q rest) = cc (is_named pinned i j l q)
       go (none away) = refl
 
 -- the code: the first bytes copied, and the stores put over them
@@ -143,20 +133,8 @@ first_made n pinned stores present b long s e g =
 -- ---- the theorem
 
 -- a wagon that moves isn't pinned; of the house, one that doesn't is
-unpinned : (t : Bool) → cond t false true ≡ true → t ≡ false
-unpinned true e = sym e
-unpinned false e = refl
-
-pinned_too : (t : Bool) → cond t false true ≡ false → t ≡ true
-pinned_too true e = refl
-pinned_too false e = sym e
-
-unasked : (t : Bool) {a : Bool} → a ≡ false → cond t false a ≡ false
-unasked true e = refl
-unasked false e = e
-
 fallen : (a b f : ℤ) → a -ℤ b ≡ f → pos 0 ≤ℤ f → b ≤ℤ a
-fallen a b f e h = let g : pos 0 ≤ℤ (a -ℤ b) = rw e h in omega (integers, add_parts a (neg_ℤ b), neg-⁺ b, neg-⁻ b)
+fallen a b f e h = omega (arith, ints)
 
 abbrev moved : BlockCall → ℕ → ℕ → Bool
 moved q = block_moves q.pinned q.sizes q.wagons
@@ -209,7 +187,7 @@ module _ {most capacity limit : ℕ} (q : BlockCall) (hall : Hall most capacity 
     in_turn = λ k l. sym (next k);
     falls_are = λ k l. falls k;
     falls_up = λ k l. rw (← (fall k)) (fall_up q.n (moved q k) (choice_after q k) (low k) hall q.width some);
-    others_stay = λ k i l a e. stay k i a (unasked (named q.pinned i) e);
+    others_stay = λ k i l a e. stay k i a (grind arith);
     keeps = kept;
     keeps_last = λ j l. stays q.n (house_moves q) (choice_after q end) (low end) hall q.width some (elem q.pinned j) (pin_there j l)
         (ap (λ (t : Bool). cond t false true) (pin_named j l)) ∙ kept end j l;
@@ -217,7 +195,7 @@ module _ {most capacity limit : ℕ} (q : BlockCall) (hall : Hall most capacity 
         (fall_up q.n (house_moves q) (choice_after q end) (low end) hall q.width some);
     one_wagon = λ b' d e. one_better q.n (house_moves q) (choice_after q end) (low end) hall q.width some b' d (ap (λ (t : Bool). cond t false true) e);
     all_wagons = λ b' d. all_better q.n (house_moves q) (choice_after q end) (low end) hall q.width some b'
-        (λ i l e. d.differ i l (unpinned (named q.pinned i) e)) (λ i l e. d.stay i l (pinned_too (named q.pinned i) e));
+        (λ i l e. d.differ i l (grind arith)) (λ i l e. d.stay i l (grind arith));
     as_before = apart_same q;
     long = long_after q.n (house_moves q) (choice_after q end) (low end) hall q.width some;
     bytes = (low_after q.n (house_moves q) (choice_after q end) (low end) hall q.width some).low;

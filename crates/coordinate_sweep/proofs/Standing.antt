@@ -54,10 +54,7 @@ module _ (cols : List ℕ) (values : List Float) (starts : List ℕ) (rank : ℕ
       let s : i + 2 ≡ i + 1 + 1 = omega arith in
       let first = standing_one factor i xs e in
       let second = standing_one factor (i + 1) _ (sweep_one cols values starts rank beta factor i xs _ e refl) in
-      rw s (second ∙ sum _ _ _ _ first)
-    where
-      sum : (a b x y : ℕ) → a ≡ b + x → a + y ≡ b + (x + y)
-      sum a b x y h = omega arith
+      rw s (omega (arith, first, second))
 
   -- as many as there are at most
   pub standing_few : (factor : List Float) (i : ℕ) → standing_to cols values starts rank beta factor i ≤ i

@@ -91,11 +91,7 @@ module _ {A : Type 0} (rank : ℕ) where
 
       go : (k < i) ⊎ (i ≤ k) → get_or (set_row rank xs i u) (k * rank + j) d ≡ get_or xs (k * rank + j) d
       go (inl b) = get_d_before i xs u (k * rank + j) d (omega arith) (omega (arith, row_within k i rank b))
-      go (inr b) = behind (later (below_or_not i k))
-        where
-          later : (i < k) ⊎ (k ≤ i) → i < k
-          later (inl c) = c
-          later (inr c) = absurd (h (omega arith))
+      go (inr b) = behind (omega arith)
 
 pub first_within : (i rank n : ℕ) → (i + 1) * rank + rank ≤ n → i * rank + rank ≤ n
 first_within i rank n h = let s : (i + 1) * rank ≡ i * rank + rank = rw add-one (suc-mul i rank) in omega arith

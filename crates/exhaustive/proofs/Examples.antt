@@ -10,7 +10,7 @@ use Rattle.tables.specs.Table.{Table, table_of, value_at}
 use Rattle.tables.specs.Cost.{cost_eighths}
 use Rattle.tables.specs.Check.{before, bad_size, bad_entry, bad_order, unmirrored, hall_number, short_table}
 use Rattle.rounding.specs.Rounding.{first_least}
-use Rattle.exhaustive.specs.Choices.{digit, digits_of, walk_cost, least_number}
+use Rattle.exhaustive.specs.Choices.{digits_of, walk_cost, least_number}
 use Rattle.exhaustive.specs.Contract.{walk_short, walk_number}
 
 -- one entry, at (0, 0)
@@ -31,5 +31,5 @@ abbrev third_c : ℕ → ℤ
 third_c = elem_z (negsuc 0 ∷ negsuc 0 ∷ [])
 
 pub third_hall : (least_number 2 third third_c ≡ 1) × (digits_of 2 (least_number 2 third third_c) ≡ (1 ∷ 0 ∷ [])) × (walk_cost 2 third third_c (least_number 2 third third_c) ≡ negsuc 7)
-unfolding least_number walk_cost digit first_least cost_eighths value_at sum sum₂ tabulate
+unfolding least_number walk_cost first_least cost_eighths value_at sum sum₂ tabulate
 third_hall = (refl, refl, refl)

@@ -19,7 +19,8 @@ use Rattle.tables.proofs.Choices.{cost_ext}
 use Rattle.sign_table.proofs.Theorems.{floor_le_choice}
 use Rattle.float_bound.proofs.Theorem.{bound_below_cost}
 use Rattle.rounding.proofs.Least.{least_within, least_least, least_first}
-use Rattle.exhaustive.specs.Choices.{digit, digits_of, cost_of, walk_cost, least_number}
+use Rattle.std.specs.Int.{bit_at}
+use Rattle.exhaustive.specs.Choices.{digits_of, cost_of, walk_cost, least_number}
 use Rattle.exhaustive.specs.Contract.{Found}
 use Rattle.exhaustive.specs.declared.Least.{Least}
 use Rattle.exhaustive.proofs.Digits.{number_of}
@@ -45,7 +46,7 @@ module _ (n : ℕ) (h : Table) (c : ℕ → ℤ) where
   -- the bytes lent out cost what choice k costs
   pub over_cost : (k : ℕ) (b : List ℕ) → cost_of n h c (over (digits_of n k) b) ≡ walk_cost n h c k
   unfolding walk_cost
-  over_cost k b = cost_ext n (value_at h) c (λ i l. ap bit (get_or-append (digits_of n k) (drop (length (digits_of n k)) b) 0 i (rw (length_tabulate (digit k) n) l)))
+  over_cost k b = cost_ext n (value_at h) c (λ i l. ap bit (get_or-append (digits_of n k) (drop (length (digits_of n k)) b) 0 i (rw (length_tabulate (bit_at k) n) l)))
 
 -- the whole
 pub found : {n : ℕ} {h : Table} (c : List ℤ) {b b' : List ℕ} {x : Least} → Hall most_wagons most_entries most_magnitude n h (elem_z c)

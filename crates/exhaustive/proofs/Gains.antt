@@ -11,7 +11,8 @@ use borrow.Author.Tests.{eq-eqb, ne_eqb}
 use lib.Dec.{eqb}
 use lib.IntN.{ℤ, pos, nat_abs, ◌+ℤ◌, ◌*ℤ◌, *ℤ_comm, *ℤ-zero, zero-*ℤ, +ℤ_idr}
 use Rattle.laws.specs.Sum.{sum, sum₂, total, only}
-use Rattle.laws.proofs.Integer.{parts, differences, ring, abs_add, abs_mul, times_one}
+use Rattle.std.proofs.lemmas.Int.{unsigned_abs-mul}
+use Rattle.laws.proofs.Integer.{parts, differences, ring, abs_add, times_one}
 use Rattle.laws.proofs.Sums.{sum_ext, sum_add, sum_zero, sum_only, sum_bounded, sum₂_ext, sum₂_add, sum₂_swap, sum₂_zero}
 use Rattle.limits.specs.Limits.{most_magnitude, most_sign_magnitude}
 use Rattle.tables.specs.Table.{Table, Symmetric, InRange, magnitude_of, value_at}
@@ -19,8 +20,10 @@ use Rattle.tables.specs.Cost.{cost_eighths, cost_term, linear_term, bit, choice_
 use Rattle.tables.specs.Check.{hall_magnitude}
 use Rattle.tables.proofs.Flips.{one_row, expanded}
 use Rattle.tables.proofs.Choices.{cost_ext, cost_entries, cost_abs, linear_abs}
-use Rattle.exhaustive.specs.Choices.{digit, digits_of, walk_cost}
-use Rattle.exhaustive.proofs.Digits.{clear, raised, digit_clear, digit_set, digit_other, digit_none, at_digit}
+use Rattle.std.specs.Int.{bit_at}
+use Rattle.std.proofs.lemmas.Nat.Bits.{bit_at-zero}
+use Rattle.exhaustive.specs.Choices.{digits_of, walk_cost}
+use Rattle.exhaustive.proofs.Digits.{clear, raised, digit_clear, digit_set, digit_other, at_digit}
 
 only_times : (a b : ℕ) (q w : ℤ) → q *ℤ (only a b (pos 1) *ℤ w) ≡ only a b (q *ℤ w)
 only_times a b q w = go (eqb a b)
@@ -106,35 +109,35 @@ module _ (n : ℕ) (H : ℕ → ℕ → ℤ) (c : ℕ → ℤ) where
 
 -- ---- of the choices by number
 
-digit_step : (q j i : ℕ) → bit (digit (raised q j) i) ≡ bit (digit (clear q j) i) +ℤ only j i (pos 1)
+digit_step : (q j i : ℕ) → bit (bit_at (raised q j) i) ≡ bit (bit_at (clear q j) i) +ℤ only j i (pos 1)
 digit_step q j i = go (ℕ_discrete j i)
   where
-    go : Dec (j ≡ i) → bit (digit (raised q j) i) ≡ bit (digit (clear q j) i) +ℤ only j i (pos 1)
+    go : Dec (j ≡ i) → bit (bit_at (raised q j) i) ≡ bit (bit_at (clear q j) i) +ℤ only j i (pos 1)
     go (yes e) = rw (eq-eqb j i e, ← e, digit_set q j, digit_clear q j)
-    go (no d) = rw (ne_eqb j i d, digit_other q j i d) (sym (+ℤ_idr (bit (digit (clear q j) i))))
+    go (no d) = rw (ne_eqb j i d, digit_other q j i d) (sym (+ℤ_idr (bit (bit_at (clear q j) i))))
 
 module _ (n : ℕ) (h : Table) (c : ℕ → ℤ) where
   -- what setting digit j adds to choice k
   abbrev pub gain_of : ℕ → ℕ → ℤ
-  gain_of j k = gain n (value_at h) c (λ i. bit (digit k i)) j
+  gain_of j k = gain n (value_at h) c (λ i. bit (bit_at k i)) j
 
-  walk_cost_lem : (k : ℕ) → walk_cost n h c k ≡ cost_eighths n (value_at h) c (λ i. bit (digit k i))
+  walk_cost_lem : (k : ℕ) → walk_cost n h c k ≡ cost_eighths n (value_at h) c (λ i. bit (bit_at k i))
   unfolding walk_cost
   walk_cost_lem k = cost_ext n (value_at h) c (λ i l. at_digit n k i l)
 
   pub zero_cost : walk_cost n h c 0 ≡ pos 0
-  zero_cost = walk_cost_lem 0 ∙ no_cost n (value_at h) c (λ i. bit (digit 0 i)) (λ i l. ap bit (digit_none i))
+  zero_cost = walk_cost_lem 0 ∙ no_cost n (value_at h) c (λ i. bit (bit_at 0 i)) (λ i l. ap bit (bit_at-zero i))
 
   pub zero_gain : (j : ℕ) → gain_of j 0 ≡ pos 4 *ℤ value_at h j j +ℤ pos 8 *ℤ c j
-  zero_gain j = no_gain n (value_at h) c (λ i. bit (digit 0 i)) (λ i l. ap bit (digit_none i)) j
+  zero_gain j = no_gain n (value_at h) c (λ i. bit (bit_at 0 i)) (λ i l. ap bit (bit_at-zero i)) j
 
   pub digit_shifts : (i j q : ℕ) → j < n → gain_of i (raised q j) ≡ gain_of i (clear q j) +ℤ pos 8 *ℤ value_at h i j
-  digit_shifts i j q l = set_gain n (value_at h) c (λ a. bit (digit (clear q j) a)) (λ a. bit (digit (raised q j) a)) j l (λ a m. digit_step q j a) i
+  digit_shifts i j q l = set_gain n (value_at h) c (λ a. bit (bit_at (clear q j) a)) (λ a. bit (bit_at (raised q j) a)) j l (λ a m. digit_step q j a) i
 
   pub digit_grows : (j q : ℕ) → j < n → Symmetric n (value_at h) → walk_cost n h c (raised q j) ≡ walk_cost n h c (clear q j) +ℤ gain_of j (clear q j)
   digit_grows j q l sy =
       walk_cost_lem (raised q j)
-      ∙ set_cost n (value_at h) c (λ a. bit (digit (clear q j) a)) (λ a. bit (digit (raised q j) a)) j l (λ a m. digit_step q j a) sy
+      ∙ set_cost n (value_at h) c (λ a. bit (bit_at (clear q j) a)) (λ a. bit (bit_at (raised q j) a)) j l (λ a m. digit_step q j a) sy
       ∙ ap (λ z. z +ℤ gain_of j (clear q j)) (sym (walk_cost_lem (clear q j)))
 
   pub cost_small : InRange n h → hall_magnitude n h c ≤ most_magnitude → (k : ℕ) → nat_abs (walk_cost n h c k) ≤ most_sign_magnitude
@@ -145,15 +148,10 @@ module _ (n : ℕ) (h : Table) (c : ℕ → ℤ) where
       (magnitude_of h) (total n (λ i. nat_abs (c i))) (cost_abs h (digits_of n k)) (linear_abs n c (digits_of n k)) small)
     where
       both : (q l : ℤ) (a b : ℕ) → nat_abs q ≤ a → nat_abs l ≤ b → a + 2 * b ≤ most_magnitude → nat_abs (pos 4 *ℤ q +ℤ pos 8 *ℤ l) ≤ most_sign_magnitude
-      both q l a b x y z = omega (arith, abs_add (pos 4 *ℤ q) (pos 8 *ℤ l), abs_mul (pos 4) q, abs_mul (pos 8) l)
+      both q l a b x y z = omega (arith, abs_add (pos 4 *ℤ q) (pos 8 *ℤ l), unsigned_abs-mul (pos 4) q, unsigned_abs-mul (pos 8) l)
 
 -- a value of the table is at most the magnitude
 pub value_small : (h : Table) (i j : ℕ) → nat_abs (value_at h i j) ≤ magnitude_of h
 unfolding value_at
 value_small h i j =
-    omega (arith, sum_bounded 1 h.count h.count (λ k. only (h.row k) i (only (h.column k) j (h.value k))) (λ k. nat_abs (h.value k)) (λ k. at_most (eqb (h.row k) i) (eqb (h.column k) j) (h.value k)) (omega arith))
-  where
-    at_most : (s t : Bool) (v : ℤ) → nat_abs (cond s (cond t v (pos 0)) (pos 0)) ≤ 1 * nat_abs v
-    at_most true true v = omega arith
-    at_most true false v = omega arith
-    at_most false t v = omega arith
+    omega (arith, sum_bounded 1 h.count h.count (λ k. only (h.row k) i (only (h.column k) j (h.value k))) (λ k. nat_abs (h.value k)) (λ k. grind arith) (omega arith))

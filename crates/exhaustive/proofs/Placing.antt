@@ -1,21 +1,20 @@
 -- The table laid out, entry by entry.
 -- Assumes nothing.
-use mathlib.Core.Path.{◌≡◌, refl, sym, ap, ap₂, ◌∙◌}
-use mathlib.Core.Bool.{Bool, true, false, cond}
+use mathlib.Core.Path.{◌≡◌, sym, ap, ap₂, ◌∙◌}
 use mathlib.Core.List.{List}
 use Prim.Native.Nat.{ℕ, ◌+◌, ◌*◌, ◌<◌, ◌≤◌}
 use native.Mathlib.Decide.{ℕ_discrete}
 use native.Mathlib.Omega.{arith}
 use borrow.Author.Tests.{eq-eqb, ne_eqb}
-use lib.Dec.{eqb}
 use lib.IntN.{ℤ, pos, nat_abs, ◌+ℤ◌, +ℤ_idr}
 use lib.ListN.{length, set, replicate, length-set, length-replicate, get_or-replicate}
 use lib.Seq.{get_or-set_same, get_or-set_other}
+use Rattle.std.proofs.lemmas.Nat.{same_from_place}
 use mir.Syntax.{w64}
 use mir.Val.{SFits}
 use Rattle.laws.specs.Sum.{sum, only}
 use Rattle.laws.specs.Lists.{elem, elem_z}
-use Rattle.laws.proofs.Integer.{fits_abs}
+use Rattle.std.proofs.lemmas.Int.{fits_signed_from_abs}
 use Rattle.laws.proofs.Sums.{sum_bounded, sum_more}
 use Rattle.limits.specs.Limits.{most_magnitude}
 use Rattle.tables.specs.Table.{Table, table_of, magnitude_of, value_at}
@@ -38,9 +37,6 @@ none_laid rows cols values grid e = record {
 }
 
 -- one entry more
-place : (i j a b : ℕ) → j < 16 → b < 16 → i * 16 + j ≡ a * 16 + b → (i ≡ a) × (j ≡ b)
-place i j a b l m e = omega arith
-
 module _ (rows cols : List ℕ) (values : List ℤ) (k : ℕ) (grid : List ℤ) (p : Laid rows cols values k grid) (a b : ℕ) (v : ℤ)
     (row : a ≡ elem rows k) (column : b ≡ elem cols k) (value : v ≡ elem_z values k) (low : a < 16) (left : b < 16) where
   pub next_laid : Laid rows cols values (k + 1) (set grid (a * 16 + b) (elem_z grid (a * 16 + b) +ℤ v))
@@ -66,25 +62,16 @@ module _ (rows cols : List ℕ) (values : List ℤ) (k : ℕ) (grid : List ℤ) 
           ∙ ap₂ ◌+ℤ◌ (ap₂ (λ (x y : ℕ). elem_z grid (x * 16 + y)) (sym e) (sym f) ∙ p.at i j l m)
           (rw (eq-eqb (elem rows k) i (sym row ∙ sym e), eq-eqb (elem cols k) j (sym column ∙ sym f)) value)
       go i j l m (yes e) (no f) =
-          other i j l m (λ q. f (place i j a b m left q).1)
-          (rw (ne_eqb (elem cols k) j (λ q. f (sym q ∙ sym column))) (none (eqb (elem rows k) i)))
-        where
-          none : (s : Bool) → cond s (pos 0) (pos 0) ≡ pos 0
-          none true = refl
-          none false = refl
+          other i j l m (λ q. f (same_from_place i j a b 16 m left q).1)
+          (rw (ne_eqb (elem cols k) j (λ q. f (sym q ∙ sym column))) (grind arith))
       go i j l m (no e) f =
-          other i j l m (λ q. e (place i j a b m left q).0) (rw (ne_eqb (elem rows k) i (λ q. e (sym q ∙ sym row))))
+          other i j l m (λ q. e (same_from_place i j a b 16 m left q).0) (rw (ne_eqb (elem rows k) i (λ q. e (sym q ∙ sym row))))
 
 -- a value of the first k entries at a place is at most the magnitude
-share_le : (s t : Bool) (v : ℤ) → nat_abs (cond s (cond t v (pos 0)) (pos 0)) ≤ 1 * nat_abs v
-share_le true true v = omega arith
-share_le true false v = omega arith
-share_le false t v = omega arith
-
 module _ (count : ℕ) (rows cols : List ℕ) (values : List ℤ) (small : magnitude_of (table_of count rows cols values) ≤ most_magnitude) where
   part_small : (k i j : ℕ) → k ≤ count → nat_abs (sum k (share (table_of 0 rows cols values) i j)) ≤ most_magnitude
   part_small k i j h =
-      omega (arith, sum_bounded 1 count k (share (table_of 0 rows cols values) i j) (λ k. nat_abs (elem_z values k)) (λ k. share_le (eqb (elem rows k) i) (eqb (elem cols k) j) (elem_z values k)) h)
+      omega (arith, sum_bounded 1 count k (share (table_of 0 rows cols values) i j) (λ k. nat_abs (elem_z values k)) (λ k. grind arith) h)
 
   -- the next entry's place holds it
   pub next_fits : (k : ℕ) (grid : List ℤ) → Laid rows cols values k grid → k < count → (a b : ℕ) (v : ℤ) → a ≡ elem rows k → b ≡ elem cols k → v ≡ elem_z values k
@@ -93,7 +80,7 @@ module _ (count : ℕ) (rows cols : List ℕ) (values : List ℤ) (small : magni
       let q = (next_laid rows cols values k grid p a b v row column value low left).at a b low left in
       let there : elem_z (set grid (a * 16 + b) (elem_z grid (a * 16 + b) +ℤ v)) (a * 16 + b) ≡ elem_z grid (a * 16 + b) +ℤ v =
       get_or-set_same grid (a * 16 + b) (elem_z grid (a * 16 + b) +ℤ v) (pos 0) (rw p.long (omega arith)) in
-      fits_abs _ (rw (sym there ∙ q) (omega (arith, part_small (k + 1) a b (omega arith))))
+      fits_signed_from_abs w64 _ (rw (sym there ∙ q) (omega (arith, part_small (k + 1) a b (omega arith))))
 
   pub all_laid : (k : ℕ) (grid : List ℤ) → Laid rows cols values k grid → k ≤ count → count ≤ k → LaidOut (table_of count rows cols values) grid
   unfolding value_at

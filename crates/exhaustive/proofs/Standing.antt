@@ -14,7 +14,8 @@ use mir.Syntax.{w64}
 use mir.Val.{SFits}
 use mir.Facts.{to_z-of_z}
 use Rattle.exhaustive.proofs.Terms.{word, word_is}
-use Rattle.laws.proofs.Integer.{fits_abs, parts, differences, ring, abs_add, abs_neg}
+use Rattle.std.proofs.lemmas.Int.{fits_signed_from_abs}
+use Rattle.laws.proofs.Integer.{parts, differences, ring, abs_add, abs_neg}
 use Rattle.tables.specs.Table.{Table, InRange}
 use Rattle.laws.proofs.Sums.{total_at}
 use Rattle.tables.specs.Check.{Hall}
@@ -74,13 +75,6 @@ pub double : (d : ℕ) → (d ≡ 0 → ⊥) → 2 ^ d ≡ 2 * 2 ^ (d - 1)
 double zero z = absurd (z refl)
 double (suc d) z = let e : suc d - 1 ≡ d = omega arith in rw e (pow-succ' 2 d)
 
-upper : (d : ℕ) → (d ≡ 0 → ⊥) → suc (d - 1) ≡ d
-upper zero z = absurd (z refl)
-upper (suc d) z = omega arith
-
-pub first_half : (turn p : ℕ) → turn * (2 * p) ≡ turn * 2 * p
-first_half turn p = omega arith
-
 pub second_half : (turn p : ℕ) → turn * (2 * p) + p ≡ (turn * 2 + 1) * p
 second_half turn p = omega arith
 
@@ -125,10 +119,7 @@ module _ {d : ℕ} {cost : ℤ} {fields grid : List ℤ} {visited : ℕ} {least 
   module _ (z : d ≡ 0 → ⊥) (s : Standing d cost fields grid visited least number) where
     -- visited is a multiple of 2^(top + 1), for top = d - 1
     pub at_top : visited ≡ s.turn * 2 ^ suc (d - 1)
-    at_top = s.visited_is ∙ ap (λ (x : ℕ). s.turn * 2 ^ x) (sym (upper d z))
-
-    pub top_below : d - 1 < d
-    top_below = omega (arith, upper d z)
+    at_top = let e : d ≡ suc (d - 1) = omega arith in s.visited_is ∙ ap (λ (x : ℕ). s.turn * 2 ^ x) e
 
     -- the choices with the top digit 0
     unfoldable pub low_stands : {cost' : ℤ} → cost' ≡ cost → Standing (d - 1) cost' fields grid visited least number
@@ -137,7 +128,7 @@ module _ {d : ℕ} {cost : ℤ} {fields grid : List ℤ} {visited : ℕ} {least 
       g = s.g;
       turn = s.turn * 2;
       few = omega (arith, s.few);
-      visited_is = s.visited_is ∙ ap (λ (x : ℕ). s.turn * x) (double d z) ∙ first_half s.turn (2 ^ (d - 1));
+      visited_is = s.visited_is ∙ ap (λ (x : ℕ). s.turn * x) (double d z) ∙ sym (mul_assoc s.turn 2 (2 ^ (d - 1)));
       within = omega (arith, s.within, double d z);
       cost_is = e ∙ s.cost_is;
       fields_are = λ j h. s.fields_are j (omega arith);
@@ -150,7 +141,7 @@ module _ {d : ℕ} {cost : ℤ} {fields grid : List ℤ} {visited : ℕ} {least 
 
     pub can_raise : Raisable (d - 1) fields grid
     can_raise = record {
-      low = omega (arith, s.few, upper d z);
+      low = omega (arith, s.few);
       fields_small = λ i h. field_small s i (omega arith);
       grid_small = s.grid_small;
     }
@@ -158,15 +149,15 @@ module _ {d : ℕ} {cost : ℤ} {fields grid : List ℤ} {visited : ℕ} {least 
     -- the cost with the top digit set
     pub top_cost : cost +ℤ elem_z fields (d - 1) ≡ s.f (visited + 2 ^ (d - 1))
     top_cost =
-        ap₂ ◌+ℤ◌ (s.cost_is ∙ ap s.f at_top) (s.fields_are (d - 1) top_below ∙ ap (s.g (d - 1)) at_top)
-        ∙ sym (s.grows (d - 1) s.turn top_below) ∙ ap (λ (x : ℕ). s.f (x + 2 ^ (d - 1))) (sym at_top)
+        ap₂ ◌+ℤ◌ (s.cost_is ∙ ap s.f at_top) (s.fields_are (d - 1) (omega arith) ∙ ap (s.g (d - 1)) at_top)
+        ∙ sym (s.grows (d - 1) s.turn (omega arith)) ∙ ap (λ (x : ℕ). s.f (x + 2 ^ (d - 1))) (sym at_top)
 
     -- it is worked out in i64
     inner : word cost +ℤ word (elem_z fields (d - 1)) ≡ cost +ℤ elem_z fields (d - 1)
-    inner = ap₂ ◌+ℤ◌ (word_is cost (rw s.cost_is (omega (arith, s.costs_small visited)))) (word_is (elem_z fields (d - 1)) (omega (arith, field_small s (d - 1) top_below)))
+    inner = ap₂ ◌+ℤ◌ (word_is cost (rw s.cost_is (omega (arith, s.costs_small visited)))) (word_is (elem_z fields (d - 1)) (omega (arith, field_small s (d - 1) (omega arith))))
 
     pub more_fits : SFits w64 (word cost +ℤ word (elem_z fields (d - 1)))
-    more_fits = rw (inner ∙ top_cost) (fits_abs _ (omega (arith, s.costs_small (visited + 2 ^ (d - 1)))))
+    more_fits = rw (inner ∙ top_cost) (fits_signed_from_abs w64 _ (omega (arith, s.costs_small (visited + 2 ^ (d - 1)))))
 
     pub more_is : word (word cost +ℤ word (elem_z fields (d - 1))) ≡ cost +ℤ elem_z fields (d - 1)
     more_is = to_z-of_z more_fits ∙ inner
@@ -185,7 +176,7 @@ module _ {d : ℕ} {cost : ℤ} {fields grid : List ℤ} {visited : ℕ} {least 
       fields_are = λ j h.
           r.raised_is j h
           ∙ ap (λ z. z +ℤ pos 8 *ℤ elem_z grid ((d - 1) * 16 + j)) (s.fields_are j (omega arith) ∙ ap (s.g j) at_top)
-          ∙ sym (s.shifts j (d - 1) s.turn h top_below)
+          ∙ sym (s.shifts j (d - 1) s.turn h (omega arith))
           ∙ ap (λ (x : ℕ). s.g j (x + 2 ^ (d - 1))) (sym at_top) ∙ ap (s.g j) (sym w.visited_on);
       grows = λ j q h. s.grows j q (omega arith);
       shifts = λ i j q l h. s.shifts i j q l (omega arith);

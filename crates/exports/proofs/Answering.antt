@@ -3,7 +3,7 @@ use Prim.Native.Nat.{ℕ, zero, suc}
 use mathlib.Core.Path.{◌≡◌, refl, sym, ap, ◌∙◌}
 use mathlib.Core.List.{List}
 use Rattle.std.specs.Prelude.{Result, Ok, Err, MatchResult}
-use Rattle.std.specs.Result.{IsOkAnd, result_unwrap_or}
+use Rattle.std.specs.Result.{IsOkAnd}
 use Rattle.laws.specs.Lists.{over}
 use Rattle.run_record.specs.declared.Run.{Run}
 use Rattle.refusal.specs.declared.Refusal.{Refusal}
@@ -19,11 +19,6 @@ by_some (suc k) value n = refl
 
 pub by_refusal : {A : Type 0} (refusal : Refusal) (value : A) → by_number (number_of refusal) value ≡ Err (number_of refusal)
 by_refusal refusal value = by_some (number_of refusal) value (some_number refusal)
-
--- a refusal's number, or the value
-pub answered : {A : Type 0} (answer : Result A Refusal) (other : A) → by_number (numbered answer) (result_unwrap_or answer other) ≡ in_numbers answer
-answered (Ok value) other = refl
-answered (Err refusal) other = by_refusal refusal other
 
 left : (k : ℕ) (new words : List ℕ) → (k ≡ 0 → ⊥) → words ≡ words_after k new words
 left zero new words n = absurd (n refl)

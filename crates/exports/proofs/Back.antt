@@ -10,17 +10,13 @@ use lib.Ieee.Bits.{of_bits-to_bits}
 use Rattle.ieee.specs.Floats.{double_of, bits_of}
 use Rattle.step_rules.specs.declared.StepRule.{StepRule}
 use Rattle.step_rules.specs.declared.StepRule.TheVariants.{Grad, GradAdv, Coord, CoordNoStep, CoordMomentum}
-use Rattle.step_rules.specs.Rule.{rule_of, rule_number}
+use Rattle.step_rules.specs.Rule.{rule_number}
 use Rattle.run_record.specs.declared.Stage.{Stage}
 use Rattle.run_record.specs.declared.Stage.TheVariants.{Open, Stopped}
 use Rattle.run_record.specs.declared.Run.{Run}
 use Rattle.exports.specs.Words.{within, stage_in, stage_word, rule_in, rule_value, run_in, words_of, Fitting}
 
 -- ---- fields
-
-pub within_above : (largest word : ℕ) → largest < word → largest ≡ within largest word
-unfolding within
-within_above largest word l = rw (lt-ltb largest word l) refl
 
 pub within_below : (largest word : ℕ) → word ≤ largest → word ≡ within largest word
 unfolding within
@@ -33,10 +29,6 @@ stopped (suc k) e = refl
 pub rule_none : (word : ℕ) (x : Float) → 4 < word → CoordMomentum nan ≡ rule_in word x
 unfolding rule_in
 rule_none word x l = rw (lt-ltb 4 word l) refl
-
-pub rule_some : (word : ℕ) (x : Float) → word ≤ 4 → rule_of word x ≡ rule_in word x
-unfolding rule_in
-rule_some word x l = rw (le-ltb 4 word l) refl
 
 -- ---- back
 

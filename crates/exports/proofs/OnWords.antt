@@ -1,6 +1,6 @@
 -- Demand 3's last sentence for C's calls: from an accepted open, every list of exported sweeps, finishes and exchanges, refused ones included, is seen as 01's
 -- plain run has it, the records read from the words. By `plain_run` of run_contract. Assumes nothing.
-use Prim.Native.Nat.{ℕ, zero, suc, ◌+◌, ◌≤◌, ◌<◌}
+use Prim.Native.Nat.{ℕ, zero, suc, ◌≤◌, ◌<◌}
 use mathlib.Core.Path.{◌≡◌, refl, sym, ap, subst, ◌∙◌}
 use mathlib.Core.List.{List, [], ◌∷◌, map}
 use mathlib.Core.Option.{Option, some, none}
@@ -23,19 +23,13 @@ use Rattle.exports.specs.WordChain.{GivenWords, SeenWords, words_seen, words_giv
 
 -- ---- words that a call leaves hold the record after it
 
-at_least : (least n : ℕ) → (n < least → ⊥) → least ≤ n
-at_least least n h = omega arith
-
 pub length_words : (run : Run) → length (words_of run) ≡ run_words
 unfolding words_of
 length_words run = refl
 
-room : (a n b : ℕ) → a ≡ n → n ≤ a + b
-room a n b e = omega arith
-
 after_long : (number : ℕ) (run : Run) (words : List ℕ) {words' : List ℕ} → run_words ≤ length words → words' ≡ words_after number (words_of run) words → run_words ≤ length words'
 after_long zero run words l e =
-    rw (e, length-append (words_of run) (drop (length (words_of run)) words)) (room (length (words_of run)) run_words (length (drop (length (words_of run)) words)) (length_words run))
+    rw (e, length-append (words_of run) (drop (length (words_of run)) words)) (omega (arith, length_words run))
 after_long (suc number) run words l e = rw e l
 
 pub sweep_holds : {words words' : List ℕ} {t : CostTable} {k number : ℕ} {factor factor' : List Float} → run_words ≤ length words
@@ -47,16 +41,13 @@ exchange_holds {words = words} {words' = words'} {number = number} l says = reco
 
 -- ---- an accepted open
 
-accepted : ◌≡◌ {A = ℕ} 0 31 → ⊥
-accepted e = omega arith
-
 module _ {t : CostTable} {settings : List ℕ} {numbers factor : List Float} {words : List ℕ} {factor' : List Float} {words' : List ℕ}
     (says : OpensWords t settings numbers factor words 0 factor' words') where
   settings_there : setting_words ≤ length settings
-  settings_there = at_least setting_words (length settings) (λ n. accepted (says.short_settings n).0)
+  settings_there = let n : length settings < setting_words → ⊥ = λ n. cc (says.short_settings n).0 in omega arith
 
   words_there : run_words ≤ length words
-  words_there = at_least run_words (length words) (λ n. accepted (says.short_words n).0)
+  words_there = let n : length words < run_words → ⊥ = λ n. cc (says.short_words n).0 in omega arith
 
   pub open_holds : Holds (run_in words') words'
   open_holds = record { enough = after_long 0 (run_in words') words words_there (says.opens settings_there words_there).1; held = refl }

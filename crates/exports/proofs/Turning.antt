@@ -1,5 +1,5 @@
 -- The turn call on words, from what `turn` promises of the records that the words hold. Assumes nothing.
-use Prim.Native.Nat.{ℕ, zero, suc, ◌+◌, ◌-◌, ◌*◌, ◌≤◌, ◌<◌}
+use Prim.Native.Nat.{ℕ, zero, suc, ◌+◌, ◌*◌, ◌≤◌, ◌<◌}
 use mathlib.Core.Path.{◌≡◌, refl, sym, ap, ap₂, subst, ◌∙◌}
 use mathlib.Core.Bool.{Bool, true, false}
 use mathlib.Core.List.{List, [], ◌∷◌, ◌++◌, append_assoc}
@@ -12,7 +12,7 @@ use lib.Dec.{ltb}
 use lib.IntN.{ℤ}
 use lib.Ieee.{Float}
 use lib.ListN.{length, take, drop, replicate, length-append, length-replicate, length-drop, take-append-drop}
-use lib.Seq.{take_all, take_at, drop_at, drop-drop}
+use lib.Seq.{take_at, drop_at, drop-drop}
 use Rattle.laws.specs.Rows.{map_first}
 use Rattle.laws.specs.Lists.{over, fill}
 use Rattle.laws.proofs.MapFirst.{get_d_map_first}
@@ -66,10 +66,6 @@ record_read f count rest i l =
     begins (drop (run_words * i) (joined (λ j. words_of (f j)) count ++ rest)) (f i)
     (ap₂ (λ (m k : ℕ). take m (drop k (joined (λ j. words_of (f j)) count ++ rest))) (sym (length_words (f i))) (sym (length_records f i)) ∙ joined_part (λ j. words_of (f j)) count rest i l)
 
--- the words from a record's first on
-pub rest_is : (k : ℕ) (words : List ℕ) → take (length words - k) (drop k words) ≡ drop k words
-rest_is k words = take_all (length words - k) (drop k words) (rw (length-drop k words) (omega arith))
-
 over_long : (a xs : List ℕ) → length a ≤ length xs → length (over a xs) ≡ length xs
 over_long a xs l = length-append a (drop (length a) xs) ∙ rw (length-drop (length a) xs) (omega (arith, l))
 
@@ -97,11 +93,8 @@ module _ (f : ℕ → Run) (i : ℕ) (words₀ words : List ℕ) (d : ℕ) (w : 
   put_long same = let all = length_records f (i + 1) in ap length put_turn ∙ over_long (joined (λ j. words_of (f j)) (i + 1)) words₀ (omega (arith, all, room, same))
 
 held_turn : (f : ℕ → Run) (i : ℕ) → ((j : ℕ) → j < i → run_in (words_of (f j)) ≡ f j) → run_in (words_of (f i)) ≡ f i → (j : ℕ) → j < i + 1 → run_in (words_of (f j)) ≡ f j
-held_turn f i before mine j l = by (eq-or-lt_of_le (below l))
+held_turn f i before mine j l = let h : j ≤ i = omega arith in by (eq-or-lt_of_le h)
   where
-    below : j < i + 1 → j ≤ i
-    below l = omega arith
-
     by : (j ≡ i) ⊎ (j < i) → run_in (words_of (f j)) ≡ f j
     by (inl e) = rw e mine
     by (inr k) = before j k
@@ -124,10 +117,6 @@ put_next {runs} {words₀} {words} {new} {d} i p room e n back =
       is = put_turn (run_at runs) i words₀ words d p.is room e;
       held = held_turn (run_at runs) i p.held (rw n at back);
     })
-
-pub put_all : {runs : List Run} {words₀ words : List ℕ} (i n : ℕ) → Put runs words₀ words i → i ≤ n → n ≤ i
-    → (words ≡ over (joined (λ j. words_of (run_at runs j)) n) words₀) × ((j : ℕ) → j < n → run_in (words_of (run_at runs j)) ≡ run_at runs j)
-put_all i n p up down = let same : n ≡ i = omega arith in rw same (p.is, p.held)
 
 -- ---- lists filled from the front
 
@@ -153,9 +142,6 @@ module _ (sweeps count : ℕ) (words sizes rows cols : List ℕ) (values c : Lis
 
   abbrev early : ℕ
   early = early_number sweeps count (length words) (length sizes)
-
-  pub turn_early : {number : ℕ} → number ≡ early → (number ≡ 0 → ⊥) → TurnsWords sweeps count words sizes rows cols values c factors number words factors
-  turn_early e n = record { early = λ _. (e, refl, refl); turns = λ z. absurd (n (e ∙ z)) }
 
   pub turn_left : {runs' : List Run} {factors' : List Float} (number : ℕ) → (number ≡ 0 → ⊥) → early ≡ 0
       → Turns sweeps count (runs_in count words) tables factors number runs' factors' → TurnsWords sweeps count words sizes rows cols values c factors number words factors'

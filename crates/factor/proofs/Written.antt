@@ -1,39 +1,27 @@
 -- Lists made by index that are written block by block.
---     block_asked       what the sums of a block ask, given what the whole row asks
 --     entry_made        an entry's share to sums that are made by index
 --     block_copied      a block's sums, copied over as many elements
 --     sums_put          a block's sums, copied to where they lie in a row
 --     front_made        a list whose first elements are made by index
 --     block_next_put    the turn of a loop over blocks
---     whole_block_fits, whole_blocks_fit, no_more_blocks, next_block    blocks of `width` elements among n: one, all, and no more
+--     whole_block_fits, next_block    blocks of `width` elements among n
 -- Assumes nothing.
 use mathlib.Core.Path.{◌≡◌, sym, ap, subst, ◌∙◌}
 use mathlib.Core.List.{List, ◌++◌, append_assoc}
 use Prim.Native.Nat.{ℕ, ◌+◌, ◌-◌, ◌*◌, ◌/◌, ◌≤◌, ◌<◌}
-use native.Mathlib.Nat.{add_assoc, add-sub_cancel_left, suc-mul, div-mul-le_self, div-add-mod', mod-lt}
+use native.Mathlib.Nat.{add_assoc, suc-mul, div-mul-le_self}
 use native.Mathlib.Numerals.{add-one}
 use native.Mathlib.Omega.{arith}
 use lib.Ieee.{Float, nan}
-use lib.ListN.{length, get_or, take, drop, take-append-drop, length-take, length-drop}
+use lib.ListN.{length, take, drop, take-append-drop, length-take, length-drop}
 use lib.Seq.{take_at, drop_at, drop-drop, get_or-take, get_or-drop}
-use Rattle.laws.specs.Rows.{map_first, part}
+use Rattle.laws.specs.Rows.{map_first}
 use Rattle.laws.specs.Lists.{tabulate, over}
 use Rattle.laws.proofs.MapFirst.{map_first_copy}
 use Rattle.laws.proofs.Made.{length_tabulate, tabulate_add, tabulate_ext, map_first_tabulate}
-use Rattle.laws.proofs.Parts.{length_part, row_within}
+use Rattle.laws.proofs.Parts.{row_within}
 use Rattle.ieee.specs.Floats.{◌*ᶠ◌, at}
-use Rattle.factor.specs.Shapes.{ColumnsWithin}
 use Rattle.factor.specs.Columns.{put_block}
-
--- what the sums of `width` columns from `offset` on ask of their slices, where they go to a part of g
-pub block_asked : (cols : List ℕ) (factor g : List Float) (rank offset width : ℕ) → rank ≡ length g → offset + width ≤ length g
-    → ColumnsWithin cols (length g) factor
-    → (length (part offset (offset + width) g) ≡ width)
-    × ((e : ℕ) → e < length cols → get_or cols e 0 * rank + offset + width ≤ length factor)
-block_asked cols factor g rank offset width r h within = (
-  length_part offset (offset + width) g h ∙ add-sub_cancel_left offset width,
-  λ e l. omega (arith, (rw (← r) at (within e l))),
-)
 
 -- an entry's share to sums that are made by index
 pub entry_made : (op : Float → Float → Float) (weight : Float) (factor : List Float) (start width : ℕ) (f : ℕ → Float)
@@ -92,14 +80,8 @@ block_next_put f n offset width g ys h k e =
     (block_put f offset (n - offset) (offset + width - n) g ys (rw p e))
 
 -- blocks of `width` elements: as many as lie whole among n
-pub whole_blocks_fit : (n width : ℕ) → n / width * width ≤ n
-whole_blocks_fit n width = div-mul-le_self n width
-
 pub whole_block_fits : (n b width : ℕ) → b < n / width → b * width + width ≤ n
 whole_block_fits n b width h = omega (arith, row_within b (n / width) width h, div-mul-le_self n width)
-
-pub no_more_blocks : (n width : ℕ) → 0 < width → n < n / width * width + width
-no_more_blocks n width h = omega (arith, div-add-mod' n width, mod-lt n h)
 
 pub next_block : (first b width : ℕ) → first + (b + 1) * width ≡ first + b * width + width
 next_block first b width = rw (add-one b, suc-mul b width) (omega arith)

@@ -5,14 +5,14 @@ use mathlib.Core.Bool.{Bool, true, false}
 use mathlib.Core.List.{List, [], ◌∷◌}
 use Prim.Native.Nat.{ℕ, zero, suc, ◌*◌, ◌≤◌}
 use native.Mathlib.Omega.{arith}
-use borrow.Author.Tests.{ltb-false, ne_eqb}
+use borrow.Author.Tests.{ltb-false, eq-eqb, ne_eqb}
 use lib.Dec.{ltb, eqb}
 use lib.ListN.{length}
 use lib.IntN.{ℤ}
 use lib.Ieee.{Float}
 use Rattle.laws.specs.Refusal.{◌if◌, first, any_of, short}
 use Rattle.laws.proofs.Refusal.{clear, first_head, first_rest}
-use Rattle.laws.proofs.Any.{any_head, any_rest, any_not, any_none, any_skip, any_last, and_left, and_right}
+use Rattle.laws.proofs.Any.{any_head, any_rest, any_not, any_none, any_skip, any_last, and_right}
 use Rattle.limits.specs.Limits.{most_signs, most_sign_entries, most_sign_magnitude, most_rank, most_draws}
 use Rattle.tables.specs.Table.{Table, Lent, table_of}
 use Rattle.rounding.specs.Rounding.{least_draw, rounded_sol}
@@ -53,7 +53,7 @@ pub draws_good : (m rank k : ℕ) → draws_refused m rank k ≡ false → (rank
 unfolding draws_refused
 draws_good m rank k e =
     let rest = any_rest _ _ e in (
-      λ z. (signs_parts m (and_left (eqb rank 0) (bad_signs m) (rw z) (any_head _ _ (any_rest _ _ rest)))).1,
+      λ z. (signs_parts m (rw (eq-eqb rank 0 z) at (any_head _ _ (any_rest _ _ rest)))).1,
       ltb-false most_rank rank (any_head _ _ rest),
       draws_few k (any_head _ _ e),
     )

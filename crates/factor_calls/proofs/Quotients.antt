@@ -24,10 +24,9 @@ use lib.Ieee.Nearest.{div_same}
 use lib.ListN.{length, replicate, length-replicate}
 use Rattle.laws.specs.Rows.{row_of}
 use Rattle.laws.specs.Turns.{up_to}
-use Rattle.laws.proofs.Any.{never}
 use Rattle.laws.proofs.MapFirst.{length_map_first}
 use Rattle.laws.proofs.Parts.{length_row_of}
-use Rattle.laws.proofs.Made.{length_tabulate, tabulate_ext}
+use Rattle.laws.proofs.Made.{tabulate_ext}
 use Rattle.ieee.specs.Floats.{at, zero64, one64, eighth_of, ◌/ᶠ◌, ◌*ᶠ◌, ◌+ᶠ◌}
 use Rattle.ieee.proofs.Nearest.{parts, exact}
 use Rattle.ieee.proofs.Eighths.{like}
@@ -38,10 +37,6 @@ use Rattle.maxcut_oracle.specs.Whole.{row_takes, whole_turn, whole_row, numerato
 use Rattle.factor_calls.specs.Equation8.{self_product, divided_at, divided_multipliers, value_of, multipliers_by}
 
 -- ---- the list that the calls write
-
-pub length_by : (divided : Bool) (t : Table) (m rank : ℕ) (factor : List Float) → length (multipliers_by divided t m rank factor) ≡ m
-unfolding multipliers_by
-length_by divided t m rank factor = length_tabulate (λ i. value_of divided (whole_row t rank factor i) (row_of rank factor i)) m
 
 pub by_numerators : (t : Table) (m rank : ℕ) (factor : List Float) → multipliers_by false t m rank factor ≡ whole_multipliers t m rank factor
 unfolding multipliers_by whole_multipliers numerator
@@ -168,8 +163,8 @@ nan_adds x = refl
 -- one more product with a zero
 more_nought : (x y z : Float) → Nought x → eq z zero64 ≡ true → Nought (x +ᶠ y *ᶠ z)
 unfolding mul eq of_bits
-more_nought x y nan n h = never h
-more_nought x y (inf s) n h = never h
+more_nought x y nan n h = cc
+more_nought x y (inf s) n h = cc
 more_nought x nan (fin s m e) n h = inl (add_nan x)
 more_nought x (inf t) (fin s m e) n h = inl (ap (λ (k : ℕ). x +ᶠ cond (eqb k 0) nan (inf (unlike t s))) (no_digits s m e h) ∙ add_nan x)
 more_nought x (fin t k d) (fin s m e) n h =

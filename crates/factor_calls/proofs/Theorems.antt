@@ -3,20 +3,19 @@
 --     multiplied_at           an accepted `dual_variables` gives row i's numerator at place i
 --     tail_stays              and leaves what stands behind the m places
 --     divided_at_lem, -tail       the same of `dual_variables_divided`, whose place i has row i's numerator divided by the row's product with itself
---     divided_zero_at, -nan-at, -unit-at   NaN for a row of zeros or with a NaN; the numerator where that product is 1.0
+--     divided_zero_at, _nan_at, _unit_at   NaN for a row of zeros or with a NaN; the numerator where that product is 1.0
 -- Assumes nothing.
 use Rattle.std.specs.Prelude.{Result, Ok, Err}
 use mathlib.Core.Path.{◌≡◌, refl, sym, ap, ◌∙◌, subst}
-use mathlib.Core.Bool.{Bool, true, false, not}
+use mathlib.Core.Bool.{true}
 use mathlib.Core.List.{List}
 use Prim.Native.Nat.{ℕ, ◌+◌, ◌-◌, ◌*◌, ◌≤◌, ◌<◌}
 use native.Mathlib.Omega.{arith}
-use lib.Dec.{T}
 use lib.IntN.{ℤ}
 use lib.Ieee.{Float, nan, eq}
 use lib.ListN.{length, drop, get_or-append}
 use lib.Seq.{drop_at}
-use lib.Signed.{lt_z, ◌≤ℤ◌, ◌<ℤ◌, lt_z_yes, lt_z_no}
+use Rattle.std.proofs.lemmas.Int.{by_lt_z}
 use Rattle.laws.specs.Lists.{over, tabulate}
 use Rattle.laws.specs.Rows.{row_of}
 use Rattle.laws.proofs.Made.{length_tabulate, get_d_tabulate}
@@ -34,14 +33,6 @@ use Rattle.factor_calls.specs.Draws.{FirstOfLeast}
 use Rattle.factor_calls.specs.Equation8.{self_product, divided_at, divided_multipliers}
 use Rattle.factor_calls.proofs.Accepting.{rounded_accepted, divided_accepted}
 use Rattle.factor_calls.proofs.Quotients.{divided_zero, divided_nan, divided_unit}
-
--- what isn't at most is more
-more : (a b : ℤ) → (b ≤ℤ a → ⊥) → a <ℤ b
-more a b h = go (lt_z a b) refl
-  where
-    go : (x : Bool) → lt_z a b ≡ x → a <ℤ b
-    go true e = lt_z_yes (subst T (sym e) tt)
-    go false e = absurd (h (lt_z_no (subst (λ (x : Bool). T (not x)) (sym e) tt)))
 
 -- an accepted call of `compute_rounded_sol`
 module _ (m count : ℕ) (rows cols : List ℕ) (values : List ℤ) (rank : ℕ) (factor : List Float) (k : ℕ) (draws : List Float) (out : List ℕ) {answer : Result ℤ ℕ} {out' : List ℕ} where
@@ -61,7 +52,7 @@ module _ (m count : ℕ) (rows cols : List ℕ) (values : List ℤ) (rank : ℕ)
         lent = w.signs_are ∙ sym (accepted_is _ (λ _. out) (over (signs_of factor (rank_meant m rank) m draws (least_draw factor (rank_meant m rank) m draws (table_of count rows cols values) k)) out) refl ok);
         answers = w.answers ∙ sym (accepted_is _ Err (Ok (f (least_draw factor (rank_meant m rank) m draws (table_of count rows cols values) k))) refl ok);
         none_lower = λ j h. least_least f (k - 1) j (omega arith);
-        before_higher = λ j h. more _ _ (least_first f (k - 1) j h);
+        before_higher = λ j h. by_lt_z _ _ (λ l. l) (λ l. absurd (least_first f (k - 1) j h l));
       }
 
 -- what an accepted call lends out in the first m places: f at each, and behind them what stood there

@@ -13,13 +13,13 @@ use mathlib.Core.Bool.{Bool, true, false, cond}
 use mathlib.Core.List.{List}
 use mathlib.Core.Path.{◌≡◌, refl, sym, ap, ◌∙◌, subst₂}
 use lib.Dec.{eqb}
-use lib.IntN.{ℤ, pos, neg_ℤ, ◌+ℤ◌, ◌-ℤ◌}
+use lib.IntN.{ℤ, pos, ◌+ℤ◌, ◌-ℤ◌}
 use lib.Ieee.{Float}
 use lib.ListN.{length, take, get_or-append}
 use lib.Seq.{take_at}
 use lib.Signed.{◌≤ℤ◌}
 use Rattle.laws.specs.Lists.{elem, over, tabulate}
-use Rattle.laws.proofs.Integer.{integers, add_parts, neg-⁺, neg-⁻}
+use Rattle.std.proofs.lemmas.Int.{ints}
 use Rattle.laws.proofs.Made.{length_tabulate, get_d_tabulate}
 use Rattle.tables.specs.Table.{Table, value_at, same_sign}
 use Rattle.tables.specs.Cost.{cost_eighths, decoded_byte, decoded, bit, choice_at}
@@ -97,7 +97,7 @@ module _ (n : ℕ) (b b' : List ℕ) (a : ℕ → ℤ) (is : (i : ℕ) → i < n
   moved_all d j h = rw (← (is j h)) (sym (other (elem b j) (elem b' j) (d.differ j h)))
 
 pub fall : (x y : ℤ) (d : ℕ) → (x +ℤ pos d) ≤ℤ y → pos d ≤ℤ (y -ℤ x)
-fall x y d h = omega (integers, add_parts x (pos d), add_parts y (neg_ℤ x), neg-⁺ x, neg-⁻ x)
+fall x y d h = omega (arith, ints)
 
 -- 01's children of x, by index: those whose change is below 0
 abbrev pub children : Table → ℕ → List ℕ → List (List ℕ)
@@ -225,7 +225,7 @@ module _ {most capacity limit n : ℕ} {h : Table} {c : ℕ → ℤ} (hall : Hal
         cost_is = cost_is ∙ sym (cost_ext n (value_at h) c is_at);
         one_wagon = λ b'' d. beside b'' _ (one_moved_lem d.wagon d.is_one) (moved_one n b' b'' (decoded n answer) is_at d);
         all_wagons = λ b'' d. beside b'' _ all_moved_lem (moved_all n b' b'' (decoded n answer) is_at d);
-        draws_cost = λ k l. rw finish.cost_is (omega (integers, cost_down, rounded_least k l));
+        draws_cost = λ k l. rw finish.cost_is (omega (arith, ints, cost_down, rounded_least k l));
         floor_is = finish.floor_is;
         floor_under = floor_low;
         rounds_are = finish.rounds_are;

@@ -17,10 +17,7 @@ module _ {A : Type 0} (f : A → List ℕ) (size : ℕ) (sized : (x : A) → len
   pub length_each : (xs : List A) → length (each f xs) ≡ length xs * size
   unfolding each
   length_each [] = sym (zero-mul size)
-  length_each (x ∷ xs) = length-append (f x) (each f xs) ∙ more (length (f x)) (length (each f xs)) (length xs) size (sized x) (length_each xs)
-    where
-      more : (a b n s : ℕ) → a ≡ s → b ≡ n * s → a + b ≡ suc n * s
-      more a b n s e g = rw (suc-mul n s) (omega arith)
+  length_each (x ∷ xs) = rw (length-append (f x) (each f xs), suc-mul (length xs) size) (omega (arith, sized x, length_each xs))
 
   pub read_each : (xs : List A) (rest : List ℕ) (d : A) (k at width : ℕ) → k < length xs → at + width ≤ size
       → big_endian (each f xs ++ rest) (k * size + at) width ≡ big_endian (f (get_or xs k d)) at width

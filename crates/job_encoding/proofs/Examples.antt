@@ -1,7 +1,7 @@
 -- 01's example, written from its values: the bytes that `job_record` reads and that `record_call` answers.
 -- Assumes nothing.
 use Prim.Native.Nat.{ℕ, zero, suc, ◌+◌, ◌<◌, ◌≤◌}
-use mathlib.Core.Bool.{true, false}
+use mathlib.Core.Bool.{false}
 use mathlib.Core.Path.{◌≡◌, refl}
 use mathlib.Core.List.{List, [], ◌∷◌}
 use native.Mathlib.Omega.{arith}
@@ -102,7 +102,4 @@ pinned_allowed =
 
 pub pinned_held : Typed pinned_values
 unfolding versions root_from least_root default_rank rank_meant start_length
-pinned_held = held_by _ _ _ _ pinned_allowed (λ e. carried e) refl
-  where
-    carried : true ≡ false → ◌≡◌ {A = ℕ} 1 0
-    carried e = let z : ◌≡◌ {A = ℕ} 0 1 = cc in absurd (omega arith)
+pinned_held = held_by _ _ _ _ pinned_allowed (λ e. cc e) refl

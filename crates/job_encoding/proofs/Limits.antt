@@ -12,7 +12,8 @@ use lib.Dec.{T, leb}
 use lib.ListN.{length, get_or}
 use lib.IntN.{nat_abs}
 use lib.Ieee.{nan, binary64, fits}
-use Rattle.laws.proofs.Integer.{fits_abs}
+use mir.Syntax.{w64}
+use Rattle.std.proofs.lemmas.Int.{fits_signed_from_abs}
 use Rattle.laws.proofs.Sums.{total_at}
 use Rattle.laws.proofs.Any.{and_true}
 use Rattle.laws.proofs.Made.{below_or_not}
@@ -73,8 +74,8 @@ module _ (v : Values)
         count = omega (arith, hall.entries);
         rows = λ k l. omega (arith, hall.in_range.rows_in k l, wagon_byte);
         columns = λ k l. omega (arith, hall.in_range.cols_in k l, wagon_byte);
-        values = λ k l. fits_abs (entry_of v k).value (omega (arith, total_at (length v.entries) k (λ j. nat_abs (entry_of v j).value) l, hall.magnitude));
-        costs = λ i l. fits_abs (cost_in v i) (omega (arith, total_at (length v.c) i (λ j. nat_abs (cost_in v j)) l, hall.magnitude));
+        values = λ k l. fits_signed_from_abs w64 (entry_of v k).value (omega (arith, total_at (length v.entries) k (λ j. nat_abs (entry_of v j).value) l, hall.magnitude));
+        costs = λ i l. fits_signed_from_abs w64 (cost_in v i) (omega (arith, total_at (length v.c) i (λ j. nat_abs (cost_in v j)) l, hall.magnitude));
         pins = omega (arith, pins_few, wagon_byte);
         pinned = pinned;
         wagons = λ k l. omega (arith, within k l, wagon_byte);

@@ -3,7 +3,7 @@
 --     pin_accepted, pins_apart, state_pinned, state_free, states_free    its pins, the states that they leave, and how many wagons are free
 use Prim.Native.Nat.{ℕ, ◌+◌, ◌-◌, ◌*◌, ◌<◌, ◌≤◌}
 use mathlib.Core.Path.{◌≡◌, refl, sym, ap, ◌∙◌}
-use mathlib.Core.Bool.{Bool, true, false, cond, not}
+use mathlib.Core.Bool.{Bool, true, false, cond, not, not-not}
 use mathlib.Core.List.{List, []}
 use native.Mathlib.Omega.{arith}
 use borrow.Author.Tests.{ltb-false}
@@ -63,10 +63,6 @@ module _ (s : List ℕ) (e : first (pins_numbers_by versions s) ≡ 0) where
       reach true = omega arith
       reach false = omega arith
 
-pub twice_not : (b : Bool) → not (not b) ≡ b
-twice_not true = refl
-twice_not false = refl
-
 -- the values of a head that was there
 module _ (s : List ℕ) {head : HeadValues} (there : HeadThere s head) where
   pub costs_place : {at : ℕ} → at ≡ costs_end head.n head.count → at ≡ pins_place s
@@ -76,7 +72,7 @@ module _ (s : List ℕ) {head : HeadValues} (there : HeadThere s head) where
   version_is e is = ap (λ (v : ℕ). versions.pinned v) (sym there.version) ∙ sym e ∙ is
 
   pub version_pinned : {b t : Bool} → b ≡ versions.pinned head.version → not b ≡ t → versions.pinned (version s) ≡ not t
-  version_pinned {b} e is = version_is e (sym (twice_not b) ∙ ap not is)
+  version_pinned {b} e is = version_is e (sym (not-not b) ∙ ap not is)
 
 -- the numbers of the pins, by the version
 pub version_none : (s : List ℕ) → versions.pinned (version s) ≡ false → 0 ≡ first (pins_numbers_by versions s)

@@ -11,8 +11,8 @@ use mathlib.Core.Path.{◌≡◌, refl, sym, ap, ap₂, ◌∙◌}
 use mathlib.Core.Bool.{Bool, true, false, ◌&&◌}
 use mathlib.Core.List.{List}
 use native.Mathlib.Omega.{arith}
-use native.Mathlib.Decide.{dec_le}
 use borrow.Author.Tests.{le-leb, lt-leb, le-ltb, leb-true, ne_eqb, eqb-true, not-false}
+use Rattle.std.proofs.lemmas.Bool.Decides.{nat_tests}
 use lib.Dec.{eqb, leb, ltb}
 use Rattle.laws.specs.Refusal.{or_else, first}
 use Rattle.laws.proofs.Any.{and_true}
@@ -118,12 +118,7 @@ module _ (f g : Format) (s : List ℕ) (a : Alike f g (version s)) where
 -- ---- a table with one version more says the same of every other version
 
 last_same : (n v : ℕ) → (v ≡ suc n → ⊥) → leb v (suc n) ≡ leb v n
-last_same n v d = go (dec_le v n) (dec_le v (suc n))
-  where
-    go : Dec (v ≤ n) → Dec (v ≤ suc n) → leb v (suc n) ≡ leb v n
-    go (yes h) k = le-leb v (suc n) (omega arith) ∙ sym (le-leb v n h)
-    go (no h) (yes k) = absurd (d (omega arith))
-    go (no h) (no k) = lt-leb v (suc n) (omega arith) ∙ sym (lt-leb v n (omega arith))
+last_same n v d = grind (arith, nat_tests)
 
 one_is : (v : ℕ) → known one_version v ≡ true → v ≡ 1
 one_is v e = eqb-true v 1 (sym (only_one v) ∙ e)

@@ -79,14 +79,6 @@ framed s = 11 if not (eqb (4 + big_endian s 0 4) (length s))
 frame_judged_lem : (s : List ℕ) → frame_judged (length s) (field_at s 0 4) ≡ first (11 if ends_before s 4 ∷ framed s ∷ [])
 frame_judged_lem s = field_judged s 0 4 (λ v. not (eqb (4 + v) (length s))) 11
 
--- a field that was read, by what a match finds
-module _ {f : Option ℕ} {v : ℕ} (e : f ≡ Some v) where
-  pub field_wrong : (wrong : ℕ → Bool) (k : ℕ) → wrong v ≡ true → k ≡ field_number f wrong k
-  field_wrong wrong k t = rw (e, t)
-
-  pub field_right : (wrong : ℕ → Bool) (k : ℕ) → wrong v ≡ false → 0 ≡ field_number f wrong k
-  field_right wrong k t = rw (e, t)
-
 -- the field of w bytes at `at`: its limit, and its value where it is there
 module _ (s : List ℕ) (at w : ℕ) {f : Option ℕ} (e : f ≡ field_at s at w) where
   pub field_limit : (most k : ℕ) {r : ℕ} → r ≡ field_number f (ltb most) k → r ≡ bounded_number s at w most k

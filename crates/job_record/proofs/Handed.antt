@@ -1,14 +1,12 @@
--- What `?` hands on: a refusal, by its number; and that of a field past the end.
+-- What `?` hands on: a refusal, by its number.
 -- Assumes nothing.
 use Prim.Native.Nat.{ℕ}
 use mathlib.Core.Path.{◌≡◌, sym, ap, ◌∙◌}
-use mathlib.Core.Bool.{Bool}
 use Rattle.std.specs.Prelude.{Option, None, Result, Err, ok_or}
 use Rattle.refusal.specs.declared.Refusal.{Refusal}
 use Rattle.refusal.specs.declared.Refusal.TheVariants.{Frame}
 use Rattle.refusal.specs.Number.{number_of, numbered}
 use Rattle.refusal.proofs.Passed.{some_number}
-use Rattle.job_record.specs.Reading.{field_number}
 
 abbrev error : Result ℕ Refusal → ℕ
 error r = numbered r
@@ -22,6 +20,3 @@ module _ {A : Type 0} {r : Result A Refusal} {e : Refusal} (h : r ≡ Err e) whe
 
   pub past_end : {f : Option ℕ} → f ≡ None → ◌≡◌ {A = Result ℕ Refusal} (Err e) (ok_or f Frame) → numbered r ≡ 11
   past_end n v = handed (ap error (v ∙ ap (λ (g : Option ℕ). ok_or g Frame) n))
-
-  pub field_past_end : {f : Option ℕ} → f ≡ None → ◌≡◌ {A = Result ℕ Refusal} (Err e) (ok_or f Frame) → (wrong : ℕ → Bool) (k : ℕ) → numbered r ≡ field_number f wrong k
-  field_past_end n v wrong k = past_end n v ∙ sym (ap (λ (g : Option ℕ). field_number g wrong k) n)

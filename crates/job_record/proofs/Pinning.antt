@@ -8,6 +8,7 @@ use mathlib.Core.Path.{◌≡◌, refl, sym, ap, ◌∙◌}
 use mathlib.Core.Bool.{Bool, true, false, cond, not, ◌||◌}
 use mathlib.Core.List.{List, [], ◌∷◌}
 use mathlib.Core.Logic.{◌⊎◌, inl, inr}
+use native.Mathlib.Nat.{mul-one}
 use native.Mathlib.Omega.{arith}
 use native.Mathlib.Numerals.{add-one}
 use native.Mathlib.Decide.{ℕ_discrete}
@@ -20,7 +21,8 @@ use Rattle.laws.specs.Sum.{total}
 use Rattle.laws.specs.Lists.{elem, any_below, kept, only_if}
 use Rattle.laws.specs.Refusal.{◌if◌, or_else, first, first_of}
 use Rattle.laws.proofs.Made.{below_or_not}
-use Rattle.laws.proofs.Any.{never, below_at, below_none, or_left, or_right}
+use Rattle.std.proofs.lemmas.Bool.{or_parts}
+use Rattle.laws.proofs.Any.{below_at, below_none}
 use Rattle.laws.proofs.Totals.{onlyℕ, total_ext, total_const, total_add, total_only}
 use Rattle.laws.proofs.Refusal.{clear, both, first_head, first_rest, each}
 use Rattle.laws.proofs.Refusal as R
@@ -52,8 +54,8 @@ accepted s n at k e =
     let store = bounded_passed s (pin_at at k + 1) 1 last_store 20 (first_head _ _ (first_rest _ _ e₂)) in
     record {
       there = omega (arith, store.0);
-      wagon = leb-false n (pin_wagon s at k) (or_left (leb n (pin_wagon s at k)) (pinned_before s at k) wagon);
-      new = or_right (leb n (pin_wagon s at k)) (pinned_before s at k) wagon;
+      wagon = leb-false n (pin_wagon s at k) (or_parts (leb n (pin_wagon s at k)) (pinned_before s at k) wagon).0;
+      new = (or_parts (leb n (pin_wagon s at k)) (pinned_before s at k) wagon).1;
       store = store.1;
     }
 
@@ -186,7 +188,7 @@ module _ (s : List ℕ) (n at : ℕ) {f : Option ℕ} (read : f ≡ field_at s a
 module _ (s : List ℕ) (n at count : ℕ) (none-refused : first_of (pin_number s n at) count ≡ 0) where
   -- no two have one wagon
   pub apart : (i j : ℕ) → i < j → j < count → pin_wagon s at i ≡ pin_wagon s at j → ⊥
-  apart i j a b e = never (sym (new_is s at j (earlier s n at count none-refused j b).new) ∙ below_at (λ i. eqb (pin_wagon s at i) (pin_wagon s at j)) j i a (eq-eqb _ _ e))
+  apart i j a b e = cc (new_is s at j (earlier s n at count none-refused j b).new, below_at (λ i. eqb (pin_wagon s at i) (pin_wagon s at j)) j i a (eq-eqb _ _ e))
 
   pub pin_held : (k : ℕ) → k < count → elem (states_of s n at count) (pin_wagon s at k) ≡ pin_store s at k
   pin_held k l = go (stands s n at count none-refused (pin_wagon s at k) (earlier s n at count none-refused k l).wagon)
@@ -224,13 +226,10 @@ one_less n states w v e h free low =
 
 pub free_left : (s : List ℕ) (n at k : ℕ) → first_of (pin_number s n at) k ≡ 0 → total n (counted (states_of s n at k)) + k ≡ n
 unfolding first_of
-free_left s n at zero e = rw (← states_begin s n at) (all ∙ one)
+free_left s n at zero e = rw (← states_begin s n at) (all ∙ mul-one n)
   where
     all : total n (counted (replicate n free_state)) + 0 ≡ n * 1
     all = let e = total_ext n (counted (replicate n free_state)) (λ i. 1) (λ i l. rw (get_or-replicate {A = ℕ} n i free_state 0 l)) ∙ total_const n 1 in omega (arith, e)
-
-    one : n * 1 ≡ n
-    one = omega arith
 free_left s n at (suc k) e =
     let earlier = both _ _ e in
     let p = accepted s n at k earlier.1 in

@@ -1,8 +1,9 @@
 -- What holds of a section that is not refused.
-use Prim.Native.Nat.{ℕ, zero, suc, ◌+◌, ◌*◌, ◌≤◌}
-use mathlib.Core.Path.{◌≡◌, refl, sym, ◌∙◌}
-use mathlib.Core.Bool.{Bool, true, false, cond, ◌&&◌}
+use Prim.Native.Nat.{ℕ, ◌+◌, ◌*◌, ◌≤◌}
+use mathlib.Core.Path.{◌≡◌, sym, ◌∙◌}
+use mathlib.Core.Bool.{Bool, true, false, cond}
 use mathlib.Core.List.{List}
+use native.Mathlib.Nat.{le_antisymm, pos_of_ne-zero}
 use native.Mathlib.Omega.{arith}
 use borrow.Author.Tests.{ltb-false, eqb-true, eqb-false, not-false, eq-eqb}
 use lib.Dec.{ltb}
@@ -55,10 +56,6 @@ head s e =
       short = count.1;
     }
 
-both_not : (a b : Bool) → (a && b) ≡ false → a ≡ true → b ≡ false
-both_not true b e h = e
-both_not false b e h = let no : ◌≡◌ {A = ℕ} 0 1 = cc in absurd (omega arith)
-
 -- the settings
 pub record Settings (s : List ℕ) (at : ℕ) : Type 0 where
   pub there : at + 36 ≤ length s
@@ -83,10 +80,10 @@ settings s at e₁ =
       there = omega (arith, start.0);
       rank = (bounded_passed s at 1 most_rank 16 (first_head _ _ e₁)).1;
       rule = (bounded_passed s (at + 1) 1 last_rule 17 (first_head _ _ e₂)).1;
-      momentum = λ is. not-false _ (both_not _ _ (clear _ 17 (first_head _ _ (first_rest _ _ (first_head _ _ e₃)))) (eq-eqb _ _ is));
+      momentum = λ is. not-false _ (rw (eq-eqb _ _ is) at (clear _ 17 (first_head _ _ (first_rest _ _ (first_head _ _ e₃)))));
       width = (bounded_passed s (at + 34) 1 most_width 18 (first_head _ _ e₅)).1;
       start = start.1;
-      given = λ is none. eqb-false _ _ (both_not _ _ (clear _ 16 (first_head _ _ e₇)) (eq-eqb _ _ is)) none;
+      given = λ is none. eqb-false _ _ (rw (eq-eqb _ _ is) at (clear _ 16 (first_head _ _ e₇))) none;
     }
 
 -- the start and the draws
@@ -106,14 +103,7 @@ draws s at rank e₁ =
     let none = eqb-false (big_endian s at 2) 0 (clear _ 18 (first_head _ _ e₃)) in
     let reached = ltb-false (length s) (at + 2 + big_endian s at 2 * rank * 8) (clear _ 10 (first_head _ _ e₄)) in
     let over = ltb-false (at + 2 + big_endian s at 2 * rank * 8) (length s) (clear _ 10 (first_head _ _ (first_rest _ _ e₄))) in
-    record { there = count.0; some = positive _ none; few = count.1; end = equal _ _ reached over }
-  where
-    positive : (n : ℕ) → (n ≡ 0 → ⊥) → 1 ≤ n
-    positive zero h = absurd (h refl)
-    positive (suc n) h = omega arith
-
-    equal : (a b : ℕ) → a ≤ b → b ≤ a → a ≡ b
-    equal a b h k = omega arith
+    record { there = count.0; some = pos_of_ne-zero none; few = count.1; end = le_antisymm reached over }
 
 pub run : (s : List ℕ) (n at : ℕ) → first (run_numbers s n at) ≡ 0 → Settings s at × Draws s (draws_after s n at) (rank_of s n at)
 unfolding run_numbers

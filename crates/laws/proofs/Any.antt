@@ -1,21 +1,16 @@
--- Tests that hold somewhere: in a list of conditions (`any-..`), of two (`or-..`, `and-..`), of one of an index (`below-..`).
+-- Tests that hold somewhere: in a list of conditions (`any_..`), of one of an index (`below_..`); std's of two tests under the names that are cited.
 -- Assumes nothing.
 use Prim.Native.Nat.{ℕ, zero, suc, ◌+◌, ◌<◌, ◌≤◌}
 use mathlib.Core.Path.{◌≡◌, refl, sym, ap, ◌∙◌}
-use mathlib.Core.Bool.{Bool, true, false, cond, ◌&&◌, ◌||◌}
+use mathlib.Core.Bool.{Bool, true, false, cond}
 use mathlib.Core.List.{List, [], ◌∷◌}
 use mathlib.Core.Logic.{◌⊎◌, inl, inr}
 use native.Mathlib.Omega.{arith}
 use native.Mathlib.Nat.{eq-or-lt_of_le, le_of_suc-le-suc}
 use native.Mathlib.Numerals.{add-one}
-use Rattle.std.proofs.lemmas.Bool.{false≢true}
 pub use Rattle.std.proofs.lemmas.Bool.{or_from as or_none, and_right, and_parts as and_true}
 use Rattle.laws.specs.Refusal.{any_of}
 use Rattle.laws.specs.Lists.{any_below}
-
--- no test is both
-pub never : {P : Type 0} → false ≡ true → P
-never e = absurd (false≢true e)
 
 pub any_head : (b : Bool) (rest : List Bool) → any_of (b ∷ rest) ≡ false → b ≡ false
 unfolding any_of
@@ -24,7 +19,7 @@ any_head false rest e = refl
 
 pub any_rest : (b : Bool) (rest : List Bool) → any_of (b ∷ rest) ≡ false → any_of rest ≡ false
 unfolding any_of
-any_rest true rest e = never (sym e)
+any_rest true rest e = cc
 any_rest false rest e = e
 
 pub any_none : any_of [] ≡ false
@@ -48,17 +43,6 @@ unfolding any_of
 any_last true = refl
 any_last false = refl
 
-pub or_left : (a b : Bool) → (a || b) ≡ false → a ≡ false
-or_left true b e = e
-or_left false b e = refl
-
-pub or_right : (a b : Bool) → (a || b) ≡ false → b ≡ false
-or_right true b e = never (sym e)
-or_right false b e = e
-
-pub and_left : (a b : Bool) → a ≡ true → (a && b) ≡ false → b ≡ false
-and_left a b e f = rw e at f
-
 -- a test that holds somewhere
 module _ (p : ℕ → Bool) where
   pub below_none : (n : ℕ) → ((j : ℕ) → j < n → p j ≡ false) → any_below n p ≡ false
@@ -73,7 +57,7 @@ module _ (p : ℕ → Bool) where
     where
       go : (t : Bool) → p n ≡ t → (j ≡ n) ⊎ (j < n) → (j < n → any_below n p ≡ true) → cond t true (any_below n p) ≡ true
       go true q d later = refl
-      go false q (inl s) later = never (sym q ∙ ap p (sym s) ∙ e)
+      go false q (inl s) later = cc
       go false q (inr k) later = later k
 
   pub below_only : (n j : ℕ) → j < n → ((i : ℕ) → i < n → (i ≡ j → ⊥) → p i ≡ false) → any_below n p ≡ p j
@@ -102,7 +86,7 @@ module _ (p : ℕ → Bool) where
 
   pub below_true : (n : ℕ) → any_below n p ≡ true → (k : ℕ) × (k < n) × (p k ≡ true)
   unfolding any_below
-  below_true zero e = never e
+  below_true zero e = cc
   below_true (suc n) e = go (p n) refl e (below_true n)
     where
       go : (t : Bool) → p n ≡ t → cond t true (any_below n p) ≡ true → (any_below n p ≡ true → (k : ℕ) × (k < n) × (p k ≡ true)) → (k : ℕ) × (k < suc n) × (p k ≡ true)

@@ -1,6 +1,5 @@
 -- ℤ: order, sums, products; what an i64 holds
 pub mod Integer
-pub mod Bits
 pub mod Sums
 pub mod Totals
 -- loops and the lists they make

@@ -2,19 +2,21 @@
 use Prim.Native.Nat.{ℕ, zero, suc, ◌+◌, ◌*◌, ◌≤◌, ◌<◌}
 use native.Mathlib.Decide.{dec_lt}
 use native.Mathlib.Omega.{arith}
-use borrow.Author.Tests.{le-leb, leb-true, eqb-true}
+use native.Mathlib.Nat.{add-zero}
+use borrow.Author.Tests.{le-leb, leb-true, eqb-true, both_ways}
 use mathlib.Core.Bool.{Bool, true, false, cond}
 use mathlib.Core.List.{List}
 use mathlib.Core.Path.{◌≡◌, refl, sym, ap, ap₂, subst, ◌∙◌}
-use lib.Dec.{T, eqb}
+use lib.Dec.{eqb}
 use lib.IntN.{ℤ, pos, nat_abs, ◌+ℤ◌, ◌-ℤ◌}
 use lib.Signed.{◌≤ℤ◌}
 use lib.ListN.{length, get_or}
 use lib.Seq.{get_or-set_other}
 use Rattle.laws.specs.Lists.{elem, over}
 use Rattle.laws.specs.Sum.{total}
+use Rattle.laws.proofs.Sums.{total_at}
 use Rattle.laws.proofs.Totals.{total_ext}
-use Rattle.laws.proofs.Integer.{integers, add_parts}
+use Rattle.std.proofs.lemmas.Int.{ints}
 use Rattle.tables.specs.Table.{Table, value_at, same_sign}
 use Rattle.tables.specs.Check.{Hall}
 use Rattle.tables.specs.Cost.{decoded, decoded_byte, bit, choice_at}
@@ -39,16 +41,13 @@ use Rattle.limited_search.proofs.Starts.{sign_there, sign_behind, start_size, st
 
 -- ---- what a child within the bounds is, and that such a one is allowed
 
-not_both : {b : Bool} → b ≡ true → b ≡ false → ⊥
-not_both p q = subst T (sym p ∙ q) tt
-
 pub within_means : (b : Bounds) (x : List ℕ) (i : ℕ) → within b x i ≡ true → (i < b.flips) × (places_apart (flip_sign i x) b.from ≤ b.most)
 unfolding near
 within_means b x i e = go (dec_lt i b.flips)
   where
     go : Dec (i < b.flips) → (i < b.flips) × (places_apart (flip_sign i x) b.from ≤ b.most)
     go (yes h) = (h, leb-true (places_apart (flip_sign i x) b.from) b.most (sym (within_first b x i h) ∙ e))
-    go (no d) = absurd (not_both e (within_behind b x i (omega arith)))
+    go (no d) = absurd (both_ways _ (within_behind b x i (omega arith)) e)
 
 pub within_allowed : (b : Bounds) (x : List ℕ) (i : ℕ) → i < b.flips → places_apart (flip_sign i x) b.from ≤ b.most → within b x i ≡ true
 unfolding near
@@ -69,9 +68,6 @@ bit_digit : (s : ℕ) → bit s ≡ pos (sign_digit s)
 bit_digit zero = refl
 bit_digit (suc s) = refl
 
-pos_inj : (a b : ℕ) → pos a ≡ pos b → a ≡ b
-pos_inj a b e = ap nat_abs e
-
 pub decoded_digit : (n : ℕ) (x : List ℕ) (j : ℕ) → elem x n ≡ 0 → decoded_byte n x j ≡ sign_digit (elem x j)
 unfolding decoded_byte
 decoded_digit n x j e = ap (λ (s : ℕ). cond (same_sign (elem x j) s) 0 1) e ∙ digit_of (elem x j)
@@ -83,16 +79,13 @@ unfolding places_apart wagons_moved total
 moved_is n x y b p long ex ey bx py =
     ap (λ (m : ℕ). total m (differ x y)) long
     ∙ ap₂ ◌+◌ (total_ext n (differ x y) (differ b p) (λ j h. ap₂ (λ (s t : ℕ). unlike s t) (bx j h) (py j h))) same
-    ∙ add_none (total n (differ b p))
+    ∙ add-zero (total n (differ b p))
   where
     unlike : ℕ → ℕ → ℕ
     unlike s t = cond (eqb s t) 0 1
 
     same : differ x y n ≡ 0
     same = ap₂ (λ (s t : ℕ). cond (eqb (sign_digit s) (sign_digit t)) 0 1) ex ey
-
-    add_none : (a : ℕ) → a + 0 ≡ a
-    add_none a = omega arith
 
 -- ---- choices at distance 0
 
@@ -101,15 +94,6 @@ bit_of t = cond t 0 1
 
 abbrev unlike_of : ℕ → ℕ → ℕ
 unlike_of a b = bit_of (eqb a b)
-
-no_part : (n : ℕ) (f : ℕ → ℕ) → total n f ≤ 0 → (i : ℕ) → i < n → f i ≡ 0
-unfolding total
-no_part zero f e i h = absurd (omega arith)
-no_part (suc n) f e i h = go (dec_lt i n) (λ (l : i < n). no_part n f (omega arith) i l)
-  where
-    go : Dec (i < n) → (i < n → f i ≡ 0) → f i ≡ 0
-    go (yes l) g = g l
-    go (no d) g = let same : n ≡ i = omega arith in subst (λ (j : ℕ). f j ≡ 0) same (omega arith)
 
 equal_digits : (a b : ℕ) → unlike_of a b ≡ 0 → a ≡ b
 equal_digits a b e = go (eqb a b) refl e
@@ -120,7 +104,7 @@ equal_digits a b e = go (eqb a b) refl e
 
 pub apart_nowhere : (x y : List ℕ) → places_apart x y ≤ 0 → (i : ℕ) → i < length x → sign_digit (elem x i) ≡ sign_digit (elem y i)
 unfolding places_apart
-apart_nowhere x y e i h = equal_digits (sign_digit (elem x i)) (sign_digit (elem y i)) (no_part (length x) (differ x y) e i h)
+apart_nowhere x y e i h = let none : differ x y i ≡ 0 = omega (arith, total_at (length x) i (differ x y) h) in equal_digits (sign_digit (elem x i)) (sign_digit (elem y i)) none
 
 -- ---- the theorem
 
@@ -203,7 +187,7 @@ module _ {most capacity limit n : ℕ} {h : Table} {c : ℕ → ℤ} (hall : Hal
     falls = limited_fall (hall_mirrors hall) start (start_size n p) (within b) Reached reaches start_reached W some
 
     no_dearer : objective_in t answer ≤ℤ cost_of n h c p
-    no_dearer = subst (λ (z : ℤ). objective_in t answer ≤ℤ z) start_cost (omega (integers, falls, add_parts (objective_in t answer) (pos (4 * found.rounds))))
+    no_dearer = subst (λ (z : ℤ). objective_in t answer ≤ℤ z) start_cost (omega (arith, ints, falls))
 
     -- ---- a choice that differs in one wagon
 
@@ -220,7 +204,7 @@ module _ {most capacity limit n : ℕ} {h : Table} {c : ℕ → ℤ} (hall : Hal
       other_anchor = still answer d.wagon d.is_one ∙ reached.anchor
 
       other_digit : (j : ℕ) → j < n → sign_digit (elem other j) ≡ sign_digit (elem b' j)
-      other_digit j q = pos_inj (sign_digit (elem other j)) (sign_digit (elem b' j)) (sym (decoded_at other other_anchor j) ∙ other_at j q ∙ bit_digit (elem b' j))
+      other_digit j q = ap nat_abs (sym (decoded_at other other_anchor j) ∙ other_at j q ∙ bit_digit (elem b' j))
 
       allowed : wagons_moved n b' p ≤ k → within b answer d.wagon ≡ true
       allowed l =

@@ -2,17 +2,18 @@
 use Prim.Native.Nat.{ℕ, zero, suc, ◌+◌, ◌*◌, ◌-◌, ◌≤◌, ◌<◌}
 use native.Mathlib.Omega.{arith}
 use mathlib.Core.Bool.{Bool, true, false, cond}
-use mathlib.Core.List.{List, [], ◌∷◌, ◌++◌, map, map-append}
+use mathlib.Core.List.{List, [], ◌∷◌, ◌++◌, map, map-append, map-map}
 use mathlib.Core.Path.{◌≡◌, refl, sym, ap, ap₂, ◌∙◌, subst}
 use lib.IntN.{ℤ, pos, ◌+ℤ◌}
 use lib.Signed.{lt_z}
 use lib.ListN.{length, take, drop, get_or, length-map}
+use Rattle.std.proofs.lemmas.List.{take-map}
 use Rattle.laws.specs.Lists.{over}
 use Rattle.local_search.specs.LocalSearch.{All, insert, keep_best, best, children_of}
 use Rattle.sign_words.specs.Packed.{Tidy}
 use Rattle.local_search.specs.Level.{Choice, below, child_of, word_child, level_of, decoded, sign_level, Ascending, TidyChoice, TidyLevel}
 use Rattle.local_search.specs.SignSearch.{improving, improves_c, flip_c, children_c, child_at}
-use Rattle.local_search.specs.Children.{change_of, flip_w, listed_children, parent_of, better, Kept, Appended}
+use Rattle.local_search.specs.Children.{change_of, flip_w, listed_children, parent_of, better, Kept}
 use Rattle.local_search.proofs.LevelLaws.{level_empty, length_level_of, objectives_of, objectives_are, level_copied}
 use Rattle.local_search.proofs.All.{all_append, all_take}
 use Rattle.local_search.proofs.SearchLaws.{all_insert}
@@ -20,12 +21,11 @@ use Rattle.local_search.proofs.OrderLaws.{rising_keep}
 use Rattle.local_search.proofs.ExpandLaws.{choice_at, all_choices, parent_is}
 use Rattle.sign_words.proofs.PackedLaws.{unpacked_flip, tidy_flip}
 
-module _ (m : ℕ) where
-  take_map : (w : ℕ) (l : List Choice) → map (decoded m) (take w l) ≡ take w (map (decoded m) l)
-  take_map zero l = refl
-  take_map (suc w) [] = refl
-  take_map (suc w) (x ∷ l) = ap (λ (t : List Choice). decoded m x ∷ t) (take_map w l)
+pub cond_map : {X Y : Type 0} (f : X → Y) (b : Bool) (x : X) → map f (cond b (x ∷ []) []) ≡ cond b (f x ∷ []) []
+cond_map f true x = refl
+cond_map f false x = refl
 
+module _ (m : ℕ) where
   insert_map : (y : Choice) (l : List Choice) → map (decoded m) (insert below y l) ≡ insert below (decoded m y) (map (decoded m) l)
   unfolding insert below
   insert_map y [] = refl
@@ -41,7 +41,7 @@ module _ (m : ℕ) where
   keep_best_map w l [] = refl
   keep_best_map w l (y ∷ ys) =
       keep_best_map w (take w (insert below y l)) ys
-      ∙ ap (λ (t : List Choice). keep_best below w t (map (decoded m) ys)) (take_map w (insert below y l) ∙ ap (take w) (insert_map y l))
+      ∙ ap (λ (t : List Choice). keep_best below w t (map (decoded m) ys)) (sym (take-map (decoded m) w (insert below y l)) ∙ ap (take w) (insert_map y l))
 
   better_map : (b x : Choice) → decoded m (better b x) ≡ better (decoded m b) (decoded m x)
   unfolding below
@@ -64,10 +64,6 @@ module _ (m : ℕ) where
   decoded_child changes parent i h held =
       ap (λ (x : List ℕ). parent_of (parent.objective +ℤ get_or changes i (pos 0)) x) (unpacked_flip i parent.signs (omega arith) m h)
 
-  cond_map : (b : Bool) (x : Choice) → map (decoded m) (cond b (x ∷ []) []) ≡ cond b (decoded m x ∷ []) []
-  cond_map true x = refl
-  cond_map false x = refl
-
   children_map : (changes : List ℤ) (parent : Choice) (n : ℕ) → n ≤ m → m ≤ 64 * length parent.signs
       → map (decoded m) (listed_children changes n parent) ≡ children_c (change_of changes) (improves_c (change_of changes)) n (decoded m parent)
   unfolding improving
@@ -75,22 +71,14 @@ module _ (m : ℕ) where
   children_map changes parent (suc n) h held =
       map-append (decoded m) (listed_children changes n parent) (child_at (improves_c (change_of changes)) (flip_w changes) parent n)
       ∙ ap₂ ◌++◌ (children_map changes parent n (omega arith) held)
-      (cond_map (improves_c (change_of changes) parent n) (flip_w changes n parent)
+      (cond_map (decoded m) (improves_c (change_of changes) parent n) (flip_w changes n parent)
       ∙ ap (λ (x : Choice). cond (improves_c (change_of changes) parent n) (x ∷ []) []) (decoded_child changes parent n (omega arith) held))
-
-  pub decoded_children : (changes : List ℤ) (parent : Choice) → m ≤ 64 * length parent.signs
-      → map (decoded m) (listed_children changes m parent) ≡ children_c (change_of changes) (improves_c (change_of changes)) m (decoded m parent)
-  decoded_children changes parent held = children_map changes parent m (omega arith) held
 
   -- ---- what the level functions leave
 
   pub kept_decoded : (width : ℕ) (before children after : List Choice) (count : ℕ) → Kept width before children after count
       → Kept width (map (decoded m) before) (map (decoded m) children) (map (decoded m) after) count
   kept_decoded width before children after count p = record { level = ap (map (decoded m)) p.level ∙ keep_best_map width before children; room = p.room }
-
-  pub appended_decoded : (children after : List Choice) (count most : ℕ) → Appended [] children after count most
-      → Appended [] (map (decoded m) children) (map (decoded m) after) count most
-  appended_decoded children after count most p = record { level = ap (map (decoded m)) p.level; room = p.room }
 
 -- ---- a level's objectives and lengths
 
@@ -102,13 +90,9 @@ pub length_sign_level : (n m c : ℕ) (os : List ℤ) (s : List ℕ) → c ≤ l
 unfolding sign_level
 length_sign_level n m c os s h = length-map (level_of n c os s) (decoded m) ∙ length_level_of n c os s h
 
-objectives_decoded : (m : ℕ) (l : List Choice) → objectives_of (map (decoded m) l) ≡ objectives_of l
-objectives_decoded m [] = refl
-objectives_decoded m (x ∷ l) = ap (λ (t : List ℤ). x.objective ∷ t) (objectives_decoded m l)
-
 pub sign_level_objectives : (n m c : ℕ) (os : List ℤ) (s : List ℕ) → c ≤ length os → objectives_of (sign_level n m c os s) ≡ take c os
 unfolding sign_level
-sign_level_objectives n m c os s h = objectives_decoded m (level_of n c os s) ∙ objectives_are n c os s h
+sign_level_objectives n m c os s h = map-map (λ (x : Choice). x.objective) (decoded m) (level_of n c os s) ∙ objectives_are n c os s h
 
 pub sign_level_copied : (n m c : ℕ) (os os₀ os' : List ℤ) (s row rest : List ℕ) → c ≤ length os → c * n ≤ length s → os' ≡ over (take c os) os₀ → row ≡ take (c * n - 0) s
     → sign_level n m c os' (row ++ rest) ≡ sign_level n m c os s

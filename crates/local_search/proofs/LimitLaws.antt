@@ -1,5 +1,5 @@
 -- A child enters a level exactly where its objective is below the limit, so that those which are not leave the level as it is. Assumes nothing.
-use Prim.Native.Nat.{ℕ, zero, suc, ◌+◌, ◌-◌, ◌≤◌, ◌<◌}
+use Prim.Native.Nat.{ℕ, zero, suc, ◌-◌, ◌≤◌, ◌<◌}
 use native.Mathlib.Decide.{dec_lt, dec_le}
 use native.Mathlib.Numerals.{add-one}
 use native.Mathlib.Omega.{arith}
@@ -13,7 +13,7 @@ use lib.Signed.{lt_z}
 use lib.ListN.{length, take, get_or}
 use lib.Seq.{get_or-take, length-take-le}
 use Rattle.std.proofs.lemmas.Bool.{false_from_ne_true}
-use Rattle.laws.proofs.Integer.{lt_z_true, lt_z_false}
+use Rattle.std.proofs.lemmas.Int.{ints}
 use Rattle.local_search.specs.LocalSearch.{keep_best}
 use Rattle.local_search.specs.Level.{Choice, below, place_of, level_of, Ascending}
 use Rattle.local_search.specs.SignSearch.{improving, improves_c, child_at}
@@ -49,9 +49,9 @@ below_both x last o = go (lt_z last o) refl (lt_z x o) refl (lt_z x last) refl
   where
     go : (a : Bool) → lt_z last o ≡ a → (b : Bool) → lt_z x o ≡ b → (c : Bool) → lt_z x last ≡ c → cond b c false ≡ lt_z x (cond a last o)
     go true p true q c r = sym r
-    go true p false q c r = sym (false_from_ne_true (lt_z x last) (λ e. omega (arith, lt_z_true last o p, lt_z_false x o q, lt_z_true x last e)))
+    go true p false q c r = sym (false_from_ne_true (lt_z x last) (λ e. omega (arith, ints)))
     go false p true q true r = sym q
-    go false p true q false r = absurd (omega (arith, lt_z_false last o p, lt_z_true x o q, lt_z_false x last r))
+    go false p true q false r = absurd (omega (arith, ints))
     go false p false q c r = sym q
 
 module _ (width count : ℕ) (os : List ℤ) (x : ℤ) (fits : count ≤ length os) where
@@ -101,13 +101,6 @@ enters_below width count os changes parent i some few fits rising = go (dec_lt c
         ∙ below_both x (get_or os (count - 1) (pos 0)) o ∙ ap (lt_z x) (sym (limit_full width count os o (omega arith)))
 
 -- ---- the first that is below the limit
-
-pub one_more_passed : (test : ℕ → Bool) (from i : ℕ) → ((j : ℕ) → from ≤ j → j < i → test j ≡ false) → test i ≡ false → (j : ℕ) → from ≤ j → j < i + 1 → test j ≡ false
-one_more_passed test from i before e j p q = go (dec_lt j i)
-  where
-    go : Dec (j < i) → test j ≡ false
-    go (yes h) = before j p h
-    go (no n) = let same : i ≡ j = omega arith in subst (λ (k : ℕ). test k ≡ false) same e
 
 pub same_first : (changes : List ℤ) (o : ℤ) {limit limit' : ℤ} {from m : ℕ} {r : Option ℕ} → limit ≡ limit'
     → FirstFrom (below_limit changes o limit) from m r → FirstFrom (below_limit changes o limit') from m r

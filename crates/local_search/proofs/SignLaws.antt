@@ -2,7 +2,7 @@
 use Prim.Native.Nat.{ℕ, zero, suc, ◌+◌, ◌*◌, ◌≤◌, ◌<◌}
 use native.Mathlib.Omega.{arith}
 use mathlib.Core.Bool.{Bool, true, false, cond}
-use mathlib.Core.List.{List, [], ◌∷◌, ◌++◌, cons≢nil}
+use mathlib.Core.List.{List, [], ◌∷◌, ◌++◌, cons≢nil, append-eq-nil_iff}
 use native.Mathlib.Decide.{dec_lt}
 use mathlib.Core.Path.{◌≡◌, refl, sym, ap, ap₂, ◌∙◌, subst}
 use lib.Dec.{ltb}
@@ -11,20 +11,17 @@ use lib.Signed.{lt_z}
 use mir.Syntax.{w64}
 use mir.Val.{SFits}
 use lib.ListN.{length}
+use Rattle.std.specs.List.{AllZip}
 use Rattle.local_search.specs.LocalSearch.{All, Found, levels, Levels, found_in, searched}
 use Rattle.local_search.specs.Level.{Choice, below, flip_sign, child_of}
 use Rattle.local_search.specs.SignSearch.{improving, lower, improves, keeping, sign_search, improves_c, flip_c, children_c, Lawful}
 use Rattle.local_search.proofs.All.{all_append}
-use Rattle.local_search.proofs.Same.{All2, same_append, same_cond, same_searched}
+use Rattle.local_search.proofs.Same.{same_append, same_cond, same_searched}
 use Rattle.local_search.proofs.SearchLaws.{searched_improves, searched_levels, levels_end}
 use Rattle.local_search.proofs.Heights.{lt_z_heights, lt_z_change, falls_four}
 use Rattle.local_search.proofs.LevelLaws.{flipped_length}
 
 -- ---- children by index
-
-nils : {X : Type 0} (a b : List X) → a ++ b ≡ [] → (a ≡ []) × (b ≡ [])
-nils [] b e = (refl, e)
-nils (x ∷ a) b e = absurd (cons≢nil e)
 
 module _ {X : Type 0} (exists : X → ℕ → Bool) (flip : ℕ → X → X) (x : X) where
   all_improving : (P : X → Type 0) (n : ℕ) → ((i : ℕ) → i < n → exists x i ≡ true → P (flip i x)) → All P (improving exists flip n x)
@@ -43,7 +40,7 @@ module _ {X : Type 0} (exists : X → ℕ → Bool) (flip : ℕ → X → X) (x 
   none_improving (suc n) e i q = go (λ (h : i < n). none_improving n front.0 i h) (dec_lt i n)
     where
       front : (improving exists flip n x ≡ []) × (cond (exists x n) (flip n x ∷ []) [] ≡ [])
-      front = nils (improving exists flip n x) (cond (exists x n) (flip n x ∷ []) []) e
+      front = append-eq-nil_iff.0 e
 
       last : (b : Bool) → cond b (flip n x ∷ []) [] ≡ [] → b ≡ false
       last true h = absurd (cons≢nil h)
@@ -63,7 +60,7 @@ improving_ext {X} exists exists' flip flip' x (suc n) h =
     (ap₂ (λ (b : Bool) (y : X). cond b (y ∷ []) []) (h n (omega arith)).0 (h n (omega arith)).1)
 
 module _ {X Y : Type 0} (R : X → Y → Type 0) (exists : X → ℕ → Bool) (flip : ℕ → X → X) (exists' : Y → ℕ → Bool) (flip' : ℕ → Y → Y) (x : X) (y : Y) where
-  pub same_improving : (n : ℕ) → ((i : ℕ) → i < n → (exists x i ≡ exists' y i) × R (flip i x) (flip' i y)) → All2 R (improving exists flip n x) (improving exists' flip' n y)
+  pub same_improving : (n : ℕ) → ((i : ℕ) → i < n → (exists x i ≡ exists' y i) × R (flip i x) (flip' i y)) → AllZip R (improving exists flip n x) (improving exists' flip' n y)
   unfolding improving
   same_improving zero h = tt
   same_improving (suc n) h =
@@ -163,7 +160,7 @@ module _ (m : ℕ) (objective : List ℕ → ℤ) (change : List ℕ → ℕ →
     abbrev pub exists_c : Choice → ℕ → Bool
     exists_c c i = exists c.signs i
 
-    carried_children : (x : List ℕ) (c : Choice) → Carried x c → All2 Carried (improving exists flip_sign m x) (children_c change exists_c m c)
+    carried_children : (x : List ℕ) (c : Choice) → Carried x c → AllZip Carried (improving exists flip_sign m x) (children_c change exists_c m c)
     unfolding flip_c child_of
     carried_children x c r =
         same_improving Carried exists flip_sign exists_c (flip_c change) x c m

@@ -19,9 +19,6 @@ use Rattle.factor.specs.Multiply.{product_at, product_of}
 use Rattle.factor.proofs.Shaping.{length_product_row, length_product_of}
 use Rattle.maxcut_oracle.specs.Objective.{row_dot, multipliers}
 
-lt_of : (m i : ℕ) → i < suc m → (i ≡ m → ⊥) → i < m
-lt_of m i h n = omega (arith, n)
-
 -- the last of rows, and one before it
 last_row : (rank m : ℕ) (xs ys : List Float) → length xs ≡ m * rank → length ys ≡ rank → row_of rank (xs ++ ys) m ≡ ys
 last_row rank m xs ys l k = ap (λ (n : ℕ). take rank (drop n (xs ++ ys))) (sym l) ∙ ap (take rank) (drop-append_seam xs ys) ∙ take_all rank ys (omega arith)
@@ -38,7 +35,7 @@ module _ (cols : List ℕ) (values : List Float) (starts : List ℕ) (factor : L
   next_row m i h (yes e) before =
       rw e (last_row rank m (product_of cols values starts factor rank m) (product_at cols values starts factor rank m) (length_product_of cols values starts factor rank m) (length_product_row _ _ factor rank))
   next_row m i h (no n) before =
-      let below : i < m = lt_of m i h n in
+      let below : i < m = omega arith in
       row_before rank i (product_of cols values starts factor rank m) _ (rw (length_product_of cols values starts factor rank m) (row_within i m rank below)) ∙ before below
 
   pub product_row_lem : (m i : ℕ) → i < m → row_of rank (product_of cols values starts factor rank m) i ≡ product_at cols values starts factor rank i

@@ -10,7 +10,8 @@ use lib.ListN.{length}
 use lib.IntN.{ℤ, pos, nat_abs, ◌*ℤ◌, *ℤ-zero, zero-*ℤ}
 use Rattle.laws.specs.Sum.{sum, sum₂, total}
 use Rattle.laws.specs.Lists.{elem}
-use Rattle.laws.proofs.Integer.{abs_add, abs_mul, times_one}
+use Rattle.std.proofs.lemmas.Int.{unsigned_abs-mul}
+use Rattle.laws.proofs.Integer.{abs_add, times_one}
 use Rattle.laws.proofs.Sums.{sum_abs}
 use Rattle.laws.proofs.Totals.{onlyℕ, total_ext, total_mono, total_zero, total_add, total_swap}
 use Rattle.tables.specs.Table.{Table, InRange, Mirrored, Symmetric, magnitude_of, value_at, stored_at}
@@ -204,8 +205,8 @@ module _ (n : ℕ) (h : Table) (c : ℕ → ℤ) (states : List ℕ) where
       omega (
         arith,
         abs_add (pos 4 *ℤ q) (pos 8 *ℤ l),
-        abs_mul (pos 4) q,
-        abs_mul (pos 8) l,
+        unsigned_abs-mul (pos 4) q,
+        unsigned_abs-mul (pos 8) l,
         square_abs,
         sum_abs n (λ i. c i *ℤ held_at states i),
         total_mono n _ (λ i. hd n states i (nat_abs (c i))) (λ i b. held_le i (c i)),

@@ -10,7 +10,6 @@ use lib.ListN.{length, take, drop}
 use lib.Seq.{get_or-take, length-take-le}
 use lib.IntN.{ℤ}
 use Rattle.laws.specs.Lists.{elem, tabulate, over}
-use Rattle.laws.proofs.Any.{never}
 use Rattle.laws.proofs.Made.{get_d_tabulate, tabulate_get_d}
 use Rattle.tables.specs.Table.{Table, value_at}
 use Rattle.tables.specs.Cost.{bit, choice_at, cost_eighths}
@@ -50,7 +49,7 @@ module _ (n : ℕ) (states b : List ℕ) (long : n ≤ length states) where
   lifted_held i h f = go (stands i h)
     where
       go : {y : ℕ} → Last (elem (free_of n states)) (elem b) (length (free_of n states)) i (elem states i) y → y ≡ elem states i
-      go (found j l e rest) = never (sym f ∙ sym (ap (is_free states) e) ∙ (free_map n states).free j l)
+      go (found j l e rest) = cc ((free_map n states).free j l)
       go (none away) = refl
 
   -- the theorem: it keeps the held wagons

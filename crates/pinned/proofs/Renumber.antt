@@ -16,7 +16,6 @@ use lib.Seq.{get_or-append_seam}
 use lib.Dec.{ltb}
 use lib.IntN.{pos}
 use Rattle.laws.specs.Lists.{elem, kept, only_if}
-use Rattle.laws.proofs.Any.{never}
 use Rattle.laws.proofs.Made.{below_or_not, tabulate_get_d, kept_lengths}
 use Rattle.tables.specs.Table.{Table, Before, InRange, Rising, value_at}
 use Rattle.tables.specs.Stored.{places, rows_of, cols_of, values_of, stored_table}
@@ -131,10 +130,6 @@ module _ (n : ℕ) (states : List ℕ) where
 
 -- ---- the entries
 
-both : (s t : Bool) → cond s t false ≡ true → (s ≡ true) × (t ≡ true)
-both true t e = (refl, e)
-both false t e = absurd (never e)
-
 -- entry l is free
 abbrev pub among_free : Table → List ℕ → ℕ → Bool
 among_free h states l = cond (is_free states (h.row l)) (is_free states (h.column l)) false
@@ -166,7 +161,7 @@ module _ {n : ℕ} {h : Table} (small : n ≤ 65536) (r : InRange n h) (ri : Ris
   them = picked h.count (among_free h states)
 
   free_both : (k : ℕ) → k < length ks → (is_free states (h.row (elem ks k)) ≡ true) × (is_free states (h.column (elem ks k)) ≡ true)
-  free_both k b = both (is_free states (h.row (elem ks k))) (is_free states (h.column (elem ks k))) (them.free k b)
+  free_both k b = let e = them.free k b in (grind arith, grind arith)
 
   row_in : (k : ℕ) → k < length ks → (place_of states (h.row (elem ks k)) < length free) × (elem free (place_of states (h.row (elem ks k))) ≡ h.row (elem ks k))
   row_in k b = place_in n states (h.row (elem ks k)) (r.rows_in (elem ks k) (them.below k b)) (free_both k b).0

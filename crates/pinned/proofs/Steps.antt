@@ -16,7 +16,8 @@ use lib.Dec.{eqb}
 use lib.IntN.{ℤ, pos, nat_abs, ◌+ℤ◌, ◌*ℤ◌, *ℤ-zero, +ℤ_idr}
 use Rattle.laws.specs.Sum.{sum, sum₂, only}
 use Rattle.laws.specs.Lists.{elem, elem_z, kept, over, fill, tabulate, put_if, next_if}
-use Rattle.laws.proofs.Integer.{parts, differences, ring, abs_add, abs_mul, fits_abs, times_one, mul_left_comm}
+use Rattle.std.proofs.lemmas.Int.{unsigned_abs-mul, fits_signed_from_abs}
+use Rattle.laws.proofs.Integer.{parts, differences, ring, abs_add, times_one, mul_left_comm}
 use Rattle.laws.proofs.Sums.{Held, sum_more, sum_ext, sum_add, sum_scale, sum₂_ext, sum_bounded, total_at, only_yes, only_no}
 use Rattle.laws.proofs.Made.{kept_next, kept_count, length_tabulate, get_d_tabulate, tabulate_ext, tabulate_next, tabulate_get_d, tabulate_replicate}
 use Rattle.laws.proofs.MapFirst.{get_d_map_first}
@@ -90,7 +91,7 @@ module _ (h : Table) (b : List ℕ) where
 
   cost_fits : (n i : ℕ) (c : ℕ → ℤ) → i < n → hall_magnitude n h c ≤ most_magnitude → SFits w64 (beside_sum h c (choice_at b) i)
   cost_fits n i c l small =
-      fits_abs _ (omega (arith, abs_add (c i) (sum h.count (beside_term h (choice_at b) i)), beside_abs i h.count (le_refl h.count), total_at n i (λ j. nat_abs (c j)) l))
+      fits_signed_from_abs w64 _ (omega (arith, abs_add (c i) (sum h.count (beside_term h (choice_at b) i)), beside_abs i h.count (le_refl h.count), total_at n i (λ j. nat_abs (c j)) l))
 
   -- before the first entry
   pub sums_none : (m : ℕ) → replicate m (pos 0) ≡ tabulate (λ i. sum 0 (beside_term h (choice_at b) i)) m
@@ -107,7 +108,7 @@ module _ (h : Table) (b : List ℕ) where
         ap₂ ◌+ℤ◌ row_sum (sym (only_yes (h.row l) (h.row l) (term l) refl)) ∙ sym (sum_more l (beside_term h (choice_at b) (h.row l)))
 
     pub row_fits : l < h.count → magnitude_of h ≤ most_magnitude → SFits w64 (elem_z sums (h.row l) +ℤ term l)
-    row_fits few small = fits_abs _ (rw row_more (omega (arith, beside_abs (h.row l) (l + 1) (omega arith))))
+    row_fits few small = fits_signed_from_abs w64 _ (rw row_more (omega (arith, beside_abs (h.row l) (l + 1) (omega arith))))
 
     pub sums_next : set sums (h.row l) (elem_z sums (h.row l) +ℤ term l) ≡ tabulate (λ i. sum (l + 1) (beside_term h (choice_at b) i)) m
     sums_next =
@@ -205,12 +206,12 @@ module _ (n : ℕ) (c s : ℕ → ℤ) (b : List ℕ) (few : n ≤ most_wagons) 
       go zero = rw (*ℤ-zero (pos 4 *ℤ s i +ℤ pos 8 *ℤ c i)) (omega arith)
       go (suc x) =
           rw (times_one (pos 4 *ℤ s i +ℤ pos 8 *ℤ c i))
-          (omega (arith, abs_add (pos 4 *ℤ s i) (pos 8 *ℤ c i), abs_mul (pos 4) (s i), abs_mul (pos 8) (c i), small i l))
+          (omega (arith, abs_add (pos 4 *ℤ s i) (pos 8 *ℤ c i), unsigned_abs-mul (pos 4) (s i), unsigned_abs-mul (pos 8) (c i), small i l))
 
   pub constant_sums : Held n (held_term c s (choice_at b))
   unfolding sum
   constant_sums =
-      record { next = λ k l. fits_abs _ (omega (arith, sum_small n (4 * most_magnitude) (held_term c s (choice_at b)) own_le (suc k) l)) }
+      record { next = λ k l. fits_signed_from_abs w64 _ (omega (arith, sum_small n (4 * most_magnitude) (held_term c s (choice_at b)) own_le (suc k) l)) }
 
 -- ---- the whole
 
@@ -279,7 +280,7 @@ cost_next f k xs ys h e g = rw g (tabulate_next f k xs ys (pos 0) h e)
 
 pub constant_held : {most capacity limit n : ℕ} {h : Table} {c : ℕ → ℤ} → Hall most capacity limit n h c → limit ≤ most_magnitude → (states : List ℕ) {constant : ℤ} → constant ≡ held_cost n h c states → to_z w64 (of_z w64 constant) ≡ constant
 constant_held {n = n} {h = h} {c = c} ok small states {constant} e =
-    to_z-of_z (fits_abs constant (rw e (omega (arith, reduce_magnitude n h c states ok.in_range (hall_symmetric ok), ok.magnitude))))
+    to_z-of_z (fits_signed_from_abs w64 constant (rw e (omega (arith, reduce_magnitude n h c states ok.in_range (hall_symmetric ok), ok.magnitude))))
 
 -- ---- the fronts of the slices are the reduced (H, c)
 

@@ -4,7 +4,7 @@ use mathlib.Core.Path.{◌≡◌, refl, sym, ◌∙◌, ap, ap₂}
 use mathlib.Core.Logic.{◌⊎◌, inl, inr}
 use mathlib.Core.Bool.{Bool, true, false, cond}
 use mathlib.Core.List.{List, ◌++◌, append-nil}
-use Prim.Native.Nat.{ℕ, zero, suc, ◌+◌, ◌-◌, ◌<◌, ◌≤◌}
+use Prim.Native.Nat.{ℕ, zero, suc, ◌+◌, ◌<◌, ◌≤◌}
 use native.Mathlib.Omega.{arith}
 use native.Mathlib.Nat.{zero-add}
 use native.Mathlib.Numerals.{add-one}
@@ -14,7 +14,6 @@ use lib.Seq.{sets, sets-eq, set-set}
 use lib.Dec.{ltb}
 use lib.IntN.{ℤ, pos}
 use Rattle.laws.specs.Lists.{elem, kept, over, fill, only_if, put_if, next_if}
-use Rattle.laws.proofs.Any.{never}
 use Rattle.laws.proofs.Made.{below_or_not, length_kept, kept_lengths, kept_next, kept_count}
 use Rattle.laws.proofs.MapFirst.{get_d_map_first}
 use Rattle.tables.specs.Table.{Table}
@@ -49,26 +48,10 @@ module _ (places : List ℕ) (row column : ℕ → ℕ) (l : ℕ) where
   entry_column h = rw (lt-ltb (elem places (row l)) most_wagons h)
 
 pub put_none : {A : Type 0} {keep : Bool} (at : ℕ) (x : A) (xs : List A) → keep ≡ false → Put keep at x xs xs
-put_none at x xs e = record { here = λ t. absurd (never (sym e ∙ t)); others = λ v. refl }
+put_none at x xs e = record { here = λ t. cc; others = λ v. refl }
 
 pub put_here : {A : Type 0} (keep : Bool) (at : ℕ) (x : A) (xs : List A) → Put keep at x xs (set xs at x)
 put_here keep at x xs = record { here = λ t. refl; others = λ v. set-set xs at x v }
-
--- ---- the last one, looked for from behind
-
-module _ {keep : ℕ → Bool} {count end : ℕ} (up : end ≤ count) (beyond : (l : ℕ) → end ≤ l → l < count → keep l ≡ false) where
-  pub last_found : keep (end - 1) ≡ true → LastFree keep count end
-  last_found e = record { inside = up; beyond = beyond; last = λ l q. let s : l ≡ end - 1 = omega arith in ap keep s ∙ e }
-
-  pub last_none : end ≤ 0 → LastFree keep count end
-  last_none z = record { inside = up; beyond = beyond; last = λ l q. absurd (omega arith) }
-
-  pub last_further : keep (end - 1) ≡ false → (l : ℕ) → end - 1 ≤ l → l < count → keep l ≡ false
-  last_further e l a b = go (below_or_not l end)
-    where
-      go : (l < end) ⊎ (end ≤ l) → keep l ≡ false
-      go (inl h) = let s : l ≡ end - 1 = omega arith in ap keep s ∙ e
-      go (inr h) = beyond l h b
 
 -- ---- entry after entry: behind those that are kept one place may hold anything, and doesn't where the last one is kept
 
@@ -92,7 +75,7 @@ module _ {A : Type 0} (keep : ℕ → Bool) (f : ℕ → A) where
           record { whole = λ _. all; others = λ v. ap (λ (zs : List A). set zs (at + 1) v) all }
       go false k q n =
           record {
-            whole = λ last. absurd (never (sym k ∙ last l (sym (add-one l))));
+            whole = λ last. cc (last l (sym (add-one l)));
             others = λ v. q.others v ∙ w.others v ∙ ap (λ (zs : List A). set zs at v) n;
           }
 

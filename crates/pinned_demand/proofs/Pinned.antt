@@ -16,8 +16,8 @@ use lib.Seq.{take_at, get_or-take}
 use lib.Signed.{◌≤ℤ◌}
 use Rattle.laws.specs.Turns.{up_to}
 use Rattle.laws.specs.Lists.{elem, over}
-use Rattle.laws.proofs.Any.{never}
-use Rattle.laws.proofs.Integer.{parts, differences, ring, integers, add_parts}
+use Rattle.std.proofs.lemmas.Int.{ints}
+use Rattle.laws.proofs.Integer.{parts, differences, ring}
 use Rattle.tables.specs.Table.{Table, value_at}
 use Rattle.tables.specs.Cost.{bit, choice_at}
 use Rattle.tables.specs.Check.{Hall}
@@ -45,7 +45,7 @@ differ_free n states b b' d s =
 -- ---- whole numbers
 
 pub add_le : (a b k : ℤ) → a ≤ℤ b → (a +ℤ k) ≤ℤ (b +ℤ k)
-add_le a b k h = omega (integers, add_parts a k, add_parts b k)
+add_le a b k h = omega (arith, ints)
 
 pub same_fall : (a b k : ℤ) → a -ℤ b ≡ (a +ℤ k) -ℤ (b +ℤ k)
 same_fall a b k = rw (parts a, parts b, parts k) (simp differences (omega ring))
@@ -124,7 +124,7 @@ module _ {most capacity limit n : ℕ} {h : Table} {c : ℕ → ℤ} (hall : Hal
     one : (b' : List ℕ) (d : DifferInOne n b b') → is_free states d.wagon ≡ true → (cost +ℤ K) ≤ℤ cost_of n h c b'
     one b' d free =
         let (k, l, q) = (free_map n states).has d.wagon d.is_one free in
-        beside b' (record { same = λ i a e. sym (d.others i a (λ s. never (sym e ∙ ap (is_free states) s ∙ free))) ∙ ap bit (held_byte_lem i a e) })
+        beside b' (record { same = λ i a e. sym (d.others i a (λ s. cc)) ∙ ap bit (held_byte_lem i a e) })
         (d3.one_wagon (free_part n states b') (record {
           wagon = k;
           is_one = l;

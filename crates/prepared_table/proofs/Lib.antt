@@ -1,5 +1,4 @@
 pub mod Examples
 pub mod Preparing
 pub mod Starting
-pub mod Zero
 pub mod MadeTables

@@ -17,7 +17,6 @@ use lib.Dec.{ltb}
 use mathlib.Core.Logic.{⊎_elim}
 use lib.ListN.{length, get_or, take, drop, length-drop}
 use lib.Seq.{get_or-take, get_or-drop, length-take-le}
-use Rattle.laws.proofs.Any.{never}
 use Rattle.laws.proofs.Made.{below_or_not}
 use Rattle.prepared_table.specs.Work.{start_past, row_start}
 
@@ -75,7 +74,7 @@ module _ (rows : List ℕ) (i from : ℕ) (reached : from ≤ row_start rows i) 
 
 past_rise : (a b : Bool) (n m : ℕ) → (a ≡ true → b ≡ true) → n ≤ m → start_past a n ≤ start_past b m
 past_rise true true n m k h = suc-le-suc h
-past_rise true false n m k h = never (k refl)
+past_rise true false n m k h = cc (k refl)
 past_rise false b n m k h = zero-le
 
 pub start_rise : (rows : List ℕ) (i : ℕ) → row_start rows i ≤ row_start rows (i + 1)

@@ -10,8 +10,9 @@ use lib.Dec.{ltb}
 use lib.IntN.{ℤ, nat_abs}
 use lib.Signed.{◌≤ℤ◌, lt_z}
 use Rattle.laws.specs.Lists.{elem, elem_z}
-use Rattle.laws.proofs.Any.{below_false, or_left, or_right}
-use Rattle.laws.proofs.Integer.{lt_z_false, parts_le}
+use Rattle.std.proofs.lemmas.Bool.{or_parts}
+use Rattle.laws.proofs.Any.{below_false}
+use Rattle.std.proofs.lemmas.Int.{ints}
 use Rattle.laws.proofs.Refusal.{first_head, first_rest, clear}
 use Rattle.laws.proofs.Totals.{total_mono}
 use Rattle.limits.specs.Limits.{most_wagons, most_entries, most_magnitude}
@@ -28,7 +29,7 @@ use Rattle.ranged_finish.proofs.Mono.{value_mono}
 -- no low end above its high one
 pub not_above : (k : ℕ) (low high : ℕ → ℤ) → above k low high ≡ false → (i : ℕ) → i < k → low i ≤ℤ high i
 unfolding above
-not_above k low high e i h = parts_le (lt_z_false (high i) (low i) (below_false (λ j. lt_z (high j) (low j)) k e i h))
+not_above k low high e i h = omega (arith, ints, below_false (λ j. lt_z (high j) (low j)) k e i h)
 
 module _ (t : RangedTable) (ok : ranged_number t ≡ 0) where
   -- the six tests
@@ -75,11 +76,11 @@ module _ (t : RangedTable) (ok : ranged_number t ≡ 0) where
       }
 
   pub low_hall : HallOf (low_of t)
-  low_hall = hall t.low t.low_c (or_left _ _ tests.mirror_test) (λ k. le-max_left _ _) (λ i. le-max_left _ _)
+  low_hall = hall t.low t.low_c (or_parts _ _ tests.mirror_test).0 (λ k. le-max_left _ _) (λ i. le-max_left _ _)
 
   pub high_hall : HallOf (high_of t)
   high_hall =
-      hall t.high t.high_c (or_right (unmirrored (quadratic (low_of t))) (unmirrored (quadratic (high_of t))) tests.mirror_test) (λ k. le-max_right _ _) (λ i. le-max_right _ _)
+      hall t.high t.high_c (or_parts (unmirrored (quadratic (low_of t))) (unmirrored (quadratic (high_of t))) tests.mirror_test).1 (λ k. le-max_right _ _) (λ i. le-max_right _ _)
 
   -- neither end is refused by a number of its own
   pub low_number : cost_table_number (low_of t) ≡ 0

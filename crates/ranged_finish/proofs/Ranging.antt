@@ -8,16 +8,17 @@ use mathlib.Core.Path.{◌≡◌, refl, subst, subst₂}
 use mathlib.Core.Bool.{Bool, true, false}
 use mathlib.Core.List.{List}
 use Prim.Native.Nat.{ℕ, ◌<◌}
+use native.Mathlib.Omega.{arith}
 use lib.IntN.{ℤ, pos}
-use lib.Signed.{◌≤ℤ◌}
+use lib.Signed.{◌≤ℤ◌, ≤ℤ_refl}
 use Rattle.laws.specs.Lists.{elem, elem_z}
-use Rattle.laws.proofs.Integer.{integers}
+use Rattle.std.proofs.lemmas.Int.{ints}
 use Rattle.tables.specs.Table.{value_at, stored_at}
 use Rattle.tables.proofs.Mirrors.{value_here, stored_true, stored_false, value_none}
 use Rattle.tables.specs.CostTable.{quadratic, linear}
 use Rattle.ranged_finish.specs.Ranged.{RangedTable, with_values, low_of, high_of, Within, WithinEach}
 use Rattle.ranged_finish.specs.Numbers.{ranged_number}
-use Rattle.ranged_finish.proofs.Mono.{le_same, value_mono}
+use Rattle.ranged_finish.proofs.Mono.{value_mono}
 use Rattle.ranged_finish.proofs.Halls.{low_hall, high_hall, value_le, cost_le}
 
 pub stored_within : (t : RangedTable) (values c : List ℤ)
@@ -34,10 +35,10 @@ stored_within t values c from to from-c to-c =
 
 module _ (t : RangedTable) (ok : ranged_number t ≡ 0) where
   pub low_in : Within t (value_at (quadratic (low_of t))) (linear (low_of t))
-  low_in = record { from_low = λ i j h k. le_same _; to_high = λ i j h k. value_le t ok i j; from_low_c = λ i h. le_same _; to_high_c = λ i h. cost_le t ok i h }
+  low_in = record { from_low = λ i j h k. ≤ℤ_refl _; to_high = λ i j h k. value_le t ok i j; from_low_c = λ i h. ≤ℤ_refl _; to_high_c = λ i h. cost_le t ok i h }
 
   pub high_in : Within t (value_at (quadratic (high_of t))) (linear (high_of t))
-  high_in = record { from_low = λ i j h k. value_le t ok i j; to_high = λ i j h k. le_same _; from_low_c = λ i h. cost_le t ok i h; to_high_c = λ i h. le_same _ }
+  high_in = record { from_low = λ i j h k. value_le t ok i j; to_high = λ i j h k. ≤ℤ_refl _; from_low_c = λ i h. cost_le t ok i h; to_high_c = λ i h. ≤ℤ_refl _ }
 
   -- at an entry's place stand its own two ends
   low_here : (k : ℕ) → k < t.count → value_at (quadratic (low_of t)) (elem t.rows k) (elem t.cols k) ≡ elem_z t.low k
@@ -60,13 +61,13 @@ module _ (t : RangedTable) (ok : ranged_number t ≡ 0) where
         from i j h k true e =
             let (l, m, p, q) = stored_true (quadratic (low_of t)) i j e in
             subst₂ (λ (x y : ℕ). value_at (quadratic (low_of t)) x y ≤ℤ H x y) p q (rw (low_here l m) (w.entry_from l m))
-        from i j h k false e = rw (value_none (quadratic (low_of t)) i j (stored_false (quadratic (low_of t)) i j e), w.elsewhere i j h k e) (le_same (pos 0))
+        from i j h k false e = rw (value_none (quadratic (low_of t)) i j (stored_false (quadratic (low_of t)) i j e), w.elsewhere i j h k e) (≤ℤ_refl (pos 0))
 
         to : (i j : ℕ) → i < t.n → j < t.n → (s : Bool) → stored_at (quadratic (low_of t)) i j ≡ s → H i j ≤ℤ value_at (quadratic (high_of t)) i j
         to i j h k true e =
             let (l, m, p, q) = stored_true (quadratic (low_of t)) i j e in
             subst₂ (λ (x y : ℕ). H x y ≤ℤ value_at (quadratic (high_of t)) x y) p q (rw (high_here l m) (w.entry_to l m))
-        to i j h k false e = rw (value_none (quadratic (high_of t)) i j (stored_false (quadratic (low_of t)) i j e), w.elsewhere i j h k e) (le_same (pos 0))
+        to i j h k false e = rw (value_none (quadratic (high_of t)) i j (stored_false (quadratic (low_of t)) i j e), w.elsewhere i j h k e) (≤ℤ_refl (pos 0))
 
     pub within_each : Within t H c → WithinEach t H c
     within_each w =
@@ -86,4 +87,4 @@ module _ (t : RangedTable) (ok : ranged_number t ≡ 0) where
         cols_in = (low_hall t ok).in_range.cols_in
 
         between_zeros : (i j : ℕ) {a b : ℤ} → a ≡ pos 0 → b ≡ pos 0 → a ≤ℤ H i j → H i j ≤ℤ b → H i j ≡ pos 0
-        between_zeros i j p q h k = omega (integers, p, q, h, k)
+        between_zeros i j p q h k = omega (arith, ints)

@@ -5,6 +5,7 @@ use mathlib.Core.Path.{◌≡◌, refl, sym, ap, subst}
 use mathlib.Core.Bool.{false}
 use mathlib.Core.List.{List}
 use Prim.Native.Nat.{ℕ, ◌≤◌}
+use native.Mathlib.Omega.{arith}
 use lib.IntN.{ℤ}
 use lib.Signed.{◌≤ℤ◌}
 use lib.Ieee.{Float}
@@ -13,7 +14,7 @@ use borrow.Author.Tests.{le-ltb}
 use Rattle.std.specs.Prelude.{Result, Ok, Err}
 use Rattle.std.specs.Result.{result_unwrap_or}
 use Rattle.laws.proofs.Any.{any_head, any_rest}
-use Rattle.laws.proofs.Integer.{integers}
+use Rattle.std.proofs.lemmas.Int.{ints}
 use Rattle.limits.specs.Limits.{most_wagons, most_entries}
 use Rattle.tables.specs.Table.{value_at, Lent}
 use Rattle.tables.specs.Cost.{cost_eighths, choice_at}
@@ -45,9 +46,6 @@ module _ (t : RangedTable) where
   high_most : (H : ℕ → ℕ → ℤ) (c : ℕ → ℤ) → Within t H c → (b : List ℕ) → cost_eighths t.n H c (choice_at b) ≤ℤ cost_eighths t.n (value_at (quadratic (high_of t))) (linear (high_of t)) (choice_at b)
   high_most H c w b = cost_mono t.n H (value_at (quadratic (high_of t))) c (linear (high_of t)) b w.to_high w.to_high_c
 
-  through : {a b c : ℤ} → a ≤ℤ b → b ≤ℤ c → a ≤ℤ c
-  through {a} {b} {c} h k = omega (integers, h, k)
-
   pub ranges_hold : (b : List ℕ) {low high floor : ℤ} → ranged_number t ≡ 0 → Figures t b low high floor → Ranges t b low high floor
   unfolding floor_eighths
   ranges_hold b ok f =
@@ -55,7 +53,7 @@ module _ (t : RangedTable) where
         between = λ H c w. (rw f.low_is (low_least H c w b), rw f.high_is (high_most H c w b));
         low_reached = record { values = t.low; c = t.low_c; accepted = low_number t ok; within = low_in t ok; costs = sym f.low_is };
         high_reached = record { values = t.high; c = t.high_c; accepted = high_number t ok; within = high_in t ok; costs = sym f.high_is };
-        under = λ H c w b''. rw f.floor_is (through (floor_le_choice (low_hall t ok) b'') (low_least H c w b''));
+        under = λ H c w b''. rw f.floor_is (omega (arith, ints, floor_le_choice (low_hall t ok) b'', low_least H c w b''));
       }
 
 -- ---- the call's contract

@@ -1,6 +1,6 @@
 -- A job of version 1, and any that isn't of version 2 or 3, is answered as before there were pins; and one of version 1 or 2, and any that isn't of
 -- version 3, as before there were larger houses. Assumes nothing.
---     as_before, as-two    the whole answer: number and bytes
+--     as_before, as_two    the whole answer: number and bytes
 use Prim.Native.Nat.{ℕ, zero, suc}
 use mathlib.Core.Path.{◌≡◌, refl, sym, ap, ap₂, ◌∙◌}
 use mathlib.Core.List.{List}

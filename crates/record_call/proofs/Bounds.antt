@@ -4,10 +4,9 @@ use native.Mathlib.Omega.{arith}
 use mathlib.Core.Path.{◌≡◌, refl, sym, ap, ◌∙◌, subst}
 use mathlib.Core.List.{List}
 use lib.ListN.{get_or}
-use lib.IntN.{ℤ, ◌+ℤ◌, ◌-ℤ◌}
+use lib.IntN.{ℤ, ◌-ℤ◌, +ℤ-neg_ℤ_cancel}
 use lib.Ieee.{Float}
 use Rattle.laws.specs.Lists.{over}
-use Rattle.laws.proofs.Integer.{parts, differences, ring}
 use Rattle.float_bound.specs.Below.{AtMostEighths}
 use Rattle.finalize.specs.Finalize.{cost_of, float_bound}
 use Rattle.pinned.specs.Pinned.{free_table, free_part, Keeps}
@@ -25,12 +24,6 @@ use Rattle.record_call.specs.Promise.{BoundPromised}
 use Rattle.record_call.proofs.Freed.{job_hall, run_hall, states_whole, no_pins}
 use Rattle.record_call.proofs.Promise.{fields_read_lem}
 
-back : (x k : ℤ) → x ≡ (x +ℤ k) -ℤ k
-back x k = rw (parts x, parts k) (simp differences (omega ring))
-
-less : (x y k : ℤ) → x +ℤ k ≡ y → x ≡ y -ℤ k
-less x y k e = back x k ∙ ap (λ (z : ℤ). z -ℤ k) e
-
 abbrev of_table : CostTable → List ℕ → ℤ
 of_table t b = cost_of t.n (quadratic t) (linear t) b
 
@@ -46,7 +39,7 @@ module _ (s : List ℕ) (e : job_number s ≡ 0) where
   -- what a choice that keeps the pins costs by it
   part : (b : List ℕ) → Keeps (job_costs s).n (job_states s) b → of_table (run_costs s) (free_part (job_costs s).n (job_states s) b) ≡ of_table (job_costs s) b -ℤ pinned_cost s
   unfolding run_costs reduced_costs free_table pinned_cost
-  part b keeps = less _ _ _ (part_cost (job_hall s e) (job_states s) (omega (arith, states_whole s)) b keeps)
+  part b keeps = sym (+ℤ-neg_ℤ_cancel _ _) ∙ ap (λ (z : ℤ). z -ℤ pinned_cost s) (part_cost (job_hall s e) (job_states s) (omega (arith, states_whole s)) b keeps)
 
   of_keeping : (b : List ℕ) → Keeps (job_costs s).n (job_states s) b → AtMostEighths (job_fields s).float_bound (of_table (job_costs s) b -ℤ pinned_cost s)
   of_keeping b keeps = subst (AtMostEighths (job_fields s).float_bound) (part b keeps) (of_run (free_part (job_costs s).n (job_states s) b))

@@ -1,8 +1,8 @@
 -- From what the calls of a run promise to what an accepted job's run is. Assumes nothing.
---     at-fronts, cut    H and c, stored at the fronts of slices, and lent on from there
---     reduced-run, unpinned-run    the (H, c) of the run
---     run-fields, lifted-choice    the answer
---     opened-run, swept-run, unswept-run, finished    open, sweep and finish of a decoded job
+--     at_fronts, cut    H and c, stored at the fronts of slices, and lent on from there
+--     reduced_run, unpinned_run    the (H, c) of the run
+--     run_fields, lifted_choice    the answer
+--     opened_run, swept_run, unswept_run, finished    open, sweep and finish of a decoded job
 use Rattle.std.specs.Prelude.{Result, Ok}
 use Prim.Native.Nat.{ℕ, ◌+◌, ◌*◌, ◌≤◌, ◌<◌}
 use mathlib.Core.Path.{◌≡◌, refl, sym, ap, subst, ◌∙◌}
@@ -424,8 +424,3 @@ module _ {s : List ℕ} {j : Job} {costs : CostTable} {start : List Float} (d : 
       let r : rank ≡ open_rank (job_settings (run_costs s) s) = is ∙ sym (rank_is s d.accepted) in
       let within : (j.free + 1) * rank ≤ most_factor = mul-le-mul {n₁ = j.free + 1} {m₁ = rank} {n₂ = most_signs} {m₂ = most_rank} (omega arith) (rw r (rank_few s d.accepted)) in
       (omega arith, omega (arith, within), rw (r, n, ← (size_is s d.accepted)))
-
--- ---- answers
-
-pub same_ok : {A : Type 0} {answer : Result A ℕ} {x y : A} → answer ≡ Ok x → answer ≡ Ok y → x ≡ y
-same_ok p q = cc

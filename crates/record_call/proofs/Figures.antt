@@ -1,7 +1,7 @@
 -- Every field of an accepted job's answer fits its bytes. Assumes nothing.
 --     demanded       demand 3 of what a finish finds
---     run-finish     what the finish of a job's run finds, as that of the reduced (H, c)
---     figures-fit    with the constant, too, an i64 holds the figures
+--     run_finish     what the finish of a job's run finds, as that of the reduced (H, c)
+--     figures_fit    with the constant, too, an i64 holds the figures
 --     held           the fields of a job's answer
 use Prim.Native.Nat.{ℕ, zero, suc, ◌+◌, ◌*◌, ◌^◌, ◌≤◌, ◌<◌}
 use native.Mathlib.Nat.{lt_of_le_of_lt, pow-suc}
@@ -10,11 +10,11 @@ use mathlib.Core.Path.{◌≡◌, refl}
 use mathlib.Core.List.{List}
 use lib.Dec.{T}
 use lib.ListN.{get_or}
-use lib.IntN.{ℤ, pos, neg_ℤ, nat_abs, ◌-ℤ◌}
+use lib.IntN.{ℤ, pos, nat_abs, ◌-ℤ◌}
 use lib.Ieee.{Float, binary64, fits}
 use lib.Ieee.Fits.{add-fits, sub-fits}
 use lib.Signed.{◌≤ℤ◌}
-use Rattle.laws.proofs.Integer.{integers, abs_parts, add_parts, neg-⁺, neg-⁻}
+use Rattle.std.proofs.lemmas.Int.{ints}
 use Rattle.laws.proofs.Made.{over_all}
 use Rattle.tables.specs.Table.{Table, magnitude_of}
 use Rattle.tables.specs.Bound.{entrywise}
@@ -77,7 +77,7 @@ module _ {n : ℕ} {h : Table} {c : ℕ → ℤ} (hall : Hall most_wagons most_e
         demanded.rounds_few rounded_low cost_low
       where
         few : (rounds : ℕ) (a b : ℤ) → pos (4 * rounds) ≤ℤ (a -ℤ b) → nat_abs a ≤ 2 * most_sign_magnitude → nat_abs b ≤ 2 * most_sign_magnitude → rounds < 2 ^ 64
-        few rounds a b d x y = omega (integers, add_parts a (neg_ℤ b), neg-⁺ b, neg-⁻ b, abs_parts a, abs_parts b)
+        few rounds a b d x y = omega (arith, ints)
 
 rounds_low : {n : ℕ} {h : Table} {c : ℕ → ℤ} → Hall most_wagons most_entries most_magnitude n h c → (rank : ℕ) (factor draws : List Float) (draw_count width : ℕ)
     → searched_rounds n h c rank factor draws draw_count width < 2 ^ 64
@@ -89,10 +89,7 @@ rounds_low hall rank factor draws draw_count (suc width) = rounds_some hall rank
 read_low : (s : List ℕ) → ((i : ℕ) → get_or s i 0 < 256) → (at n : ℕ) → big_endian s at n < 256 ^ n
 unfolding big_endian
 read_low s bytes at zero = omega arith
-read_low s bytes at (suc n) = rw pow-suc (next (big_endian s at n) (get_or s (at + n) 0) (256 ^ n) (read_low s bytes at n) (bytes (at + n)))
-  where
-    next : (v b p : ℕ) → v < p → b < 256 → v * 256 + b < p * 256
-    next v b p h k = omega arith
+read_low s bytes at (suc n) = rw pow-suc (omega (arith, read_low s bytes at n, bytes (at + n)))
 
 -- ---- an accepted job
 

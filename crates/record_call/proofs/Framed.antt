@@ -1,5 +1,5 @@
 -- A record's first field tells its length. Assumes nothing.
---     record-length    of the answer of any job, at the front of any slice
+--     record_length    of the answer of any job, at the front of any slice
 --     framed           of what the record call leaves
 use Prim.Native.Nat.{ℕ, zero, suc, ◌+◌, ◌^◌, ◌≤◌, ◌<◌}
 use mathlib.Core.Path.{◌≡◌, refl, ◌∙◌}

@@ -1,6 +1,6 @@
 -- The (H, c) of an accepted job's run. Assumes nothing.
---     job-hall, run-hall    H and c are accepted, and so are those of the free wagons
---     run-n                 how many wagons are free
+--     job_hall, run_hall    H and c are accepted, and so are those of the free wagons
+--     run_n                 how many wagons are free
 --     no_pins               where no wagon is pinned, the run's (H, c) is the job's, the constant 0, and b the finish's
 use Prim.Native.Nat.{ℕ, ◌+◌, ◌<◌, ◌≤◌}
 use mathlib.Core.Path.{◌≡◌, refl, sym, ap, ◌∙◌}

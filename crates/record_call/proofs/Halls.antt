@@ -1,5 +1,5 @@
 -- The lines that 01 marks ◆ under "Halls worked by hand", computed together as one list. Assumes nothing.
---     worked-pins    02's pins: some, all, none, and no wagons
+--     worked_pins    02's pins: some, all, none, and no wagons
 --     worked    the example's answer; n 0: one stored zero, cost, floor and rounds 0; the hall of choice 1,0; ranks; roots
 use Prim.Native.Nat.{ℕ}
 use mathlib.Core.List.{List, [], ◌∷◌, ◌++◌, map}

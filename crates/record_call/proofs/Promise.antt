@@ -1,6 +1,6 @@
 -- What the bytes of an accepted job's answer hold, for a reader of answers. Assumes nothing.
---     fields_read, choice-read    the fields of the result, and its choice
---     pins-promise                with W ≥ 1 demand 3 among the choices that keep the pins: the controller's promise
+--     fields_read_lem, choice_read_lem    the fields of the result, and its choice
+--     pins_promise                with W ≥ 1 demand 3 among the choices that keep the pins: the controller's promise
 --     promise                     where no wagon is pinned, demand 3 as it stands
 use Prim.Native.Nat.{ℕ, ◌≤◌, ◌<◌}
 use native.Mathlib.Omega.{arith}

@@ -1,13 +1,11 @@
 -- A run that makes as many sweeps as it has left is stopped, and its record is sound all along. Assumes nothing.
 --     ends    after sweeps up to the most
 use Prim.Native.Nat.{ℕ, zero, suc, ◌+◌, ◌*◌, ◌≤◌, ◌<◌}
-use mathlib.Core.Path.{◌≡◌, refl, sym, subst, ◌∙◌}
-use mathlib.Core.Bool.{Bool, true, false, ◌&&◌, cond}
+use mathlib.Core.Path.{◌≡◌, refl, sym, subst}
+use mathlib.Core.Bool.{Bool, true, false, ◌&&◌}
 use mathlib.Core.List.{List, [], ◌∷◌}
 use native.Mathlib.Omega.{arith}
-use lib.Dec.{eqb}
 use lib.Ieee.{Float, lt}
-use lib.ListN.{length}
 use Rattle.laws.specs.Refusal.{◌if◌, or_else, first}
 use Rattle.ieee.specs.Floats.{◌-ᶠ◌}
 use Rattle.step_rules.specs.declared.StepRule.{StepRule}
@@ -18,7 +16,7 @@ use Rattle.run_record.specs.declared.Stage.TheVariants.{Open, Stopped}
 use Rattle.run_record.specs.declared.Run.{Run}
 use Rattle.run_record.specs.Numbers.{is_stopped}
 use Rattle.run_sweep.specs.Work.{Work}
-use Rattle.run_sweep.specs.Sweep.{State, while_open, check_due, absolute, stop_status, new_objective, settled_at, status_found, status_after, advanced, run_after, swept_once, standing_once, sweeps_up_to}
+use Rattle.run_sweep.specs.Sweep.{State, while_open, absolute, stop_status, new_objective, settled_at, status_found, status_after, advanced, run_after, swept_once, standing_once, sweeps_up_to}
 use Rattle.run_sweep.specs.Running.{Running}
 use Rattle.run_sweep.proofs.Loop.{running_after}
 
@@ -50,22 +48,16 @@ unfolding stop_status
 stop_low tests tolerance settled previous new =
     first_low settled (tests && lt (absolute (new -ᶠ previous)) tolerance) (tests && lt previous new)
 
-either_low : (b : Bool) (x y : ℕ) → x ≤ 2 → y ≤ 2 → cond b x y ≤ 2
-either_low true x y h k = h
-either_low false x y h k = k
-
 found_low : (run : Run) (w : Work) (factor : List Float) → status_found run w factor ≤ 2
 unfolding status_found
 found_low run w factor =
     let settled = settled_at run w factor in
     let new = new_objective w run.size run.rank factor in
-    either_low (check_due (run.sweeps + 1) run.minimum run.most)
-    (stop_status (tests_objective run.rule) run.objective_tolerance settled run.last_objective new) 0
-    (stop_low (tests_objective run.rule) run.objective_tolerance settled run.last_objective new) (omega arith)
+    grind (arith, stop_low (tests_objective run.rule) run.objective_tolerance settled run.last_objective new)
 
 after_low : (found status : ℕ) → found ≤ 2 → status ≤ 2 → status_after found status ≤ 2
 unfolding status_after
-after_low found status f s = either_low (eqb found 0) status found s f
+after_low found status f s = grind arith
 
 -- one sweep fewer is left
 more_left : (run : Run) (w : Work) (factor : List Float) (stood k : ℕ) → run.most ≤ run.sweeps + suc k

@@ -9,6 +9,7 @@ use lib.Ieee.{Float}
 use borrow.Author.Tests.{le-ltb, eq-eqb, ne_eqb, eqb-true}
 use Rattle.laws.specs.Refusal.{short}
 use Rattle.laws.proofs.Refusal.{first_end, first_next, first_skip}
+use Rattle.std.proofs.lemmas.Bool.{and_left}
 use Rattle.laws.proofs.Any.{any_none, any_not, or_none, and_right}
 use Rattle.tables.specs.Check.{short_table}
 use Rattle.run_record.specs.declared.Run.{Run}
@@ -75,9 +76,6 @@ open_passes t rank rule number most start numbers factor there table ns fs ranke
 
 -- ---- the record
 
-open_not : (a b : Bool) → a ≡ true → (not a && b) ≡ false
-open_not a b e = rw e
-
 module _ (run : Run) (n : ℕ) (size : run.size ≡ n + 1) (some : 1 ≤ run.rank) (few : run.rank ≤ most_rank) where
   zero_not : eqb run.rank 0 ≡ false
   zero_not = ne_eqb run.rank 0 (λ e. omega (arith, e))
@@ -90,8 +88,8 @@ module _ (run : Run) (n : ℕ) (size : run.size ≡ n + 1) (some : 1 ≤ run.ran
   unfolding record_refused
   stopped_record e l s t =
       any_not _ _ same_size (any_not _ _ zero_not (any_not _ _ (le-ltb most_rank run.rank few) (any_not _ _ (le-ltb run.most run.sweeps l)
-      (any_not _ _ (open_not (is_stopped run.stage) (eqb run.sweeps run.most) e) (any_not _ _ (le-ltb 2 run.status s)
-      (any_not _ _ (open_not (is_stopped run.stage) (not (eqb run.status 0)) e) (any_not _ _ (le-ltb (run.size * run.sweeps) run.standing t) any_none)))))))
+      (any_not _ _ (and_left (not (is_stopped run.stage)) (eqb run.sweeps run.most) (ap not e)) (any_not _ _ (le-ltb 2 run.status s)
+      (any_not _ _ (and_left (not (is_stopped run.stage)) (not (eqb run.status 0)) (ap not e)) (any_not _ _ (le-ltb (run.size * run.sweeps) run.standing t) any_none)))))))
 
   pub open_record : run.sweeps < run.most → run.status ≡ 0 → run.standing ≤ run.size * run.sweeps → record_refused run n ≡ false
   unfolding record_refused

@@ -88,9 +88,6 @@ module _ (map : List ℕ) where
   -- the marks that the first j indices left, at the next one
   module _ {size : ℕ} (w : Within size map) (j : ℕ) (h : j < length map) {seen : List Bool} {index : ℕ}
       (marks : seen ≡ put_each (elem map) (λ _. true) j (replicate size false)) (here : index ≡ elem map j) where
-    pub index_low : index < size
-    index_low = omega (arith, w.below j h)
-
     mark : Last (elem map) (λ _. true) j (elem map j) false (get_or seen index false)
     mark =
         let l = put_last {A = Bool} (elem map) (λ _. true) j (replicate size false) (elem map j) false (rw (length-replicate {A = Bool} size false) (w.below j h)) in

@@ -18,7 +18,7 @@ use Rattle.laws.proofs.Any.{any_head, any_rest, any_not, any_none}
 use Rattle.laws.proofs.MapFirst.{length_fill, get_d_map_first}
 use Rattle.ieee.specs.Floats.{at, zero64}
 use Rattle.limits.specs.Limits.{most_size}
-use Rattle.reduced.specs.Indices.{index_refused, put_each, Within, Mapped}
+use Rattle.reduced.specs.Indices.{index_refused, put_each, Mapped}
 use Rattle.reduced.specs.Lift.{lifted_of, lift_short, lift_number, Lifts, LiftLent, LiftedAt, by_map, by_fixed, by_none}
 use Rattle.reduced.proofs.Put.{Last, found, none, length_put, put_last, put_beyond, put_front, beyond_map_first, front_map_first}
 use Rattle.reduced.proofs.Distinct.{index_mapped, mapped_index}
@@ -44,17 +44,6 @@ module _ {most size : ℕ} {map fixed : List ℕ} {values solution lifted : ℕ}
       (any_not _ _ (le-ltb _ _ l.solution_there) (any_not _ _ (rw (le-ltb most size h) (le-ltb _ _ (l.lifted_there h))) any_none))
 
 -- ---- the writing
-
-module _ {most size : ℕ} {map fixed : List ℕ} {values solution lifted : ℕ} (l : LiftLent most size map fixed values solution lifted) (m : Mapped most size map fixed) where
-  pub lift_size : size ≤ lifted
-  lift_size = l.lifted_there m.small
-
-  -- what is asked of a slice as long as the one lent
-  pub lift_fixed : (xs : List Float) → length xs ≡ lifted → Within (length xs) fixed × (length fixed ≤ values)
-  lift_fixed xs same = (record { below = λ k h. omega (arith, m.fixed_within.below k h, lift_size) }, l.values_there)
-
-  pub lift_map : (xs : List Float) → length xs ≡ lifted → Within (length xs) map × (length map ≤ solution)
-  lift_map xs same = (record { below = λ k h. omega (arith, m.map_within.below k h, lift_size) }, l.solution_there)
 
 pub lifted_is : (size : ℕ) (map fixed : List ℕ) (values solution lifted : List Float) {cleared fixed' lifted' : List Float} → cleared ≡ fill (λ _. zero64) size lifted
     → fixed' ≡ put_each (elem fixed) (at values) (length fixed) cleared → lifted' ≡ put_each (elem map) (at solution) (length map) fixed'

@@ -1,82 +1,50 @@
 -- Where each of m things has a place below n that no other has, m is at most n.
 -- Assumes nothing.
-use mathlib.Core.Path.{◌≡◌, refl, ap, ◌∙◌}
-use mathlib.Core.List.{List, [], ◌∷◌}
-use Prim.Native.Nat.{ℕ, zero, suc, ◌<◌, ◌≤◌}
+use mathlib.Core.Path.{◌≡◌, subst}
+use mathlib.Core.Bool.{true, false}
+use Prim.Native.Nat.{ℕ, ◌<◌, ◌≤◌}
+use native.Mathlib.Decide.{dec_lt}
 use native.Mathlib.Omega.{arith}
-use native.Mathlib.Decide.{ℕ_discrete}
-use lib.ListN.{length, set, replicate, length-set, length-replicate}
-use lib.Seq.{get_or-set_other}
-use Rattle.laws.specs.Lists.{elem}
-
--- how many marks are not 0
-marks : List ℕ → ℕ
-marks [] = 0
-marks (zero ∷ l) = marks l
-marks (suc a ∷ l) = suc (marks l)
-
-marks_le : (l : List ℕ) → marks l ≤ length l
-unfolding marks
-marks_le [] = omega arith
-marks_le (zero ∷ l) = omega (arith, marks_le l)
-marks_le (suc a ∷ l) = omega (arith, marks_le l)
-
-marks_set : (l : List ℕ) (y : ℕ) → y < length l → elem l y ≡ 0 → marks (set l y 1) ≡ suc (marks l)
-unfolding marks
-marks_set [] y h e = elim h [ ]
-marks_set (zero ∷ l) zero h e = refl
-marks_set (suc a ∷ l) zero h e = absurd (omega arith)
-marks_set (zero ∷ l) (suc y) h e = marks_set l y (omega arith) e
-marks_set (suc a ∷ l) (suc y) h e = ap suc (marks_set l y (omega arith) e)
-
-marks_none : (n : ℕ) → marks (replicate n 0) ≡ 0
-unfolding marks
-marks_none zero = refl
-marks_none (suc n) = marks_none n
+use borrow.Author.Tests.{eqb-true, ne_eqb}
+use lib.Dec.{eqb}
+use lib.ListN.{length, get_or}
+use Rattle.std.specs.List.{list_any}
+use Rattle.std.proofs.lemmas.Map.Keys.{IsDistinct-from_apart}
+use Rattle.std.proofs.lemmas.Map.Steps.{length-le_from_distinct_below}
+use Rattle.std.proofs.lemmas.Map.Views.{Contains-from_any}
+use Rattle.laws.specs.Lists.{tabulate}
+use Rattle.laws.proofs.Made.{length_tabulate, get_d_tabulate}
 
 module _ (At : ℕ → ℕ → Type 0) (m n : ℕ) (place : (i : ℕ) → i < m → (y : ℕ) × (y < n) × At i y) (once : (i j y : ℕ) → i < m → j < m → At i y → At j y → i ≡ j) where
-  -- the places of the first k, marked
-  record Marked (k : ℕ) (l : List ℕ) : Type 0 where
-    sized : length l ≡ n
-    many : marks l ≡ k
-    by : (y : ℕ) → (elem l y ≡ 0 → ⊥) → (i : ℕ) × (i < k) × At i y
+  by : (i : ℕ) → Dec (i < m) → ℕ
+  by i (yes h) = (place i h).0
+  by i (no h) = 0
 
-  start : Marked 0 (replicate n 0)
-  start =
-      record {
-        sized = length-replicate {A = ℕ} n 0;
-        many = marks_none n;
-        by = λ y free. absurd (free (zeros n y));
-      }
-    where
-      zeros : (k y : ℕ) → elem (replicate k 0) y ≡ 0
-      zeros zero y = refl
-      zeros (suc k) zero = refl
-      zeros (suc k) (suc y) = zeros k y
+  by_is : (i : ℕ) (d : Dec (i < m)) → i < m → (by i d < n) × At i (by i d)
+  unfolding by
+  by_is i (yes h) l = ((place i h).1, (place i h).2)
+  by_is i (no h) l = absurd (h l)
 
-  mark : (k : ℕ) → k ≤ m → (l : List ℕ) × Marked k l
-  mark zero h = (replicate n 0, start)
-  mark (suc k) h = next (mark k (omega arith)) (place k h)
-    where
-      next : ((l : List ℕ) × Marked k l) → ((y : ℕ) × (y < n) × At k y) → (l : List ℕ) × Marked (suc k) l
-      next (l, w) (y, b, a) =
-          let free : elem l y ≡ 0 = go (ℕ_discrete (elem l y) 0) in (
-            set l y 1,
-            record {
-              sized = length-set l y 1 ∙ w.sized;
-              many = marks_set l y (rw w.sized b) free ∙ ap suc w.many;
-              by = λ x other. pick x other (ℕ_discrete x y);
-            },
-          )
-        where
-          go : Dec (elem l y ≡ 0) → elem l y ≡ 0
-          go (yes e) = e
-          go (no e) = let (i, c, s) = w.by y e in absurd (omega (arith, once i k y (omega arith) h s a))
+  -- the place of thing i
+  at : ℕ → ℕ
+  at i = by i (dec_lt i m)
 
-          pick : (x : ℕ) → (elem (set l y 1) x ≡ 0 → ⊥) → Dec (x ≡ y) → (i : ℕ) × (i < suc k) × At i x
-          pick x other (yes e) = (k, omega arith, rw e a)
-          pick x other (no e) =
-              let (i, c, s) = w.by x (λ z. other (get_or-set_other l y x 1 0 e ∙ z)) in (i, omega arith, s)
+  at_is : (i : ℕ) → i < m → (at i < n) × At i (at i)
+  unfolding at
+  at_is i l = by_is i (dec_lt i m) l
+
+  apart : (i j d : ℕ) → i < j → j < length (tabulate at m) → eqb (get_or (tabulate at m) i d) (get_or (tabulate at m) j d) ≡ false
+  apart i j d l h =
+      let b : j < m = omega (arith, length_tabulate at m) in
+      let a : i < m = omega arith in
+      rw (get_d_tabulate at m i d a, get_d_tabulate at m j d b)
+      (ne_eqb (at i) (at j) (λ e. let s : i ≡ j = once i j (at j) a b (subst (At i) e (at_is i a).1) (at_is j b).1 in omega arith))
+
+  low : (q : ℕ) → list_any (eqb q) (tabulate at m) ≡ true → q < n
+  low q e =
+      let (k, h, is) = Contains-from_any eqb-true q (tabulate at m) e in
+      let b : k < m = omega (arith, h, length_tabulate at m) in
+      omega (arith, get_d_tabulate at m k q b, is, (at_is k b).0)
 
   pub pigeonhole : m ≤ n
-  pigeonhole = let (l, w) = mark m (omega arith) in omega (arith, marks_le l, w.many, w.sized)
+  pigeonhole = omega (arith, length_tabulate at m, length-le_from_distinct_below (tabulate at m) n (IsDistinct-from_apart eqb (tabulate at m) apart) low)

@@ -17,7 +17,7 @@ use lib.ListN.{length, drop, length-append}
 use Rattle.laws.specs.Rows.{row_of, set_row}
 use Rattle.laws.proofs.Parts.{set_row_next}
 use Rattle.laws.proofs.Made.{length_tabulate}
-use Rattle.laws.proofs.Integer.{integers, lt_z_true, lt_z_false}
+use Rattle.std.proofs.lemmas.Int.{ints}
 use Rattle.factor.specs.Vectors.{unit}
 use Rattle.local_search.specs.Level.{below}
 use Rattle.local_search.proofs.Better.{better_kept}
@@ -55,16 +55,16 @@ module _ (f : ℕ → ℤ) where
 
   pub least_least : (n j : ℕ) → j ≤ n → f (first_least f n) ≤ℤ f j
   unfolding first_least
-  least_least zero zero h = omega integers
+  least_least zero zero h = omega (arith, ints)
   least_least zero (suc j) h = absurd (omega arith)
   least_least (suc n) j h =
       go (lt_z (f (suc n)) (f (first_least f n))) refl (eq-or-lt_of_le h) (λ l. least_least n j l)
     where
       go : (b : Bool) → lt_z (f (suc n)) (f (first_least f n)) ≡ b → (j ≡ suc n) ⊎ (j < suc n) → (j ≤ n → f (first_least f n) ≤ℤ f j)
           → f (cond b (suc n) (first_least f n)) ≤ℤ f j
-      go true e (inl s) ih = rw s (omega integers)
-      go true e (inr l) ih = omega (integers, lt_z_true (f (suc n)) (f (first_least f n)) e, ih (omega arith))
-      go false e (inl s) ih = rw s (omega (integers, lt_z_false (f (suc n)) (f (first_least f n)) e))
+      go true e (inl s) ih = rw s (omega (arith, ints))
+      go true e (inr l) ih = omega (arith, ints, ih (omega arith))
+      go false e (inl s) ih = rw s (omega (arith, ints))
       go false e (inr l) ih = ih (omega arith)
 
   pub least_first : (n j : ℕ) → j < first_least f n → f j ≤ℤ f (first_least f n) → ⊥
@@ -76,7 +76,7 @@ module _ (f : ℕ → ℤ) where
       go : (b : Bool) → lt_z (f (suc n)) (f (first_least f n)) ≡ b → (j < first_least f n → f j ≤ℤ f (first_least f n) → ⊥)
           → (j ≤ n → f (first_least f n) ≤ℤ f j)
           → j < cond b (suc n) (first_least f n) → f j ≤ℤ f (cond b (suc n) (first_least f n)) → ⊥
-      go true e ih all h l = omega (integers, lt_z_true (f (suc n)) (f (first_least f n)) e, all (omega arith))
+      go true e ih all h l = omega (arith, ints, all (omega arith))
       go false e ih all h l = ih h l
 
 -- a draw's signs are m

@@ -1,7 +1,6 @@
 -- The gradient of a row is one sum per column.
 --     gradient_columns           the definition of the sweep, column by column
 --     whole_block                all columns as one block
---     at_rank                    what the columns ask, at the rank
 --     first_block                a block at the start of a row
 --     two_ends                   a row written as two blocks
 -- Assumes nothing.
@@ -17,7 +16,6 @@ use Rattle.laws.specs.Rows.{map_first}
 use Rattle.laws.specs.Lists.{tabulate, over}
 use Rattle.laws.proofs.Made.{tabulate_all, tabulate_ext}
 use Rattle.ieee.specs.Floats.{◌-ᶠ◌, at}
-use Rattle.factor.specs.Shapes.{ColumnsWithin}
 use Rattle.factor.specs.Columns.{put_block}
 use Rattle.factor.proofs.ByColumns.{sums_columns}
 use Rattle.factor.proofs.Written.{sums_put, block_next_put}
@@ -37,10 +35,6 @@ module _ (cols : List ℕ) (values factor : List Float) (vertex rank : ℕ) wher
 pub first_block : (f : ℕ → Float) (width : ℕ) (g : List Float) → put_block width 0 (tabulate (λ j. f (0 + j)) width) g ≡ over (tabulate f width) g
 unfolding tabulate
 first_block f width g = rw zero-add at (block_next_put f 0 0 width g g (omega arith) (omega arith) refl)
-
--- what the columns ask, where the rank is the length of g
-pub at_rank : (cols : List ℕ) (factor g : List Float) (rank : ℕ) → rank ≡ length g → ColumnsWithin cols (length g) factor → ColumnsWithin cols rank factor
-at_rank cols factor g rank e within = rw e within
 
 -- rows of two blocks
 module _ (cols : List ℕ) (values factor : List Float) (vertex : ℕ) where

@@ -6,7 +6,7 @@ use mathlib.Core.Bool.{Bool, true, false}
 use mathlib.Core.List.{List}
 use Prim.Native.Nat.{ℕ, ◌+◌, ◌*◌, ◌^◌, ◌≤◌, ◌<◌}
 use native.Mathlib.Nat.{le_refl, le_trans, le_of_eq, mul-add, le_of_mul-le-mul_left}
-use native.Mathlib.Omega.{arith}
+use lib.Arith.{digits_lt}
 use lib.Dec.{T, lit≤, lit<}
 use lib.Ieee.{Float, nan, binary64, fits}
 use lib.ListN.{length}
@@ -49,14 +49,11 @@ done_length row d = record {
   least = subst (λ (z : ℕ). one ≤ z + allowed) (sym (by_bits row d)) (least_of (total (length row) (square_at row)) d.unit);
 }
 
-element_in : (k j m rank : ℕ) → k < m → j < rank → k * rank + j < m * rank
-element_in k j m rank h l = omega (arith, row_within k m rank h)
-
 module _ (cols : List ℕ) (values : List Float) (starts : List ℕ) (m rank : ℕ) (factor : List Float) (s : SweepInput cols values starts m rank factor) where
   start : Bounded cols values starts m rank factor
   start = record {
     shaped = s.shaped;
-    small = λ k j l o. within (2 * 2 ^ 1074) (at factor (k * rank + j)) (s.factor_low (k * rank + j) (rw s.shaped.whole (element_in k j m rank l o)));
+    small = λ k j l o. within (2 * 2 ^ 1074) (at factor (k * rank + j)) (s.factor_low (k * rank + j) (rw s.shaped.whole (digits_lt l o)));
   }
 
   few : length cols ≤ 2 ^ 16
@@ -92,7 +89,7 @@ module _ (cols : List ℕ) (values : List Float) (starts : List ℕ) (m rank : �
   held_at_lem k j l o false w =
       subst (λ (x : Float). T (fits binary64 x))
       (sym (row_element rank factor k j nan o) ∙ ap (λ (row : List Float). at row j) (sym (standing_same k l w)) ∙ row_element rank swept k j nan o)
-      (s.factor_low (k * rank + j) (rw s.shaped.whole (element_in k j m rank l o))).held
+      (s.factor_low (k * rank + j) (rw s.shaped.whole (digits_lt l o))).held
 
   pub swept_low : (k j : ℕ) → k < m → j < rank → AtMostTwo (at swept (k * rank + j))
   swept_low k j l o =

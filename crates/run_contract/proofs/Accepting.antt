@@ -1,5 +1,5 @@
 -- What holds where a call is accepted: the table is a hall in slices that hold it, and every other slice is long enough. Assumes nothing.
-use Prim.Native.Nat.{ℕ, ◌+◌, ◌*◌, ◌≤◌, ◌<◌}
+use Prim.Native.Nat.{ℕ, ◌+◌, ◌*◌, ◌≤◌}
 use mathlib.Core.Path.{◌≡◌, sym, ap}
 use mathlib.Core.Bool.{false, not, ◌&&◌, ◌||◌}
 use native.Mathlib.Numerals.{add-one}
@@ -9,7 +9,8 @@ use lib.Dec.{ltb, eqb}
 use lib.Ieee.{Float}
 use lib.ListN.{length}
 use Rattle.laws.proofs.Refusal.{clear, first_head, first_rest}
-use Rattle.laws.proofs.Any.{any_head, any_rest, any_not, any_none, or_left, or_right, and_left}
+use Rattle.std.proofs.lemmas.Bool.{or_parts}
+use Rattle.laws.proofs.Any.{any_head, any_rest, any_not, any_none}
 use Rattle.limits.specs.Limits.{most_wagons, most_entries, most_magnitude, most_rank, most_width}
 use Rattle.tables.specs.Table.{Lent}
 use Rattle.tables.specs.Check.{Hall}
@@ -28,9 +29,6 @@ use Rattle.run_record.proofs.Ranked.{taken_low}
 use Rattle.run_sweep.specs.Running.{Running}
 use Rattle.finalize.specs.Clauses.{Fits}
 use Rattle.run_contract.specs.Calls.{Settings, open_size, open_rank, open_number_of, used}
-
-less : (a b : ℕ) → a ≤ b → (a ≡ b → ⊥) → a < b
-less a b l n = omega arith
 
 some : (k : ℕ) → eqb k 0 ≡ false → 1 ≤ k
 some k e = omega (arith, eqb-false k 0 e)
@@ -66,7 +64,7 @@ agrees run n e =
       some_test = any_head _ _ ranks;
       few_test = any_head _ _ (any_rest _ _ ranks);
       runs = record {
-        sweep_left = λ open'. less run.sweeps run.most (ltb-false _ _ (any_head _ _ limits)) (eqb-false _ _ (and_left _ _ (ap not open') (any_head _ _ (any_rest _ _ limits))));
+        sweep_left = λ open'. omega (arith, ltb-false run.most run.sweeps (any_head _ _ limits), eqb-false run.sweeps run.most (rw (ap not open') at (any_head _ _ (any_rest _ _ limits))));
         standing_few = ltb-false _ _ (any_head _ _ total);
       };
     }
@@ -107,7 +105,7 @@ module _ (o : Settings) (factor : ℕ) where
         slices = table_lent o.table table hall.entries;
         costs = costs_lent o.table table hall.wagons;
         hall = hall;
-        rule_few = ltb-false 4 o.rule (or_left (ltb 4 o.rule) _ rule_good);
+        rule_few = ltb-false 4 o.rule (or_parts (ltb 4 o.rule) _ rule_good).0;
         rank_some = meant_some (open_size o) o.rank;
         rank_few = meant_low (open_size o) o.rank (omega (arith, hall.wagons)) (taken_low o.rank o.start rank-good);
         numbers_room = tested _ _ _ (any_not _ _ few (any_not _ _ rank-good (any_not _ _ kind-good any_none))) (any_head _ _ (any_rest _ _ s));
@@ -178,7 +176,7 @@ module _ (run : Run) (t : CostTable) (width draw_count : ℕ) (lent : FinishLeng
       let a = agrees run t.n (clear (record_refused run t.n) 32 (first_head _ _ past)) in
       let hall : HallOf t = hall_accepted (first_head _ _ (first_rest _ _ past)) in
       let settings = clear (width_refused width draw_count) 18 (first_head _ _ (first_rest _ _ (first_rest _ _ (first_rest _ _ past)))) in
-      let draws : bad_draws draw_count ≡ false = or_right (ltb most_width width) (bad_draws draw_count) settings in
+      let draws : bad_draws draw_count ≡ false = (or_parts (ltb most_width width) (bad_draws draw_count) settings).1 in
       let few = few_wagons t hall in
       let table : table_short t ≡ false = any_head _ _ s in
       let s₁ = any_rest _ _ s in
@@ -194,7 +192,7 @@ module _ (run : Run) (t : CostTable) (width draw_count : ℕ) (lent : FinishLeng
         fits = record {
           rank_some = some run.rank a.some_test;
           rank_few = ltb-false _ _ a.few_test;
-          width_few = ltb-false _ _ (or_left (ltb most_width width) (bad_draws draw_count) settings);
+          width_few = ltb-false _ _ (or_parts (ltb most_width width) (bad_draws draw_count) settings).0;
           draws_some = draws_some draw_count draws;
           draws_few = draws_few draw_count draws;
           draws_room = tested _ _ _ (any_not _ _ draws (any_not _ _ a.some_test (any_not _ _ a.few_test any_none))) (any_head _ _ s₁);
@@ -212,4 +210,4 @@ pub exchange_rule_few : (run : Run) (rule : ℕ) (number : Float) → exchange_n
 unfolding exchange_number rule_refused
 exchange_rule_few run rule number ok =
     let both = clear (bad_momentum run.rule || (ltb 4 rule || (eqb rule 4 && not (is_momentum number)))) 17 (first_head _ _ (first_rest _ _ (first_rest _ _ ok))) in
-    ltb-false 4 rule (or_left (ltb 4 rule) _ (or_right (bad_momentum run.rule) _ both))
+    ltb-false 4 rule (or_parts (ltb 4 rule) _ (or_parts (bad_momentum run.rule) _ both).1).0

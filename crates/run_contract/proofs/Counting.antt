@@ -15,6 +15,7 @@ use mathlib.Core.Option.{Option, some, none}
 use native.Mathlib.Nat.{mul-suc}
 use native.Mathlib.Numerals.{add-one}
 use native.Mathlib.Omega.{arith}
+use borrow.Author.Tests.{not-true}
 use lib.Ieee.{Float, le}
 use lib.ListN.{length, get_or, take, length-append}
 use Rattle.std.specs.Prelude.{Ok}
@@ -86,10 +87,7 @@ pairs_append : (xs ys : List Made) → length (pairs (xs ++ ys)) ≡ length (pai
 unfolding pairs
 pairs_append [] ys = let e : length (pairs ys) ≡ 0 + length (pairs ys) = omega arith in e
 pairs_append (s ∷ xs) ys =
-    length-append (stood_in s) (pairs (xs ++ ys)) ∙ rw (pairs_append xs ys, length-append (stood_in s) (pairs xs)) (assoc (length (stood_in s)) (length (pairs xs)) (length (pairs ys)))
-  where
-    assoc : (a b c : ℕ) → a + (b + c) ≡ a + b + c
-    assoc a b c = omega arith
+    length-append (stood_in s) (pairs (xs ++ ys)) ∙ rw (pairs_append xs ys, length-append (stood_in s) (pairs xs)) (omega arith)
 
 pairs_none : length (pairs []) ≡ 0
 unfolding pairs
@@ -227,10 +225,6 @@ at_kept keep f (suc n) i l k = by (λ b. at_kept keep f n i b k) (below_or_not i
         let e : n ≡ i = omega arith in
         among_right (f i) (kept keep f n) (only_if (keep n) (f n)) (subst (λ (j : ℕ). Among (f i) (only_if (keep j) (f j))) (sym e) (at_only (keep i) (f i) k))
 
-not_true : (b : Bool) → not b ≡ true → b ≡ false
-not_true true e = sym e
-not_true false e = refl
-
 -- of one sweep
 record StoodOne (rule : StepRule) (s : Made) (number row : ℕ) : Type 0 where
   beta : Float
@@ -248,7 +242,7 @@ stood_by_lem rule beta s number row c a =
       under = c;
       numbered = sym (ap (λ (q : Pair). q.sweep_number) e);
       row_there = omega (arith, l, r);
-      norm_small = subst (λ (j : ℕ). le tiny (norm_in s beta j) ≡ false) (sym r) (not_true (le tiny (norm_in s beta i)) k);
+      norm_small = subst (λ (j : ℕ). le tiny (norm_in s beta j) ≡ false) (sym r) (not-true (le tiny (norm_in s beta i)) k);
     }
 
 stood_one : (rule : StepRule) (s : Made) (number row : ℕ) → Among (pair number row) (stood_by (coordinate_momentum rule) s) → StoodOne rule s number row

@@ -8,6 +8,7 @@ use native.Mathlib.Nat.{zero-add, zero-mul, mul-pos}
 use native.Mathlib.Decide.{ℕ_discrete}
 use borrow.Author.Tests.{eqb-true, eq-eqb, ne_eqb, lt-ltb, le-ltb}
 use lib.Dec.{eqb}
+use Rattle.std.proofs.lemmas.Bool.Decides.{same_from_decides, Decides-eqb, Decides-like}
 use lib.IntN.{ℤ, pos}
 use lib.Ieee.{Float, nan, inf, fin, lt, neg, of_bits, up, down, below}
 use lib.Ieee.Fits.{up_pos}
@@ -51,17 +52,11 @@ tested_due s mn mx e = by (ℕ_discrete s 1) (ℕ_discrete s mn) (ℕ_discrete s
     by (no a) (no b) (yes c) = at_most c
     by (no a) (no b) (no c) = at_twenty (s / 20) (eqb-true _ _ (rw (ne_eqb s 1 a, ne_eqb s mn b, ne_eqb s mx c) at e))
 
-same_test : (a b : Bool) → (a ≡ true → b ≡ true) → (b ≡ true → a ≡ true) → a ≡ b
-same_test true b f g = sym (f refl)
-same_test false true f g = g refl
-same_test false false f g = refl
-
 -- the code tests a remainder
 twentieth_same : (s : ℕ) → eqb s (20 * (s / 20)) ≡ eqb (s % 20) 0
 twentieth_same s =
-    same_test (eqb s (20 * (s / 20))) (eqb (s % 20) 0)
-    (λ e. let whole : s ≡ 20 * (s / 20) = eqb-true _ _ e in eq-eqb _ _ (omega arith))
-    (λ e. let none : s % 20 ≡ 0 = eqb-true _ _ e in eq-eqb _ _ (omega arith))
+    same_from_decides (eqb s (20 * (s / 20))) (eqb (s % 20) 0)
+    (Decides-eqb s (20 * (s / 20))) (Decides-like (eqb (s % 20) 0) (λ e. omega arith) (λ e. omega arith) (Decides-eqb (s % 20) 0))
 
 any_four : (a b c d : Bool) → (a || b || c || d) ≡ any_of (a ∷ b ∷ c ∷ d ∷ [])
 unfolding any_of

@@ -5,14 +5,14 @@ use mathlib.Core.Bool.{false}
 use native.Mathlib.Omega.{arith}
 use borrow.Author.Tests.{ltb-false, eqb-false}
 use lib.Dec.{ltb, eqb}
-use Rattle.laws.proofs.Any.{or_left, or_right}
+use Rattle.std.proofs.lemmas.Bool.{or_parts}
 use Rattle.limits.specs.Limits.{most_draws}
 use Rattle.run_limits.specs.Draws.{bad_draws}
 
 pub draws_some : (k : ℕ) → bad_draws k ≡ false → 1 ≤ k
 unfolding bad_draws
-draws_some k e = omega (arith, eqb-false k 0 (or_left (eqb k 0) (ltb most_draws k) e))
+draws_some k e = omega (arith, eqb-false k 0 (or_parts (eqb k 0) (ltb most_draws k) e).0)
 
 pub draws_few : (k : ℕ) → bad_draws k ≡ false → k ≤ most_draws
 unfolding bad_draws
-draws_few k e = ltb-false most_draws k (or_right (eqb k 0) (ltb most_draws k) e)
+draws_few k e = ltb-false most_draws k (or_parts (eqb k 0) (ltb most_draws k) e).1

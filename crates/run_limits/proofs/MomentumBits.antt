@@ -2,7 +2,7 @@
 use mathlib.Core.Path.{◌≡◌, refl, sym, ap, ◌∙◌, subst}
 use mathlib.Core.Bool.{Bool, true, false, ◌&&◌}
 use Prim.Native.Nat.{ℕ, zero, suc, ◌+◌, ◌-◌, ◌*◌, ◌/◌, ◌^◌, ◌≤◌, ◌<◌, zero-le}
-use native.Mathlib.Nat.{mul-one, one-mul, zero-mul, zero-add, lt_of_le_of_lt, mul_comm, mul-pos, mul-le-mul_right, mul-lt-mul_of_pos_right, lt_irrefl, lt_of_lt_of_le, le_trans, le_of_eq, div-lt_iff_lt-mul, le-div_iff_mul-le, lt_of_not-le, zero-lt-suc, zero-div}
+use native.Mathlib.Nat.{le_of_suc-le-suc, mul-one, one-mul, zero-mul, zero-add, lt_of_le_of_lt, mul_comm, mul-pos, mul-le-mul_right, mul-lt-mul_of_pos_right, lt_irrefl, lt_of_lt_of_le, le_trans, le_of_eq, div-lt_iff_lt-mul, le-div_iff_mul-le, lt_of_not-le, zero-lt-suc, zero-div}
 use native.Mathlib.Omega.{arith}
 use lib.Dec.{T, ltb, eqb, eqb-suc-zero, lit<}
 use lib.IntN.{ℤ, pos}
@@ -135,9 +135,6 @@ low_momentum (fin false m e) h =
     momentum_fin m e
     ∙ lt-ltb _ _ (lt_of_not-le (λ l. lt_irrefl one_bits (lt_of_le_of_lt (le_trans (from_one (units_in m e) (as_many (m * up e) (down e) (2 ^ 1074) (down_pos e) l)) (le_of_eq (sym (bits_of_fin m e)))) h)))
 
-at_least : (a d : ℕ) → (a < d → ⊥) → d ≤ a
-at_least a d n = omega arith
-
 bits_nan : eqb (to_bits binary64 nan) (2 ^ 63) ≡ is_momentum nan
 unfolding to_bits le lt eq of_bits
 bits_nan = refl
@@ -159,4 +156,4 @@ high_momentum (fin true zero e) f h = eq-eqb _ _ (minus_zero_bits e) ∙ sym (mo
 high_momentum (fin true (suc m) e) f h = ne_eqb _ _ (λ b. subst T (sym (sign_alone (fin true (suc m) e) f b) ∙ eqb-suc-zero m) tt) ∙ sym (momentum_negative m e)
 high_momentum (fin false m e) f h =
     ne_eqb _ _ (λ b. subst T (sym (sign_alone (fin false m e) f b)) tt)
-    ∙ sym (momentum_fin m e ∙ le-ltb _ _ (at_least _ _ (λ l. lt_irrefl one_bits (lt_of_le_of_lt h (subst (λ (x : ℕ). x < one_bits) (sym (bits_of_fin m e)) (under_one (units_in m e) (fewer (m * up e) (down e) (2 ^ 1074) (down_pos e) (pow_pos 1074) l)))))))
+    ∙ sym (momentum_fin m e ∙ le-ltb _ _ (le_of_suc-le-suc (lt_of_not-le (λ l. lt_irrefl one_bits (lt_of_le_of_lt h (subst (λ (x : ℕ). x < one_bits) (sym (bits_of_fin m e)) (under_one (units_in m e) (fewer (m * up e) (down e) (2 ^ 1074) (down_pos e) (pow_pos 1074) l))))))))

@@ -9,6 +9,8 @@ use lib.Dec.{ltb}
 use lib.IntN.{ℤ}
 use lib.ListN.{length}
 use lib.Ieee.{Float, nan, inf, fin, lt, le, eq, of_bits}
+use Rattle.std.specs.Bool.{Decides}
+use Rattle.std.proofs.lemmas.Bool.Decides.{Decides-like, Decides-ltb, Decides-eqb, Decides-not, Decides-and, Decides-or}
 use Rattle.ieee.specs.Floats.{zero64, one64}
 use Rattle.laws.specs.Refusal.{short}
 use Rattle.step_rules.specs.declared.StepRule.{StepRule}
@@ -28,14 +30,14 @@ use Rattle.run_record.specs.declared.Run.{Run}
 use Rattle.tables.specs.CostTable.{CostTable, quadratic, linear}
 use Rattle.run_record.specs.Numbers.{is_stopped, table_short, factor_refused, factor_short, own_faults, own_refused, record_refused, cost_table_number, bad_momentum, sweep_short, sweep_number, member_number, draws_short, choice_short, FinishLengths, finish_short, width_refused, finish_number, open_rank_refused, start_short, open_factor_short, open_short, rule_refused, open_number, exchange_number}
 use Rattle.run_record.specs.Conditions.{Clause, Answered, BadSize, wagons_above, entries_above, BadEntry, row_out, column_out, out_of_order, Unmirrored, TooLarge, table_clauses, BadRank, rank_high, rank_missing, Finite, Momentum, BadRule, rule_above, no_momentum, BadMomentum, BadDraws, width_above, draws_none, draws_above, OwnFault, rank_none, rank_above, sweeps_above, most_while_open, status_above, status_while_open, total_above, BadRecord, sizes_disagree, own_fault, TableTooShort, rows_short, cols_short, values_short, costs_short, FactorTooShort, DrawsTooShort, SweepTooShort, sweep_table, sweep_factor, FinishTooShort, finish_table, finish_draws, finish_factor, finish_b, finish_dual, finish_workspace, OpenTooShort, open_table, open_start, open_factor, open_clauses, sweep_clauses, member_clauses, finish_clauses, BadExchange, old_momentum, new_rule, exchange_clauses}
-use Rattle.run_record.proofs.Deciding.{Decides, reads, stable, less, at_most, equal, neither, both, either, or_else_lem, and_then, none_left, DecidesAny, reads_any, one_or, some_below, too_short_lem, Follows, ends, then_if, flat, answered, of_number}
+use Rattle.run_record.proofs.Deciding.{stable, at_most, or_else_lem, and_then, none_left, DecidesAny, reads_any, one_or, some_below, too_short_lem, Follows, ends, then_if, flat, answered, of_number}
 
 -- ---- 13 to 16
 
 module _ (t : CostTable) where
   size_decided : Decides (bad_size 0 most_wagons most_entries t.n t.count) (BadSize t)
   unfolding bad_size
-  size_decided = reads to from (one_or (less t.n 0) (one_or (less most_wagons t.n) (one_or (less most_entries t.count) none_left))).any
+  size_decided = Decides-like _ to from (one_or (Decides-ltb t.n 0) (one_or (Decides-ltb most_wagons t.n) (one_or (Decides-ltb most_entries t.count) none_left))).any
     where
       to : (t.n < 0) ⊎ (most_wagons < t.n) ⊎ (most_entries < t.count) ⊎ ⊥ → BadSize t
       to (inl l) = absurd (omega arith)
@@ -49,7 +51,7 @@ module _ (t : CostTable) where
 
 before_decided : (i j k l : ℕ) → Decides (before i j k l) (Before i j k l)
 unfolding before
-before_decided i j k l = or_else_lem (less i k) (and_then (equal i k) (less j l))
+before_decided i j k l = or_else_lem (Decides-ltb i k) (and_then (Decides-eqb i k) (Decides-ltb j l))
 
 module _ (n : ℕ) (h : Table) where
   -- what is bad of entry k
@@ -68,7 +70,7 @@ module _ (n : ℕ) (h : Table) where
   unfolding bad_entry
   entry_decided k =
       (one_or (at_most n (h.row k)) (one_or (at_most n (h.column k))
-      (one_or (both (less 0 k) (neither (before_decided (h.row (k - 1)) (h.column (k - 1)) (h.row k) (h.column k)))) none_left))).any
+      (one_or (Decides-and _ _ (Decides-ltb 0 k) (Decides-not _ (before_decided (h.row (k - 1)) (h.column (k - 1)) (h.row k) (h.column k)))) none_left))).any
 
   entry_read : (k : ℕ) → k < h.count → Bad k → BadEntry n h
   entry_read k l (inl r) = row_out k l r
@@ -84,10 +86,10 @@ module _ (n : ℕ) (h : Table) where
 
   pub order_decided : Decides (bad_order n h.row h.column h.count) (BadEntry n h)
   unfolding bad_order
-  order_decided = reads (λ r. entry_read r.0 r.1 r.2) entry_back (some_below h.count entry_decided)
+  order_decided = Decides-like _ (λ r. entry_read r.0 r.1 r.2) entry_back (some_below h.count entry_decided)
 
 same_value : (a b : ℤ) → Decides (eq_z a b) (a ≡ b)
-same_value a b = record { shows = eq_z_true a b; shown = λ e. subst (λ (x : ℤ). eq_z a x ≡ true) e (eq_z_refl a) }
+same_value a b = ((eq_z_true a b), (λ e. subst (λ (x : ℤ). eq_z a x ≡ true) e (eq_z_refl a)))
 
 module _ (h : Table) where
   abbrev Mirror : ℕ → ℕ → Type 0
@@ -96,11 +98,11 @@ module _ (h : Table) where
   pub mirror_decided : Decides (unmirrored h) (Unmirrored h)
   unfolding unmirrored
   mirror_decided =
-      reads
+      Decides-like _
       (λ r. record { entry = r.0; stored = r.1; alone = λ l m a b e. r.2 (l, m, ((a, b), e)) })
       (λ u. (u.entry, u.stored, λ r. u.alone r.0 r.1 r.2.0.0 r.2.0.1 r.2.1))
       (some_below {p = λ k. ((l : ℕ) × (l < h.count) × Mirror k l) → ⊥} h.count (λ k.
-      neither (some_below {p = Mirror k} h.count (λ l. both (both (equal (h.row l) (h.column k)) (equal (h.column l) (h.row k))) (same_value (h.value l) (h.value k))))))
+      Decides-not _ (some_below {p = Mirror k} h.count (λ l. Decides-and _ _ (Decides-and _ _ (Decides-eqb (h.row l) (h.column k)) (Decides-eqb (h.column l) (h.row k))) (same_value (h.value l) (h.value k))))))
 
 -- the four numbers of a table, and more after them
 table_then : (t : CostTable) {ks : List ℕ} {rest : List Clause} → Follows ks rest → Follows (cost_table_number t ∷ ks) (table_clauses t ++ rest)
@@ -108,13 +110,13 @@ unfolding hall_number
 table_then t {ks} more =
     flat _ ks
     (then_if 12 (size_decided t) (then_if 13 (order_decided t.n (quadratic t)) (then_if 14 (mirror_decided (quadratic t))
-    (then_if 15 (less most_magnitude (hall_magnitude t.n (quadratic t) (linear t))) more))))
+    (then_if 15 (Decides-ltb most_magnitude (hall_magnitude t.n (quadratic t) (linear t))) more))))
 
 -- ---- 17 to 19
 
 pub rank_decided : (rank start : ℕ) → Decides (open_rank_refused rank start) (BadRank rank start)
 unfolding open_rank_refused
-rank_decided rank start = reads to from (either (less most_rank rank) (both (equal rank 0) (equal start 1)))
+rank_decided rank start = Decides-like _ to from (Decides-or _ _ (Decides-ltb most_rank rank) (Decides-and _ _ (Decides-eqb rank 0) (Decides-eqb start 1)))
   where
     to : (most_rank < rank) ⊎ ((rank ≡ 0) × (start ≡ 1)) → BadRank rank start
     to (inl l) = rank_high l
@@ -132,14 +134,14 @@ finite (inf false) l h = absurd (false≢true h)
 finite (fin s m e) l h = record { negative = s; digits = m; exponent = e; value = refl }
 
 pub momentum_decided : (beta : Float) → Decides (is_momentum beta) (Momentum beta)
-momentum_decided beta = reads
+momentum_decided beta = Decides-like _
     (λ r. record { finite = finite beta r.0 r.1; from_zero = r.0; below_one = r.1 })
     (λ m. (m.from_zero, m.below_one))
-    (both (record { shows = λ e. e; shown = λ e. e }) (record { shows = λ e. e; shown = λ e. e }))
+    (Decides-and _ _ (((λ e. e), (λ e. e))) (((λ e. e), (λ e. e))))
 
 pub rule_decided : (rule : ℕ) (number : Float) → Decides (rule_refused rule number) (BadRule rule number)
 unfolding rule_refused
-rule_decided rule number = reads to from (either (less 4 rule) (both (equal rule 4) (neither (momentum_decided number))))
+rule_decided rule number = Decides-like _ to from (Decides-or _ _ (Decides-ltb 4 rule) (Decides-and _ _ (Decides-eqb rule 4) (Decides-not _ (momentum_decided number))))
   where
     to : (4 < rule) ⊎ ((rule ≡ 4) × (Momentum number → ⊥)) → BadRule rule number
     to (inl l) = rule_above l
@@ -151,7 +153,7 @@ rule_decided rule number = reads to from (either (less 4 rule) (both (equal rule
 
 -- a rule other than 4 has no momentum
 other_rule : (rule : StepRule) → rule_number rule < 4 → Decides false (BadMomentum rule)
-other_rule rule l = record { shows = λ e. absurd (false≢true e); shown = λ b. absurd (omega (arith, l, ap rule_number b.rule_four)) }
+other_rule rule l = ((λ e. absurd (false≢true e)), (λ b. absurd (omega (arith, l, ap rule_number b.rule_four))))
 
 abbrev number_in : Float → StepRule → Float
 number_in other (Grad step) = other
@@ -166,18 +168,18 @@ record_momentum_decided (GradAdv step) = other_rule (GradAdv step) (omega arith)
 record_momentum_decided (Coord step) = other_rule (Coord step) (omega arith)
 record_momentum_decided CoordNoStep = other_rule CoordNoStep (omega arith)
 record_momentum_decided (CoordMomentum beta) =
-    reads
+    Decides-like _
     (λ n. record { beta = beta; rule_four = refl; no_momentum_there = n })
     (λ b m. b.no_momentum_there (subst Momentum (ap (number_in beta) b.rule_four) m))
-    (neither (momentum_decided beta))
+    (Decides-not _ (momentum_decided beta))
 
 draws_decided : (draw_count : ℕ) → Decides (bad_draws draw_count) ((draw_count ≡ 0) ⊎ (most_draws < draw_count))
 unfolding bad_draws
-draws_decided draw_count = either (equal draw_count 0) (less most_draws draw_count)
+draws_decided draw_count = Decides-or _ _ (Decides-eqb draw_count 0) (Decides-ltb most_draws draw_count)
 
 pub width_decided : (width draw_count : ℕ) → Decides (width_refused width draw_count) (BadDraws width draw_count)
 unfolding width_refused
-width_decided width draw_count = reads to from (either (less most_width width) (draws_decided draw_count))
+width_decided width draw_count = Decides-like _ to from (Decides-or _ _ (Decides-ltb most_width width) (draws_decided draw_count))
   where
     to : (most_width < width) ⊎ ((draw_count ≡ 0) ⊎ (most_draws < draw_count)) → BadDraws width draw_count
     to (inl l) = width_above l
@@ -192,12 +194,12 @@ width_decided width draw_count = reads to from (either (less most_width width) (
 -- ---- 32 and 33
 
 stopped_decided : (stage : Stage) → Decides (is_stopped stage) (stage ≡ Stopped)
-stopped_decided Open = record { shows = λ e. absurd (false≢true e); shown = λ e. ap is_stopped e }
-stopped_decided Stopped = record { shows = λ e. refl; shown = λ e. refl }
+stopped_decided Open = ((λ e. absurd (false≢true e)), (λ e. ap is_stopped e))
+stopped_decided Stopped = ((λ e. refl), (λ e. refl))
 
 open_decided : (stage : Stage) → Decides (not (is_stopped stage)) (stage ≡ Open)
-open_decided Open = record { shows = λ e. refl; shown = λ e. refl }
-open_decided Stopped = record { shows = λ e. absurd (false≢true e); shown = λ e. ap (λ (s : Stage). not (is_stopped s)) e }
+open_decided Open = ((λ e. refl), (λ e. refl))
+open_decided Stopped = ((λ e. absurd (false≢true e)), (λ e. ap (λ (s : Stage). not (is_stopped s)) e))
 
 module _ (run : Run) where
   abbrev Faults : Type 0
@@ -227,9 +229,9 @@ module _ (run : Run) where
   faults_decided : DecidesAny (own_faults run) (OwnFault run)
   faults_decided =
       reads_any fault_read fault_back
-      (one_or (equal run.rank 0) (one_or (less most_rank run.rank) (one_or (less run.most run.sweeps)
-      (one_or (both (open_decided run.stage) (equal run.sweeps run.most)) (one_or (less 2 run.status)
-      (one_or (both (open_decided run.stage) (neither (equal run.status 0))) (one_or (less (run.size * run.sweeps) run.standing) none_left)))))))
+      (one_or (Decides-eqb run.rank 0) (one_or (Decides-ltb most_rank run.rank) (one_or (Decides-ltb run.most run.sweeps)
+      (one_or (Decides-and _ _ (open_decided run.stage) (Decides-eqb run.sweeps run.most)) (one_or (Decides-ltb 2 run.status)
+      (one_or (Decides-and _ _ (open_decided run.stage) (Decides-not _ (Decides-eqb run.status 0))) (one_or (Decides-ltb (run.size * run.sweeps) run.standing) none_left)))))))
 
   -- 33 of the record alone
   pub own_decided : Decides (own_refused run) (OwnFault run)
@@ -238,7 +240,7 @@ module _ (run : Run) where
 
   pub record_decided : (n : ℕ) → Decides (record_refused run n) (BadRecord run n)
   unfolding record_refused
-  record_decided n = reads to from (one_or (neither (equal run.size (n + 1))) faults_decided).any
+  record_decided n = Decides-like _ to from (one_or (Decides-not _ (Decides-eqb run.size (n + 1))) faults_decided).any
     where
       to : (run.size ≡ n + 1 → ⊥) ⊎ OwnFault run → BadRecord run n
       to (inl d) = sizes_disagree d
@@ -253,10 +255,7 @@ module _ (run : Run) where
 -- a slice whose length rests on one number with a limit
 module _ (limit number needed lent : ℕ) where
   rests : Decides (short (ltb limit number) needed lent) ((number ≤ limit) × (lent < needed))
-  rests = reads (λ r. (le_of r.0, r.1)) (λ r. ((λ l. omega arith), r.1)) (too_short_lem needed lent (less limit number))
-    where
-      le_of : (limit < number → ⊥) → number ≤ limit
-      le_of n = omega arith
+  rests = Decides-like _ (λ r. (omega (arith, r.0), r.1)) (λ r. ((λ l. omega arith), r.1)) (too_short_lem needed lent (Decides-ltb limit number))
 
 module _ (t : CostTable) where
   abbrev ShortBy : ℕ → Type 0
@@ -283,7 +282,7 @@ module _ (t : CostTable) where
   pub table_short_decided : Decides (table_short t) (TableTooShort t)
   unfolding table_short short_table
   table_short_decided =
-      reads table_short_read table_short_back
+      Decides-like _ table_short_read table_short_back
       (one_or (one_or (rests most_entries t.count t.count (length t.rows)) (one_or (rests most_entries t.count t.count (length t.cols))
       (one_or (rests most_entries t.count t.count (length t.values)) none_left))).any
       (one_or (rests most_wagons t.n t.n (length t.c)) none_left)).any
@@ -300,7 +299,7 @@ module _ (run : Run) (n lent : ℕ) where
       let c : (most_rank < run.rank → ⊥) = (λ x. no-rest (inr (inr (inr (inl x))))) in
       record {
         wagons_few = omega arith;
-        sizes_agree = stable (equal run.size (n + 1)) (λ x. no-rest (inr (inl x)));
+        sizes_agree = stable (Decides-eqb run.size (n + 1)) (λ x. no-rest (inr (inl x)));
         rank_some = omega arith;
         rank_few = omega arith;
         factor_less = l;
@@ -316,9 +315,9 @@ module _ (run : Run) (n lent : ℕ) where
   pub factor_short_decided : Decides (factor_short n run.size run.rank lent) (FactorTooShort run n lent)
   unfolding factor_short factor_refused
   factor_short_decided =
-      reads factor_short_read (λ f. (factor_stands f, f.factor_less))
+      Decides-like _ factor_short_read (λ f. (factor_stands f, f.factor_less))
       (too_short_lem (run.size * run.rank) lent
-      (one_or (less most_wagons n) (one_or (neither (equal run.size (n + 1))) (one_or (equal run.rank 0) (one_or (less most_rank run.rank) none_left)))).any)
+      (one_or (Decides-ltb most_wagons n) (one_or (Decides-not _ (Decides-eqb run.size (n + 1))) (one_or (Decides-eqb run.rank 0) (one_or (Decides-ltb most_rank run.rank) none_left)))).any)
 
 -- the draws
 module _ (rank draw_count lent : ℕ) where
@@ -343,13 +342,13 @@ module _ (rank draw_count lent : ℕ) where
   pub draws_short_decided : Decides (draws_short rank draw_count lent) (DrawsTooShort rank draw_count lent)
   unfolding draws_short
   draws_short_decided =
-      reads draws_short_read (λ f. (draws_stand f, f.draws_less))
-      (too_short_lem (draw_count * rank) lent (one_or (draws_decided draw_count) (one_or (equal rank 0) (one_or (less most_rank rank) none_left))).any)
+      Decides-like _ draws_short_read (λ f. (draws_stand f, f.draws_less))
+      (too_short_lem (draw_count * rank) lent (one_or (draws_decided draw_count) (one_or (Decides-eqb rank 0) (one_or (Decides-ltb most_rank rank) none_left))).any)
 
 -- a sweep's slices
 pub sweep_short_decided : (run : Run) (t : CostTable) (factor : ℕ) → Decides (sweep_short run t factor) (SweepTooShort run t factor)
 unfolding sweep_short
-sweep_short_decided run t factor = reads to from (one_or (table_short_decided t) (one_or (factor_short_decided run t.n factor) none_left)).any
+sweep_short_decided run t factor = Decides-like _ to from (one_or (table_short_decided t) (one_or (factor_short_decided run t.n factor) none_left)).any
   where
     to : TableTooShort t ⊎ FactorTooShort run t.n factor ⊎ ⊥ → SweepTooShort run t factor
     to (inl s) = sweep_table s
@@ -388,10 +387,10 @@ module _ (run : Run) (t : CostTable) (draw_count : ℕ) (lent : FinishLengths) w
   pub finish_short_decided : Decides (finish_short run t draw_count lent) (FinishTooShort run t draw_count lent)
   unfolding finish_short choice_short
   finish_short_decided =
-      reads finish_short_read finish_short_back
+      Decides-like _ finish_short_read finish_short_back
       (one_or (table_short_decided t) (one_or (draws_short_decided run.rank draw_count lent.draws) (one_or (factor_short_decided run t.n lent.factor)
       (one_or (one_or (rests most_wagons t.n t.n lent.b) (one_or (rests most_wagons t.n (t.n + 1) lent.dual) none_left)).any
-      (one_or (less lent.workspace search_workspace) none_left))))).any
+      (one_or (Decides-ltb lent.workspace search_workspace) none_left))))).any
 
 -- an open's
 module _ (t : CostTable) (rank most start numbers factor : ℕ) where
@@ -440,10 +439,10 @@ module _ (t : CostTable) (rank most start numbers factor : ℕ) where
   pub open_short_decided : Decides (open_short t rank most start numbers factor) (OpenTooShort t rank most start numbers factor)
   unfolding open_short start_short open_factor_short
   open_short_decided =
-      reads open_short_read open_short_back
+      Decides-like _ open_short_read open_short_back
       (one_or (table_short_decided t)
-      (one_or (too_short_lem StartNeeds numbers (one_or (less most_wagons t.n) (one_or (rank_decided rank start) (one_or (less 2 start) none_left))).any)
-      (one_or (too_short_lem FactorNeeds factor (one_or (less most_wagons t.n) (one_or (rank_decided rank start) none_left)).any) none_left))).any
+      (one_or (too_short_lem StartNeeds numbers (one_or (Decides-ltb most_wagons t.n) (one_or (rank_decided rank start) (one_or (Decides-ltb 2 start) none_left))).any)
+      (one_or (too_short_lem FactorNeeds factor (one_or (Decides-ltb most_wagons t.n) (one_or (rank_decided rank start) none_left)).any) none_left))).any
 
 -- ---- the calls
 
@@ -453,7 +452,7 @@ unfolding open_number
 open_answered t rank rule number most start numbers factor =
     answered
     (then_if 30 (open_short_decided t rank most start numbers factor)
-    (table_then t (then_if 16 (rank_decided rank start) (then_if 17 (rule_decided rule number) (then_if 18 (less 2 start) ends))))).first_is refl refl
+    (table_then t (then_if 16 (rank_decided rank start) (then_if 17 (rule_decided rule number) (then_if 18 (Decides-ltb 2 start) ends))))).first_is refl refl
 
 pub sweep_answered : (run : Run) (t : CostTable) (factor : ℕ) → Answered (sweep_number run t factor) (sweep_clauses run t factor)
 unfolding sweep_number
@@ -478,7 +477,7 @@ finish_answered run t width draw_count lent =
     (table_then t (then_if 17 (record_momentum_decided run.rule) (then_if 18 (width_decided width draw_count) ends)))))).first_is refl refl
 
 exchange_decided : (run : Run) (rule : ℕ) (number : Float) → Decides (bad_momentum run.rule || rule_refused rule number) (BadExchange run rule number)
-exchange_decided run rule number = reads to from (either (record_momentum_decided run.rule) (rule_decided rule number))
+exchange_decided run rule number = Decides-like _ to from (Decides-or _ _ (record_momentum_decided run.rule) (rule_decided rule number))
   where
     to : BadMomentum run.rule ⊎ BadRule rule number → BadExchange run rule number
     to (inl b) = old_momentum b

@@ -3,66 +3,36 @@ use Prim.Native.Nat.{ℕ, zero, suc, ◌<◌, ◌≤◌}
 use mathlib.Core.Path.{◌≡◌, refl, sym, ap, ◌∙◌, subst}
 use mathlib.Core.Bool.{Bool, true, false, not, ◌&&◌, ◌||◌, cond, false≢true}
 use mathlib.Core.List.{List, [], ◌∷◌, ◌++◌}
-use mathlib.Core.Logic.{◌⊎◌, inl, inr}
+use mathlib.Core.Logic.{◌⊎◌}
 use native.Mathlib.Omega.{arith}
-use lib.Dec.{ltb, leb, eqb}
+use lib.Dec.{leb, eqb}
 use borrow.Author.Tests.{ltb-true, lt-ltb, leb-true, le-leb, eqb-true, eq-eqb}
+use Rattle.std.specs.Bool.{Decides}
+use Rattle.std.proofs.lemmas.Bool.Decides.{Decides-like, Decides-and, Decides-or}
 use Rattle.laws.specs.Refusal.{◌if◌, or_else, first, any_of, short}
 use Rattle.laws.specs.Lists.{any_below}
 use Rattle.laws.proofs.Any.{below_true, below_at}
 use Rattle.run_record.specs.Conditions.{Clause, ◌when◌, Holds, NoneBefore, Answered}
 
--- the test holds exactly where the proposition does
-pub record Decides (test : Bool) (p : Type 0) : Type 0 where
-  pub shows : test ≡ true → p
-  pub shown : p → test ≡ true
-
--- the same proposition in other words
-pub reads : {test : Bool} {p q : Type 0} → (p → q) → (q → p) → Decides test p → Decides test q
-reads to from d = record { shows = λ e. to (d.shows e); shown = λ y. d.shown (from y) }
-
 -- what isn't false is true
 pub stable : {test : Bool} {p : Type 0} → Decides test p → ((p → ⊥) → ⊥) → p
-stable {test = true} d n = d.shows refl
-stable {test = false} d n = absurd (n (λ p. false≢true (d.shown p)))
+stable {test = true} d n = d.0 refl
+stable {test = false} d n = absurd (n (λ p. false≢true (d.1 p)))
 
 -- ---- numbers
 
-pub less : (a b : ℕ) → Decides (ltb a b) (a < b)
-less a b = record { shows = ltb-true a b; shown = lt-ltb a b }
-
 pub at_most : (a b : ℕ) → Decides (leb a b) (a ≤ b)
-at_most a b = record { shows = leb-true a b; shown = le-leb a b }
+at_most a b = (leb-true a b, le-leb a b)
 
-pub equal : (a b : ℕ) → Decides (eqb a b) (a ≡ b)
-equal a b = record { shows = eqb-true a b; shown = eq-eqb a b }
+-- ---- connectives, by `cond`
 
--- ---- connectives
-
-pub neither : {a : Bool} {p : Type 0} → Decides a p → Decides (not a) (p → ⊥)
-neither {a = true} d = record { shows = λ e. absurd (false≢true e); shown = λ n. absurd (n (d.shows refl)) }
-neither {a = false} d = record { shows = λ e p. false≢true (d.shown p); shown = λ n. refl }
-
-pub both : {a b : Bool} {p q : Type 0} → Decides a p → Decides b q → Decides (a && b) (p × q)
-both {a = true} {b} d e = record { shows = λ t. (d.shows refl, e.shows t); shown = λ r. e.shown r.1 }
-both {a = false} {b} d e = record { shows = λ t. absurd (false≢true t); shown = λ r. d.shown r.0 }
-
-pub either : {a b : Bool} {p q : Type 0} → Decides a p → Decides b q → Decides (a || b) (p ⊎ q)
-either {a = true} {b} d e = record { shows = λ t. inl (d.shows refl); shown = λ r. refl }
-either {a = false} {b} {p} {q} d e = record { shows = λ t. inr (e.shows t); shown = back }
-  where
-    back : p ⊎ q → b ≡ true
-    back (inl x) = absurd (false≢true (d.shown x))
-    back (inr y) = e.shown y
-
--- the same by `cond`
 pub or_else_lem : {a b : Bool} {p q : Type 0} → Decides a p → Decides b q → Decides (cond a true b) (p ⊎ q)
-or_else_lem {a = true} {b} d e = either d e
-or_else_lem {a = false} {b} d e = either d e
+or_else_lem {a = true} {b} d e = Decides-or true b d e
+or_else_lem {a = false} {b} d e = Decides-or false b d e
 
 pub and_then : {a b : Bool} {p q : Type 0} → Decides a p → Decides b q → Decides (cond a b false) (p × q)
-and_then {a = true} {b} d e = both d e
-and_then {a = false} {b} d e = both d e
+and_then {a = true} {b} d e = Decides-and true b d e
+and_then {a = false} {b} d e = Decides-and false b d e
 
 -- one of a list
 pub record DecidesAny (tests : List Bool) (p : Type 0) : Type 0 where
@@ -70,29 +40,26 @@ pub record DecidesAny (tests : List Bool) (p : Type 0) : Type 0 where
 
 pub none_left : DecidesAny [] ⊥
 unfolding any_of
-none_left = record { any = record { shows = false≢true; shown = λ x. absurd x } }
+none_left = record { any = (false≢true, λ x. absurd x) }
 
 pub one_or : {a : Bool} {bs : List Bool} {p q : Type 0} → Decides a p → DecidesAny bs q → DecidesAny (a ∷ bs) (p ⊎ q)
 unfolding any_of
-one_or {a = true} d e = record { any = either d e.any }
-one_or {a = false} d e = record { any = either d e.any }
+one_or {a = true} {bs} d e = record { any = Decides-or true (any_of bs) d e.any }
+one_or {a = false} {bs} d e = record { any = Decides-or false (any_of bs) d e.any }
 
 pub reads_any : {tests : List Bool} {p q : Type 0} → (p → q) → (q → p) → DecidesAny tests p → DecidesAny tests q
-reads_any to from d = record { any = reads to from d.any }
+reads_any {tests} to from d = record { any = Decides-like (any_of tests) to from d.any }
 
 -- some index below n
 pub some_below : {test : ℕ → Bool} {p : ℕ → Type 0} (n : ℕ) → ((k : ℕ) → Decides (test k) (p k)) → Decides (any_below n test) ((k : ℕ) × (k < n) × p k)
 some_below {test} {p} n d =
-    record {
-      shows = λ e. let (k, l, t) = below_true test n e in (k, l, (d k).shows t);
-      shown = λ r. below_at test n r.0 r.1 ((d r.0).shown r.2);
-    }
+    ((λ e. let (k, l, t) = below_true test n e in (k, l, (d k).0 t)), (λ r. below_at test n r.0 r.1 ((d r.0).1 r.2)))
 
 -- a slice that is too short: what its length rests on stands, and it is shorter
 pub too_short_lem : {refused : Bool} {p : Type 0} (needed lent : ℕ) → Decides refused p → Decides (short refused needed lent) ((p → ⊥) × (lent < needed))
 unfolding short
-too_short_lem {refused = true} needed lent d = record { shows = λ e. absurd (false≢true e); shown = λ r. absurd (r.0 (d.shows refl)) }
-too_short_lem {refused = false} needed lent d = record { shows = λ e. ((λ p. false≢true (d.shown p)), ltb-true lent needed e); shown = λ r. lt-ltb lent needed r.1 }
+too_short_lem {refused = true} needed lent d = ((λ e. absurd (false≢true e)), (λ r. absurd (r.0 (d.0 refl))))
+too_short_lem {refused = false} needed lent d = ((λ e. ((λ p. false≢true (d.1 p)), ltb-true lent needed e)), (λ r. lt-ltb lent needed r.1))
 
 -- ---- the first of a list
 
@@ -112,8 +79,8 @@ ends = record { first_is = no_more refl }
 
 pub then_if : (k : ℕ) {test : Bool} {p : Type 0} {ks : List ℕ} {rest : List Clause} → Decides test p → Follows ks rest → Follows (suc k if test ∷ ks) (suc k when p ∷ rest)
 unfolding first or_else
-then_if k {test = true} d more = record { first_is = here (d.shows refl) refl }
-then_if k {test = false} d more = record { first_is = later (λ p. false≢true (d.shown p)) more.first_is }
+then_if k {test = true} d more = record { first_is = here (d.0 refl) refl }
+then_if k {test = false} d more = record { first_is = later (λ p. false≢true (d.1 p)) more.first_is }
 
 -- a list that begins with the first of another
 first_flat : (js ks : List ℕ) → first (first js ∷ ks) ≡ first (js ++ ks)

@@ -14,7 +14,6 @@ use Rattle.run_record.specs.declared.Stage.{Stage}
 use Rattle.run_record.specs.declared.Stage.TheVariants.{Open, Stopped}
 use Rattle.run_record.specs.declared.Run.{Run}
 use Rattle.laws.specs.Refusal.{any_of}
-use Rattle.laws.proofs.Any.{never}
 use Rattle.factor.specs.Shapes.{Shaped}
 use Rattle.step_rules.proofs.Standing.{standing_in_few}
 use Rattle.run_record.specs.Numbers.{is_stopped}
@@ -23,12 +22,12 @@ use Rattle.run_sweep.specs.Sweep.{State, while_open, status_found, stage_after, 
 use Rattle.run_sweep.specs.Running.{Running, Sweepable}
 
 stays : (stage : Stage) (next last : State) → is_stopped stage ≡ true → while_open stage next last ≡ last
-stays Open next last e = never e
+stays Open next last e = cc
 stays Stopped next last e = refl
 
 pub goes : (stage : Stage) (next last : State) → is_stopped stage ≡ false → while_open stage next last ≡ next
 goes Open next last e = refl
-goes Stopped next last e = never (sym e)
+goes Stopped next last e = cc
 
 module _ (w : Work) (run : Run) (factor : List Float) where
   pub sweeps_none : sweeps_up_to 0 w run factor ≡ record { run = run; factor = factor }
@@ -50,16 +49,13 @@ module _ (w : Work) (run : Run) (factor : List Float) where
 -- the most stops the run
 at_most : (b : Bool) (stage : Stage) → is_stopped (cond (any_of (not b ∷ true ∷ [])) Stopped stage) ≡ false → ⊥
 unfolding any_of
-at_most true stage e = never (sym e)
-at_most false stage e = never (sym e)
+at_most true stage e = cc
+at_most false stage e = cc
 
 full_stops : (found : ℕ) (full : Bool) (stage : Stage) → is_stopped (stage_after found full stage) ≡ false → full ≡ false
 unfolding stage_after
 full_stops found false stage e = refl
 full_stops found true stage e = absurd (at_most (eqb found 0) stage e)
-
-more : (a b : ℕ) → a < b → (a + 1 ≡ b → ⊥) → a + 1 < b
-more a b h n = omega arith
 
 one_more : (standing size sweeps left : ℕ) → standing ≤ size * sweeps → left ≤ size → standing + left ≤ size * (sweeps + 1)
 one_more standing size sweeps left l m = let s : size * (sweeps + 1) ≡ size * sweeps + size = rw (add-one sweeps) (mul-suc size sweeps) in omega arith
@@ -70,9 +66,7 @@ pub running_after : (run : Run) (w : Work) (factor : List Float) (left : ℕ) �
 unfolding run_after advanced
 running_after run w factor left l s m =
     record {
-      sweep_left = λ open'.
-          more run.sweeps run.most l
-          (eqb-false (run.sweeps + 1) run.most (full_stops (status_found run w factor) (eqb (run.sweeps + 1) run.most) run.stage open'));
+      sweep_left = λ open'. omega (arith, eqb-false (run.sweeps + 1) run.most (full_stops (status_found run w factor) (eqb (run.sweeps + 1) run.most) run.stage open'));
       standing_few = one_more run.standing run.size run.sweeps left s m;
     }
 

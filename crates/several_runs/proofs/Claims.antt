@@ -1,12 +1,12 @@
 -- What is claimed of each of the runs, read off the plain definition for every list of turns. Assumes nothing.
-use Prim.Native.Nat.{ℕ, ◌+◌, ◌/◌, ◌%◌, ◌≤◌, ◌<◌}
+use Prim.Native.Nat.{ℕ, ◌+◌, ◌/◌, ◌≤◌, ◌<◌}
 use mathlib.Core.Path.{◌≡◌, refl, sym, ap, ◌∙◌, subst}
 use mathlib.Core.Bool.{Bool, true, false, cond}
 use mathlib.Core.List.{List, [], ◌∷◌, ◌++◌}
 use mathlib.Core.Logic.{◌⊎◌, inl, inr}
 use native.Mathlib.Nat.{le-div_iff_mul-le}
 use native.Mathlib.Omega.{arith}
-use lib.Dec.{eqb, ltb}
+use lib.Dec.{eqb}
 use lib.Ieee.{Float}
 use borrow.Author.Tests.{eqb-true, eqb-false, eq-eqb}
 use Rattle.laws.specs.Refusal.{first, or_else}
@@ -32,10 +32,7 @@ share_some : (sweeps runs place : ℕ) → 1 ≤ runs → runs ≤ sweeps → 1 
 unfolding share
 share_some sweeps runs place some few =
     let one : 1 ≤ sweeps / runs = (le-div_iff_mul-le {k = runs} {x = 1} {y = sweeps} some).1 (omega arith) in
-    more (sweeps / runs) (cond (ltb place (sweeps % runs)) 1 0) one
-  where
-    more : (a b : ℕ) → 1 ≤ a → 1 ≤ a + b
-    more a b l = omega arith
+    omega (arith, one)
 
 pub open_gets : (count : ℕ) (t : Tables) (at : ℕ → Plain) (call : TurnCall) (i : ℕ) → i < count → (at i).stage ≡ Open → shared_number count t at call ≡ 0 → 1 ≤ shared_share count t at call i
 unfolding shared_number shared_share share_of record_of

@@ -46,9 +46,6 @@ module _ (sweeps count : ℕ) (at : ℕ → Run) (t : Tables) (factors₀ : List
   unfolding joined
   start = refl
 
-  pub finish : (i : ℕ) {factors : List Float} → factors ≡ over (front i) factors₀ → i ≤ count → count ≤ i → factors ≡ over (front count) factors₀
-  finish i e up down = let same : i ≡ count = omega arith in e ∙ ap (λ (x : ℕ). over (front x) factors₀) same
-
   module _ {i entries costs place opens before k : ℕ} {factors : List Float} (l : i < count) (c : Cursor at t (length factors₀) i entries costs place)
       (o : opens ≡ open_below at count) (b : before ≡ open_below at i) (f : factors ≡ over (front i) factors₀) (s : k ≡ only_open (at i).stage (share sweeps opens before)) where
     front_long : length (front i) ≡ place

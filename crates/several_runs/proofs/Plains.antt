@@ -1,6 +1,6 @@
 -- How many sweeps a plain run makes, and that it stops at its most. Assumes nothing.
 use Prim.Native.Nat.{ℕ, zero, suc, ◌+◌, ◌≤◌, ◌<◌}
-use mathlib.Core.Path.{◌≡◌, refl, sym, ap, ◌∙◌, subst}
+use mathlib.Core.Path.{◌≡◌, refl, sym, ap, ◌∙◌}
 use mathlib.Core.Bool.{Bool, true, false, cond}
 use mathlib.Core.Logic.{◌⊎◌, inl, inr}
 use native.Mathlib.Nat.{add_comm}
@@ -15,16 +15,9 @@ use Rattle.run_contract.specs.Calls.{Settings}
 use Rattle.run_contract.specs.PlainRun.{Plain, plain_open, plain_sweeps, if_open, swept, checked, at_most, stops, with_stop, found_status, objective_at}
 use Rattle.run_contract.proofs.Follows.{turned, stopped_stays, sweeps_add}
 
-abbrev IsOpen : Stage → Type 0
-IsOpen Open = Unit {0}
-IsOpen Stopped = ⊥
-
 -- an open run has a sweep left
 pub record Left (p : Plain) : Type 0 where
   pub left : p.stage ≡ Open → p.sweeps < p.most
-
-not_both : (s : Stage) → s ≡ Open → s ≡ Stopped → ⊥
-not_both s o e = subst IsOpen (sym o ∙ e) tt
 
 not_open : (s : Stage) → (s ≡ Open → ⊥) → s ≡ Stopped
 not_open Open n = absurd (n refl)
@@ -49,7 +42,7 @@ at_most_keeps p = by (eqb p.sweeps p.most) refl
     by : (full : Bool) → eqb p.sweeps p.most ≡ full
         → ((cond full (with_stop p p.last Stopped p.status) p).sweeps ≡ p.sweeps) × ((cond full (with_stop p p.last Stopped p.status) p).most ≡ p.most)
         × ((cond full (with_stop p p.last Stopped p.status) p).stage ≡ Open → p.sweeps ≡ p.most → ⊥)
-    by true e = (refl, refl, λ o x. not_both Stopped o refl)
+    by true e = (refl, refl, λ o x. cc)
     by false e = (refl, refl, λ o. eqb-false _ _ e)
 
 swept_keeps : (w : Work) (p : Plain) → ((swept w p).sweeps ≡ p.sweeps + 1) × ((swept w p).most ≡ p.most)
@@ -72,11 +65,8 @@ turned_left w p l =
           let a = at_most_keeps (checked w (swept w p)) in
           let k = turned_keeps w p in
           let far : p.sweeps + 1 ≡ p.most → ⊥ = (λ e. a.2 o (c.0 ∙ s.0 ∙ e ∙ sym (c.1 ∙ s.1))) in
-          below p.sweeps p.most l far k.0 k.1;
+          omega (arith, far, k.0, k.1);
     }
-  where
-    below : (x y : ℕ) → x < y → (x + 1 ≡ y → ⊥) → {u v : ℕ} → u ≡ x + 1 → v ≡ y → u < v
-    below x y l n e f = omega arith
 
 -- ---- up to k of them
 
@@ -125,5 +115,5 @@ unfolding plain_open
 open_left o = (record { left = λ e. by o.most e }, refl, refl)
   where
     by : (most : ℕ) → cond (eqb most 0) Stopped Open ≡ Open → 0 < most
-    by zero e = absurd (not_both Stopped e refl)
+    by zero e = let no : ⊥ = cc in absurd no
     by (suc m) e = omega arith

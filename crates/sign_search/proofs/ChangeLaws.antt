@@ -20,7 +20,8 @@ use Rattle.laws.specs.Sum.{sum, total, only}
 use Rattle.limits.specs.Limits.{most_sign_magnitude}
 use Rattle.tables.specs.Table.{Table, sign, sign_at}
 use Rattle.tables.specs.Flip.{flip_share, flip_term}
-use Rattle.laws.proofs.Integer.{parts, differences, ring, times_one, abs_add, abs_mul, abs_cond, fits_abs}
+use Rattle.std.proofs.lemmas.Int.{unsigned_abs-mul, fits_signed_from_abs}
+use Rattle.laws.proofs.Integer.{parts, differences, ring, times_one, abs_add, abs_cond}
 use Rattle.laws.proofs.MapFirst.{get_d_map_first, length_fill}
 use Rattle.laws.proofs.Sums.{only_zero, sum_more, sum_bounded, total_le}
 use Rattle.tables.proofs.Shares.{abs_sign, sign_vector}
@@ -49,7 +50,7 @@ abs_flip i a j s t v =
     abs_cond (eqb i a) _ _ _ (abs_cond (eqb i j) _ _ _ (omega arith) four) (omega arith)
   where
     four : nat_abs (negsuc 3 *ℤ v *ℤ sign s *ℤ sign t) ≤ 4 * nat_abs v
-    four = simp (abs_mul, abs_sign) (omega arith)
+    four = simp (unsigned_abs-mul, abs_sign) (omega arith)
 
 pub plus : (x : ℕ) (v : ℤ) → x ≡ 0 → v ≡ v *ℤ sign x
 plus x v e = rw e (sym (times_one v))
@@ -59,11 +60,11 @@ minus zero v d = absurd (d refl)
 minus (suc x) v d = rw (parts v) (simp differences (omega ring))
 
 pub signed_small : (x : ℕ) (v : ℤ) → nat_abs v ≤ most_sign_magnitude → nat_abs (v *ℤ sign x) ≤ most_sign_magnitude
-signed_small x v h = simp (abs_mul, abs_sign) (omega arith)
+signed_small x v h = simp (unsigned_abs-mul, abs_sign) (omega arith)
 
 pub weighed_fits : (w v : ℤ) (x y : ℕ) → nat_abs w ≤ 8 → nat_abs v ≤ most_sign_magnitude → SFits w64 (w *ℤ (v *ℤ sign x *ℤ sign y))
 weighed_fits w v x y few h =
-    fits_abs (w *ℤ (v *ℤ sign x *ℤ sign y)) (rw (abs_mul w (v *ℤ sign x *ℤ sign y))
+    fits_signed_from_abs w64 (w *ℤ (v *ℤ sign x *ℤ sign y)) (rw (unsigned_abs-mul w (v *ℤ sign x *ℤ sign y))
     (lt_of_le_of_lt (mul-le-mul few (signed_small y (v *ℤ sign x) (signed_small x v h))) (omega arith)))
 
 pub off_diagonal : (i j x y : ℕ) (v : ℤ) → (i ≡ j → ⊥) → negsuc 3 *ℤ (v *ℤ sign x *ℤ sign y) ≡ flip_share i i j (sign x) (sign y) v
@@ -149,7 +150,7 @@ module _ (t : Table) (x : List ℕ) where
 
     pub laid_fits : k ≤ t.count → SFits w64 (get_or changes row (pos 0) +ℤ held)
     laid_fits h =
-        rw laid (fits_abs (sum k (term row)) (lt_of_le_of_lt (sum_bounded 4 t.count k (term row) size (term_small row) h) (omega (arith, ok.small))))
+        rw laid (fits_signed_from_abs w64 (sum k (term row)) (lt_of_le_of_lt (sum_bounded 4 t.count k (term row) size (term_small row) h) (omega (arith, ok.small))))
 
     laid_sums : (i : ℕ) → i < length x → get_or (set changes row (get_or changes row (pos 0) +ℤ held)) i (pos 0) ≡ sum k (term i)
     laid_sums i l = go (ℕ_discrete i row)
@@ -181,7 +182,7 @@ module _ (t : Table) (x : List ℕ) where
       more_small = omega (arith, abs_add held (term row k), p.small, term_small row k)
 
       pub more_fits : SFits w64 (held +ℤ term row k)
-      more_fits = fits_abs (held +ℤ term row k) (omega (arith, more_small, total_le t.count (suc k) size h, ok.small))
+      more_fits = fits_signed_from_abs w64 (held +ℤ term row k) (omega (arith, more_small, total_le t.count (suc k) size h, ok.small))
 
       pub summed_more : (z : ℤ) → z ≡ held +ℤ term row k → Summed t x (k + 1) row z changes
       summed_more z e = record {

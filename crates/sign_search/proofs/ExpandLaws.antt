@@ -1,10 +1,10 @@
 -- A parent's children by its listed changes are its children on the table, and a level's parents one by one. Assumes nothing.
 use Prim.Native.Nat.{ℕ, zero, suc, ◌+◌, ◌*◌, ◌-◌, ◌≤◌, ◌<◌}
 use native.Mathlib.Decide.{ℕ_discrete}
-use native.Mathlib.Nat.{suc-mul, le_trans, mul-le-mul_right}
+use native.Mathlib.Nat.{le_trans, mul-le-mul_right}
 use native.Mathlib.Omega.{arith}
 use borrow.Author.Tests.{eq-eqb, ne_eqb}
-use mathlib.Core.Bool.{Bool, true, false, cond}
+use mathlib.Core.Bool.{Bool, false, cond}
 use mathlib.Core.List.{List, [], ◌∷◌, ◌++◌, map, map-append}
 use mathlib.Core.Path.{◌≡◌, refl, sym, ap, ap₂, ◌∙◌, subst}
 use lib.Dec.{eqb}
@@ -22,7 +22,7 @@ use Rattle.local_search.specs.Children.{change_of, flip_w, listed_children, List
 use Rattle.local_search.proofs.SignLaws.{improving_ext}
 use Rattle.local_search.proofs.SearchLaws.{next_level_is}
 use Rattle.local_search.proofs.ExpandLaws.{part_long, parent_is}
-use Rattle.local_search.proofs.Decoded.{kept_decoded, kept_tidy, tidy_children, all_sign_choices, children_of_decoded}
+use Rattle.local_search.proofs.Decoded.{cond_map, kept_decoded, kept_tidy, tidy_children, all_sign_choices, children_of_decoded}
 use Rattle.tables.specs.Table.{Table}
 use Rattle.sign_search.specs.Search.{change_in}
 use Rattle.sign_search.specs.Within.{Bounds, near, stays_near}
@@ -30,10 +30,6 @@ use Rattle.sign_search.specs.Clauses.{Changes, exists_in, table_children, TableS
 use Rattle.sign_search.proofs.NearLaws.{whole, never, near_start, near_nowhere, within_first, within_behind, improving_none, improving_cut}
 
 -- ---- children that are taken over one by one
-
-cond_map : {X Y : Type 0} (f : X → Y) (b : Bool) (x : X) → map f (cond b (x ∷ []) []) ≡ cond b (f x ∷ []) []
-cond_map f true x = refl
-cond_map f false x = refl
 
 map_improving : {X Y : Type 0} (f : X → Y) (exists : X → ℕ → Bool) (flip : ℕ → X → X) (exists' : Y → ℕ → Bool) (flip' : ℕ → Y → Y) (x : X) (y : Y) (n : ℕ)
     → ((i : ℕ) → i < n → (exists x i ≡ exists' y i) × (f (flip i x) ≡ flip' i y)) → map f (improving exists flip n x) ≡ improving exists' flip' n y
@@ -155,10 +151,6 @@ module _ (t : Table) (m : ℕ) (o : ℤ) (w : List ℕ) (changes : List ℤ) (is
 -- the first m of a slice, as a part that is lent
 pub part_size : (m : ℕ) (l : List ℕ) → m ≤ length l → length (take (m - 0) (drop 0 l)) ≡ m
 part_size m l h = simp (length-take, length-drop) (omega arith)
-
--- row k lies within the rows of the level
-pub row_room : (m count k bytes : ℕ) → k < count → count * m ≤ bytes → k * m + m ≤ bytes
-row_room m count k bytes h room = omega (arith, mul-le-mul_right m h, suc-mul k m)
 
 -- what a row leaves tidy, of a part that is lent
 pub part_tidy : (m n w : ℕ) (part : List ℕ) (c₁ c₂ : ℕ) (o₁ o₂ : List ℤ) (s₁ s₂ : List ℕ) → w ≡ n

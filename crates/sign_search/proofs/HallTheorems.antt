@@ -9,8 +9,7 @@ use mathlib.Core.Path.{◌≡◌, refl, sym, subst₂}
 use borrow.Author.Tests.{eq-eqb, ne_eqb}
 use lib.IntN.{ℤ, pos, ◌-ℤ◌}
 use lib.Signed.{◌≤ℤ◌}
-use lib.ListN.{length, get_or}
-use lib.Seq.{get_or-set_same, get_or-set_other}
+use lib.ListN.{length}
 use Rattle.laws.specs.Lists.{elem}
 use Rattle.tables.specs.Table.{Table, value_at, same_sign}
 use Rattle.tables.specs.Cost.{cost_eighths, decoded, decoded_byte}
@@ -19,6 +18,7 @@ use Rattle.tables.proofs.Choices.{cost_ext}
 use Rattle.sign_table.specs.SignTable.{sign_table}
 use Rattle.sign_table.proofs.Theorems.{objective_cost}
 use Rattle.sign_table.proofs.Sizes.{sign_range, sign_rising, sign_mirrored}
+use Rattle.sign_words.proofs.PackedLaws.{flip_sign_here, flip_sign_there}
 use Rattle.local_search.specs.Level.{flip_byte, flip_sign}
 use Rattle.sign_search.specs.Search.{objective_in, Mirrors, beam_search}
 use Rattle.sign_search.specs.Choices.{one_moved, all_moved}
@@ -41,27 +41,19 @@ moved_right (suc a) zero = refl
 moved_right (suc a) (suc b) = refl
 
 module _ (n : ℕ) (x : List ℕ) (long : length x ≡ suc n) where
-  flipped_here : (i : ℕ) → i < suc n → elem (flip_sign i x) i ≡ flip_byte (elem x i)
-  unfolding flip_sign
-  flipped_here i h = get_or-set_same x i (flip_byte (get_or x i 0)) 0 (omega arith)
-
-  flipped_there : (i j : ℕ) → (j ≡ i → ⊥) → elem (flip_sign i x) j ≡ elem x j
-  unfolding flip_sign
-  flipped_there i j d = get_or-set_other x i j (flip_byte (get_or x i 0)) 0 d
-
   -- a wagon's sign moves the wagon
   pub decoded_wagon : (i j : ℕ) → i < n → j < n → decoded n (flip_sign i x) j ≡ one_moved i (decoded n x) j
   unfolding decoded_byte one_moved
   decoded_wagon i j h k = go (ℕ_discrete i j)
     where
       go : Dec (i ≡ j) → decoded n (flip_sign i x) j ≡ one_moved i (decoded n x) j
-      go (yes e) = rw (← e, eq-eqb i i refl, flipped_here i (omega arith), flipped_there i n (λ q. omega arith)) (moved_left (elem x i) (elem x n))
-      go (no d) = rw (ne_eqb i j d, flipped_there i j (λ q. d (sym q)), flipped_there i n (λ q. omega arith))
+      go (yes e) = rw (← e, eq-eqb i i refl, flip_sign_here i x (omega arith), flip_sign_there i x n (λ q. omega arith)) (moved_left (elem x i) (elem x n))
+      go (no d) = rw (ne_eqb i j d, flip_sign_there i x j (λ q. d (sym q)), flip_sign_there i x n (λ q. omega arith))
 
   -- the anchor's moves all
   pub decoded_anchor : (j : ℕ) → j < n → decoded n (flip_sign n x) j ≡ all_moved (decoded n x) j
   unfolding decoded_byte all_moved
-  decoded_anchor j k = rw (flipped_here n (omega arith), flipped_there n j (λ q. omega arith)) (moved_right (elem x j) (elem x n))
+  decoded_anchor j k = rw (flip_sign_here n x (omega arith), flip_sign_there n x j (λ q. omega arith)) (moved_right (elem x j) (elem x n))
 
 -- ---- the theorems
 

@@ -9,15 +9,16 @@ use mathlib.Core.List.{List}
 use mathlib.Core.Path.{◌≡◌, refl, sym, ap, ap₂, ◌∙◌}
 use borrow.Author.Tests.{eq-eqb, ne_eqb}
 use lib.Dec.{eqb}
-use lib.IntN.{ℤ, pos, negsuc, neg_ℤ, nat_abs, ◌+ℤ◌, ◌-ℤ◌, ◌*ℤ◌}
-use lib.Signed.{◌≤ℤ◌, lt_z}
+use lib.IntN.{ℤ, pos, neg_ℤ, nat_abs, ◌+ℤ◌, ◌-ℤ◌, ◌*ℤ◌, +ℤ_comm, -ℤ-+ℤ_cancel}
+use lib.Signed.{◌≤ℤ◌, lt_z, pos-nat_abs, yes_non_neg}
 use lib.ListN.{length, get_or, set}
 use lib.Seq.{get_or-set_same, get_or-set_other}
 use mir.Syntax.{w64}
 use mir.Val.{SFits}
 use Rattle.laws.specs.Sum.{sum}
 use Rattle.laws.specs.Lists.{elem}
-use Rattle.laws.proofs.Integer.{parts, differences, ring, integers, le_parts, add_parts, neg-⁺, neg-⁻, abs_add, abs_neg, fits_abs, lt_z_false}
+use Rattle.std.proofs.lemmas.Int.{ints, fits_signed_from_abs}
+use Rattle.laws.proofs.Integer.{abs_add, abs_neg}
 use Rattle.laws.proofs.Sums.{sum_ext, sum_bounded}
 use Rattle.limits.specs.Limits.{most_sign_magnitude}
 use Rattle.tables.specs.Table.{Table, magnitude_of, sign, sign_at, share, value_at, objective_term, objective_of, floor_of, floor_term}
@@ -49,17 +50,10 @@ objective_ext t x y h = sum_ext t.count _ _ (λ k l. ap₂ (λ (a b : ℤ). shar
 
 -- ---- heights above the floor
 
-not_negative : (z : ℤ) → pos 0 ≤ℤ z → z ≡ pos (nat_abs z)
-not_negative (pos n) h = refl
-not_negative (negsuc n) h = absurd (omega (arith, le_parts h))
-
 above : (f o : ℤ) → f ≤ℤ o → o ≡ f +ℤ pos (nat_abs (o -ℤ f))
 above f o h =
-    let low : pos 0 ≤ℤ (o -ℤ f) = omega (integers, add_parts o (neg_ℤ f), neg-⁺ f, neg-⁻ f) in
-    back f o ∙ ap (λ (z : ℤ). f +ℤ z) (not_negative (o -ℤ f) low)
-  where
-    back : (a b : ℤ) → b ≡ a +ℤ (b -ℤ a)
-    back a b = rw (parts a, parts b) (simp differences (omega ring))
+    let low : pos 0 ≤ℤ (o -ℤ f) = omega (arith, ints) in
+    sym (+ℤ_comm f (o -ℤ f) ∙ -ℤ-+ℤ_cancel o f) ∙ ap (λ (z : ℤ). f +ℤ z) (sym (pos-nat_abs (o -ℤ f) (yes_non_neg low)))
 
 module _ {m : ℕ} {t : Table} (ok : Mirrors m t) where
   pub floor_le : (x : List ℕ) → floor_of t ≤ℤ objective_in t x
@@ -93,7 +87,7 @@ module _ {m : ℕ} {t : Table} (ok : Mirrors m t) where
       let f : ℤ = floor_of t in
       let a : objective_in t x ≡ f +ℤ pos (nat_abs (objective_in t x -ℤ f)) = above f (objective_in t x) (floor_le x) in
       let b : objective_in t y ≡ f +ℤ pos (nat_abs (objective_in t y -ℤ f)) = above f (objective_in t y) (floor_le y) in
-      omega (integers, add_parts f (pos (nat_abs (objective_in t x -ℤ f))), add_parts f (pos (nat_abs (objective_in t y -ℤ f))), add_parts (objective_in t y) (pos d))
+      omega (arith, ints)
 
   -- ---- for a magnitude that the code's sums hold
 
@@ -113,11 +107,11 @@ module _ {m : ℕ} {t : Table} (ok : Mirrors m t) where
         omega (arith, b)
 
     pub objective_fits : (x : List ℕ) → SFits w64 (objective_in t x)
-    objective_fits x = fits_abs (objective_in t x) (lt_of_le_of_lt (objective_abs x) (omega arith))
+    objective_fits x = fits_signed_from_abs w64 (objective_in t x) (lt_of_le_of_lt (objective_abs x) (omega arith))
 
     pub height_low : (x : List ℕ) → height_in t x < 2 ^ 64
     unfolding height_in
     height_low x = omega (arith, objective_abs x, floor_abs, abs_add (objective_in t x) (neg_ℤ (floor_of t)), abs_neg (floor_of t))
 
 pub not_below : (a b : ℤ) → lt_z a b ≡ false → b ≤ℤ a
-not_below a b e = omega (integers, lt_z_false a b e)
+not_below a b e = omega (arith, ints)

@@ -106,11 +106,7 @@ apart_self x = total_none (length x) (differ x x) (λ j. ap (λ (b : Bool). cond
 
 -- a child of the start lies one sign away
 pub near_start : (x : List ℕ) (i most : ℕ) → i < length x → (most ≡ 0 → ⊥) → near most x x i ≡ true
-near_start x i most h some = near_inside x x i h most (omega (arith, apart_self x, zero_or most some))
-  where
-    zero_or : (n : ℕ) → (n ≡ 0 → ⊥) → 0 < n
-    zero_or zero d = absurd (d refl)
-    zero_or (suc n) d = omega arith
+near_start x i most h some = near_inside x x i h most (omega (arith, apart_self x))
 
 pub near_nowhere : (x : List ℕ) (i most : ℕ) → i < length x → most ≡ 0 → near most x x i ≡ false
 unfolding near

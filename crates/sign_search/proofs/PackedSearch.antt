@@ -4,12 +4,13 @@ use native.Mathlib.Omega.{arith}
 use mathlib.Core.List.{List}
 use mathlib.Core.Path.{◌≡◌, refl, ap, ap₂, ◌∙◌, subst}
 use lib.ListN.{length}
+use Rattle.std.specs.List.{AllZip}
 use Rattle.sign_words.specs.Signs.{flip_sign, Binary}
 use Rattle.sign_words.specs.Packed.{unpacked, packed, flip_in}
 use Rattle.sign_words.proofs.PackedLaws.{unpacked_packed, flip_packed, binary_flip}
 use Rattle.local_search.specs.SignSearch.{lower, improving, improves, sign_search}
 use Rattle.local_search.proofs.LevelLaws.{flipped_length}
-use Rattle.local_search.proofs.Same.{All2, same_searched}
+use Rattle.local_search.proofs.Same.{same_searched}
 use Rattle.local_search.proofs.SignLaws.{same_improving}
 use Rattle.tables.specs.Table.{Table}
 use Rattle.sign_search.specs.Search.{objective_in, change_in, height_in, beam_search, packed_search, SameFound}
@@ -37,7 +38,7 @@ module _ (t : Table) (n m : ℕ) (room : m ≤ 64 * n) where
   }
 
   kids : (w x : List ℕ) → Holds w x
-      → All2 Holds (improving (λ a i. improves (change_in t) (unpacked m a) i) flip_in m w) (improving (improves (change_in t)) flip_sign m x)
+      → AllZip Holds (improving (λ a i. improves (change_in t) (unpacked m a) i) flip_in m w) (improving (improves (change_in t)) flip_sign m x)
   kids w x p =
       same_improving Holds (λ a i. improves (change_in t) (unpacked m a) i) flip_in (improves (change_in t)) flip_sign w x m
       (λ i h. (ap (λ (y : List ℕ). improves (change_in t) y i) (out_again p), flips w x i h p))

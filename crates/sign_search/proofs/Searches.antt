@@ -5,12 +5,13 @@ use mathlib.Core.List.{List}
 use mathlib.Core.Path.{◌≡◌, refl, sym, ap, ap₂, ◌∙◌, subst}
 use lib.IntN.{ℤ}
 use lib.ListN.{length}
+use Rattle.std.specs.List.{AllZip}
 use Rattle.local_search.specs.Level.{Choice, flip_sign}
 use Rattle.local_search.specs.LocalSearch.{searched}
 use Rattle.local_search.specs.SignSearch.{lower, improving, improves, keeping, sign_search, Searches}
 use Rattle.local_search.specs.Children.{parent_of}
 use Rattle.local_search.proofs.LevelLaws.{flipped_length}
-use Rattle.local_search.proofs.Same.{All2, same_searched}
+use Rattle.local_search.proofs.Same.{same_searched}
 use Rattle.local_search.proofs.SignLaws.{same_improving, carried_search}
 use native.Mathlib.Omega.{arith}
 use Rattle.tables.specs.Table.{Table, floor_of}
@@ -75,7 +76,7 @@ module _ (t : Table) (W : ℕ) (start : List ℕ) where
       ap (λ (c : Bool). cond (improves (change_in t) x i) c false) (within_free m start x i h s.1)
       ∙ whole (improves (change_in t) x i) ∙ ap (λ (z : List ℕ). improves (change_in t) z i) s.0
 
-  same_children : (x y : List ℕ) → Same x y → All2 Same (improving (keeping (change_in t) (within free)) flip_sign m x) (improving (improves (change_in t)) flip_sign m y)
+  same_children : (x y : List ℕ) → Same x y → AllZip Same (improving (keeping (change_in t) (within free)) flip_sign m x) (improving (improves (change_in t)) flip_sign m y)
   same_children x y s =
       same_improving Same (keeping (change_in t) (within free)) flip_sign (improves (change_in t)) flip_sign x y m
       (λ i h. (same_test x y s i h, (ap (flip_sign i) s.0, flipped_length i x ∙ s.1)))

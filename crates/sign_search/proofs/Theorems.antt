@@ -7,7 +7,7 @@ use mathlib.Core.Path.{◌≡◌}
 use lib.IntN.{pos, ◌+ℤ◌}
 use lib.Signed.{◌≤ℤ◌}
 use lib.ListN.{length}
-use Rattle.laws.proofs.Integer.{integers, add_parts}
+use Rattle.std.proofs.lemmas.Int.{ints}
 use Rattle.tables.specs.Table.{Table, InRange, Rising, Mirrored, floor_of}
 use Rattle.tables.specs.Check.{Accepted}
 use Rattle.tables.proofs.Mirrors.{mirrored_symmetric}
@@ -78,7 +78,7 @@ module _ {m : ℕ} {t : Table} (ok : Mirrors m t) (start : List ℕ) (long : len
 
     -- so the answer's objective is at most the start's
     pub answer_le : objective_in t answer ≤ℤ objective_in t start
-    answer_le = omega (integers, rounds_fall, add_parts (objective_in t answer) (pos (4 * (beam_search t W start).rounds)))
+    answer_le = omega (arith, ints, rounds_fall)
 
   -- ---- over the children that `keep` lets through, and what they hold
 

@@ -15,7 +15,8 @@ use lib.Seq.{get_or-set_same, get_or-set_other}
 use mir.Syntax.{w64}
 use mir.Val.{SFits}
 use Rattle.laws.specs.Sum.{sum, only}
-use Rattle.laws.proofs.Integer.{parts, differences, ring, square_one, times_one, abs_add, abs_mul, fits_abs}
+use Rattle.std.proofs.lemmas.Int.{unsigned_abs-mul, fits_signed_from_abs}
+use Rattle.laws.proofs.Integer.{abs_cond, parts, differences, ring, square_one, times_one, abs_add}
 use Rattle.laws.proofs.Sums.{sum_more, sum_ext, sum_zero, sum_add, sum_scale, sum_only, sum_bounded}
 use Rattle.limits.specs.Limits.{most_sign_magnitude}
 use Rattle.tables.specs.Table.{Table, Symmetric, SignVector, Rising, magnitude_of, value_at, sign_at}
@@ -134,18 +135,14 @@ module _ (t : Table) (x : List ℕ) (i : ℕ) where
   term_other : (j k : ℕ) → t.row k ≡ i → (t.column k ≡ j → ⊥) → turn_term t x i j k ≡ pos 0
   term_other j k e d = rw (eq-eqb (t.row k) i e, ne_eqb (t.column k) j d) (*ℤ-zero (turn_weight x i j))
 
-  abs_only_le : (b : Bool) (z : ℤ) (n : ℕ) → nat_abs z ≤ n → nat_abs (cond b z (pos 0)) ≤ n
-  abs_only_le true z n h = h
-  abs_only_le false z n h = omega arith
-
   abs_weight : (j : ℕ) → nat_abs (turn_weight x i j) ≡ 8
-  abs_weight j = simp (abs_mul, abs_sign)
+  abs_weight j = simp (unsigned_abs-mul, abs_sign)
 
   term_small : (j k : ℕ) → nat_abs (turn_term t x i j k) ≤ 8 * nat_abs (t.value k)
   term_small j k =
       let o : ℤ = only (t.row k) i (only (t.column k) j (t.value k)) in
-      let small : nat_abs o ≤ nat_abs (t.value k) = abs_only_le (eqb (t.row k) i) _ _ (abs_only_le (eqb (t.column k) j) _ _ (omega arith)) in
-      rw (abs_mul (turn_weight x i j) o, abs_weight j) (omega arith)
+      let small : nat_abs o ≤ nat_abs (t.value k) = abs_cond (eqb (t.row k) i) _ _ _ (abs_cond (eqb (t.column k) j) _ _ _ (omega arith) (omega arith)) (omega arith) in
+      rw (unsigned_abs-mul (turn_weight x i j) o, abs_weight j) (omega arith)
 
   pub turned_none : (from : ℕ) (before : List ℤ) → RowStart t.count t.row i from → Turned t x i from before before
   turned_none from before s = record {
@@ -184,7 +181,7 @@ module _ (t : Table) (x : List ℕ) (i : ℕ) where
     pub turned_fits : k < t.count → magnitude_of t ≤ most_sign_magnitude → nat_abs (get_or before column (pos 0)) ≤ 4 * most_sign_magnitude → SFits w64 (get_or after column (pos 0) +ℤ turn_weight x i column *ℤ t.value k)
     turned_fits h small held =
         rw more
-        (fits_abs _ (omega (
+        (fits_signed_from_abs w64 _ (omega (
           arith,
           abs_add (get_or before column (pos 0)) (sum (suc k) (turn_term t x i column)),
           sum_bounded 8 t.count (suc k) (turn_term t x i column) (λ l. nat_abs (t.value l)) (term_small column) h,
@@ -221,14 +218,7 @@ changes_flipped t x i before after z ok h p u is = record {
         ∙ ap₂ ◌+ℤ◌ (p.are j l) (weighed_all t x i j)
         ∙ sym (change_other t x ok i h j l (λ e. d (sym e)))
 
--- ---- where a row starts, found by halving
-
-module _ {count : ℕ} {row : ℕ → ℕ} (climbs : Climbs count row) (i mid : ℕ) where
-  pub rows_below : mid < count → row mid < i → (j : ℕ) → j < mid + 1 → row j < i
-  rows_below h l j k = omega (arith, climbs.climb j mid (omega arith) h)
-
-  pub rows_above : i ≤ row mid → (j : ℕ) → mid ≤ j → j < count → i ≤ row j
-  rows_above h j k l = omega (arith, climbs.climb mid j k l)
+-- ---- where a row starts
 
 -- what the code asks of a table whose checks have passed
 pub usable_of : {m : ℕ} {t : Table} → Sound m t → SumsFit m t

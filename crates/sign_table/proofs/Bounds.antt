@@ -1,6 +1,5 @@
 -- Sums of a sign table's values are bounded by the magnitude of (H, c).
 use mathlib.Core.Path.{◌≡◌, ◌∙◌, ap₂}
-use mathlib.Core.Bool.{Bool, true, false, cond}
 use Prim.Native.Nat.{ℕ, ◌+◌, ◌*◌, ◌^◌, ◌<◌, ◌≤◌}
 use native.Mathlib.Nat.{le_trans}
 use native.Mathlib.Omega.{arith}
@@ -11,29 +10,23 @@ use mir.Syntax.{w64}
 use mir.Val.{SFits, to_z, of_z}
 use mir.Facts.{to_z-of_z}
 use Rattle.laws.specs.Sum.{sum, total}
-use Rattle.laws.proofs.Integer.{abs_add, abs_mul, fits_abs, held}
+use Rattle.std.proofs.lemmas.Int.{unsigned_abs-mul, fits_signed_from_abs}
+use Rattle.laws.proofs.Integer.{abs_add, held}
 use Rattle.laws.proofs.Sums.{sum_abs, total_at, total_le, Held, sum_held}
 use Rattle.laws.proofs.Totals.{onlyℕ, total_ext, total_mono, total_add, total_scale, total_swap, total_only}
 use Rattle.tables.specs.Table.{Table, InRange, magnitude_of}
-use Rattle.tables.proofs.Weights.{abs_only}
+use Rattle.tables.proofs.Weights.{kept_le, abs_only}
 use Rattle.sign_table.specs.Walk.{row_term, row_total, Convertible}
-
-only_le : (a b v : ℕ) → onlyℕ a b v ≤ v
-only_le a b v = go (eqb a b)
-  where
-    go : (t : Bool) → cond t v 0 ≤ v
-    go true = omega arith
-    go false = omega arith
 
 -- a row's partial sums are held
 pub row_held : (count : ℕ) (row : ℕ → ℕ) (value : ℕ → ℤ) (i : ℕ) → total count (λ k. nat_abs (value k)) ≤ 2 ^ 60 → Held count (row_term row value i)
 row_held count row value i small =
-    sum_held 1 count (row_term row value i) (λ l. nat_abs (value l)) (λ l. rw (abs_only (row l) i (value l)) (omega (arith, only_le (row l) i (nat_abs (value l))))) (omega arith)
+    sum_held 1 count (row_term row value i) (λ l. nat_abs (value l)) (λ l. rw (abs_only (row l) i (value l)) (omega (arith, kept_le (eqb (row l) i) (nat_abs (value l))))) (omega arith)
 
 pub row_abs : (count k : ℕ) (row : ℕ → ℕ) (value : ℕ → ℤ) (i : ℕ) → k ≤ count → nat_abs (sum k (row_term row value i)) ≤ total count (λ l. nat_abs (value l))
 row_abs count k row value i le =
     le_trans (sum_abs k (row_term row value i))
-    (le_trans (total_mono k _ (λ l. nat_abs (value l)) (λ l b. rw (abs_only (row l) i (value l)) (only_le (row l) i (nat_abs (value l))))) (total_le count k (λ l. nat_abs (value l)) le))
+    (le_trans (total_mono k _ (λ l. nat_abs (value l)) (λ l b. rw (abs_only (row l) i (value l)) (kept_le (eqb (row l) i) (nat_abs (value l))))) (total_le count k (λ l. nat_abs (value l)) le))
 
 -- what bounds row i's sum
 row_bound : Table → (ℕ → ℤ) → ℕ → ℕ
@@ -45,7 +38,7 @@ row_bounded h c i =
     omega (
       arith,
       abs_add (sum h.count (row_term h.row h.value i)) (pos 2 *ℤ c i),
-      abs_mul (pos 2) (c i),
+      unsigned_abs-mul (pos 2) (c i),
       sum_abs h.count (row_term h.row h.value i),
       total_ext h.count _ (λ l. onlyℕ (h.row l) i (nat_abs (h.value l))) (λ l b. abs_only (h.row l) i (h.value l)),
     )
@@ -78,7 +71,7 @@ linear_small {n} {h} {c} v i b = omega (arith, total_at n i (λ x. nat_abs (c x)
 -- a row's sum and twice its linear cost
 module _ (a : ℕ) (s r linear : ℤ) (acc : to_z w64 a ≡ s) (ok : mag r < 2 ^ 63) (is : r ≡ pos 2 *ℤ linear) (small : nat_abs s ≤ 2 ^ 60) (low : nat_abs linear ≤ 2 ^ 59) where
   pub summed_fits : SFits w64 (to_z w64 a +ℤ to_z w64 (of_z w64 r))
-  summed_fits = rw (acc, held r ok, is) (fits_abs (s +ℤ pos 2 *ℤ linear) (omega (arith, abs_add s (pos 2 *ℤ linear), abs_mul (pos 2) linear)))
+  summed_fits = rw (acc, held r ok, is) (fits_signed_from_abs w64 (s +ℤ pos 2 *ℤ linear) (omega (arith, abs_add s (pos 2 *ℤ linear), unsigned_abs-mul (pos 2) linear)))
 
   pub summed_is : to_z w64 (of_z w64 (to_z w64 a +ℤ to_z w64 (of_z w64 r))) ≡ s +ℤ pos 2 *ℤ linear
   summed_is = to_z-of_z summed_fits ∙ rw (acc, held r ok, is)

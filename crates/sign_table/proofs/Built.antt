@@ -16,7 +16,8 @@ use mir.Val.{SFits, to_z, of_z}
 use lib.Signed.{mag}
 use mir.Facts.{to_z-of_z}
 use Rattle.laws.specs.Sum.{sum, sum₂, only}
-use Rattle.laws.proofs.Integer.{abs_add, abs_mul, fits_abs}
+use Rattle.std.proofs.lemmas.Int.{unsigned_abs-mul, fits_signed_from_abs}
+use Rattle.laws.proofs.Integer.{abs_add}
 use Rattle.laws.proofs.Sums.{sum_ext, sum_abs, total_at, turn_fits, turn_is}
 use Rattle.tables.specs.Table.{Table, InRange, magnitude_of, value_at}
 use Rattle.sign_table.specs.SignTable.{absorbed, edge, row_places, places, is_zero, sign_kept, kept_of, sign_of, sign_places}
@@ -73,11 +74,11 @@ only_small i j v m b = rw (abs_only i j v) (pick (eqb i j))
 
 pub here_fits : (h : Table) (c : ℕ → ℤ) (i j k : ℕ) → magnitude_of h ≤ 2 ^ 60 → nat_abs (c i) ≤ 2 ^ 59 → SFits w64 (here_value h c i j k)
 here_fits h c i j k small low =
-    fits_abs _ (omega (
+    fits_signed_from_abs w64 _ (omega (
       arith,
       abs_add (cond (is_here h.count h.row h.column i j k) (h.value k) (pos 0)) (only i j (pos 2 *ℤ c i)),
       here_small h i j k,
-      only_small i j (pos 2 *ℤ c i) (2 ^ 60) (omega (arith, abs_mul (pos 2) (c i))),
+      only_small i j (pos 2 *ℤ c i) (2 ^ 60) (omega (arith, unsigned_abs-mul (pos 2) (c i))),
     ))
 
 -- ---- a row up to column j
@@ -162,7 +163,7 @@ module _ {n : ℕ} {h : Table} {c : ℕ → ℤ} (v : Convertible n h c) {i : �
     next_row = (row_summed v.rising s).0
 
     pub sum_back : to_z w64 (of_z w64 sum') ≡ sum'
-    sum_back = to_z-of_z (fits_abs sum' (omega (arith, sum_small)))
+    sum_back = to_z-of_z (fits_signed_from_abs w64 sum' (omega (arith, sum_small)))
 
     pub sum_total : sum' ≡ row_total h c i
     sum_total = (row_summed v.rising s).1
@@ -210,9 +211,6 @@ module _ (n : ℕ) (h : Table) (c : ℕ → ℤ) where
     pub rows_room : i < n → at + length (row_places (kept_of n h c) i 0 (suc n)) ≤ length (places (kept_of n h c) (suc n) n)
     rows_room more = omega (arith, inv.many, places_count (kept_of n h c) (suc n) i, places_le (kept_of n h c) (suc n) (i + 1) n (omega arith))
 
-    pub rows_done : n ≤ i → Wrote (sign_of n h c) (places (kept_of n h c) (suc n) n) 0 rows cols values rows' cols' values' × (at ≡ length (places (kept_of n h c) (suc n) n))
-    rows_done past = let e : i ≡ n = omega (arith, inv.up) in (rw e at inv.wrote, rw e at inv.many)
-
 -- ---- the last row
 
 pub record LastInv (n : ℕ) (h : Table) (c : ℕ → ℤ) (len k at i total : ℕ) (rows cols : List ℕ) (values : List ℤ) (rows' cols' : List ℕ) (values' : List ℤ) : Type 0 where
@@ -229,7 +227,7 @@ last_begin n h c = record { up = omega arith; cursor = at_start h; wrote = wrote
 module _ {n : ℕ} {h : Table} {c : ℕ → ℤ} (v : Convertible n h c) {len k at i total : ℕ} {rows cols : List ℕ} {values : List ℤ} {rows' cols' : List ℕ} {values' : List ℤ}
     (inv : LastInv n h c len k at i total rows cols values rows' cols' values') where
   ok : (below : i < n) {sum' : ℤ} {next : ℕ} → RowSummed h.count h.row h.value (c i) i next sum' → mag sum' < 2 ^ 63
-  ok below {sum'} s = (fits_abs sum' (omega (arith, sum_small v below s))).sfits
+  ok below {sum'} s = (fits_signed_from_abs w64 sum' (omega (arith, sum_small v below s))).sfits
 
   module _ (below : i < n) {sum' : ℤ} {next : ℕ} (s : RowSummed h.count h.row h.value (c i) i next sum') where
     pub last_fits : SFits w64 (to_z w64 total +ℤ to_z w64 (of_z w64 sum'))
@@ -257,9 +255,6 @@ module _ {n : ℕ} {h : Table} {c : ℕ → ℤ} (v : Convertible n h c) {len k 
           length-append (row_places (kept_of n h c) n 0 i) (edge (not (is_zero sum')) n i),
           row_length_le (kept_of n h c) n (i + 1) n (omega arith),
         )
-
-  pub last_done : n ≤ i → Wrote (sign_of n h c) (row_places (kept_of n h c) n 0 n) len rows cols values rows' cols' values' × (at ≡ len + length (row_places (kept_of n h c) n 0 n)) × (to_z w64 total ≡ sum n (row_total h c))
-  last_done past = let e : i ≡ n = omega (arith, inv.up) in (rw e at inv.wrote, rw e at inv.many, rw e at inv.sums)
 
 -- ---- the corner, and the whole
 
@@ -295,4 +290,4 @@ room_on r h a b d = record { rows_room = omega (arith, r.rows_room); cols_room =
 
 pub total_back : {n : ℕ} {h : Table} {c : ℕ → ℤ} {t : ℤ} → Convertible n h c → t ≡ sum n (row_total h c) → to_z w64 (of_z w64 t) ≡ sum n (row_total h c)
 total_back {n} {h} {c} v e =
-    rw e (to_z-of_z (fits_abs (sum n (row_total h c)) (omega (arith, sum_abs n (row_total h c), rows_abs c v.in_range, v.small))))
+    rw e (to_z-of_z (fits_signed_from_abs w64 (sum n (row_total h c)) (omega (arith, sum_abs n (row_total h c), rows_abs c v.in_range, v.small))))

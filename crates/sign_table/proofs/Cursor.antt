@@ -10,7 +10,6 @@ use borrow.Author.Tests.{eq-eqb, ne_eqb, lt-ltb, le-ltb, le-leb, lt-leb}
 use lib.Dec.{eqb, ltb, leb}
 use lib.IntN.{ℤ, pos, ◌+ℤ◌, ◌*ℤ◌, +ℤ_idr}
 use Rattle.laws.specs.Sum.{sum, only}
-use Rattle.laws.proofs.Any.{never}
 use Rattle.laws.proofs.Sums.{sum_ext, sum_add, sum_only, sum_swap, sum_zero}
 use Rattle.tables.specs.Table.{Table, Before, InRange, Rising, value_at, stored_at}
 use Rattle.sign_table.specs.SignTable.{absorbed, is_zero}
@@ -306,7 +305,7 @@ row_end h k i ri at e =
     record { inside = at.inside; behind = λ l b. inl (omega (arith, at.behind l b)); ahead = λ l a b before. go l a b (ℕ_discrete k l) before }
   where
     first : k < h.count → h.row k ≡ i → ⊥
-    first b r = never (sym (rw (lt-ltb k h.count b, eq-eqb (h.row k) i r) at e))
+    first b r = cc (rw (lt-ltb k h.count b, eq-eqb (h.row k) i r) at e)
 
     go : (l : ℕ) → k ≤ l → l < h.count → Dec (k ≡ l) → Before (h.row l) (h.column l) (suc i) 0 → ⊥
     go l a b d (inr p) = omega arith

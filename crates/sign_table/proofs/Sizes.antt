@@ -10,7 +10,8 @@ use lib.ListN.{length}
 use lib.Dec.{eqb}
 use lib.IntN.{ℤ, pos, neg_ℤ, nat_abs, ◌*ℤ◌}
 use Rattle.laws.specs.Sum.{sum, total, only}
-use Rattle.laws.proofs.Integer.{abs_add, abs_mul, abs_neg}
+use Rattle.std.proofs.lemmas.Int.{unsigned_abs-mul}
+use Rattle.laws.proofs.Integer.{abs_add, abs_neg}
 use Rattle.laws.proofs.Sums.{sum_abs, total_at}
 use Rattle.laws.proofs.Totals.{onlyℕ, total_ext, total_mono, total_add, total_scale, total_const, total_only, total₂_suc}
 use Rattle.tables.specs.Table.{Table, InRange, Rising, Mirrored, magnitude_of, value_at, stored_at}
@@ -85,10 +86,6 @@ module _ {n : ℕ} {h : Table} (c : ℕ → ℤ) (r : InRange n h) where
       go false true false = omega arith
       go false false z = omega arith
 
-  one_le : (t : Bool) → cond t 1 0 ≤ 1
-  one_le true = omega arith
-  one_le false = omega arith
-
   diagonal : (w : ℕ → ℕ) → total n (λ i. total n (λ j. onlyℕ i j (w i))) ≡ total n w
   diagonal w = total_ext n _ w (λ i b. total_only n i (λ j. w i) b)
 
@@ -118,9 +115,9 @@ module _ {n : ℕ} {h : Table} (c : ℕ → ℤ) (r : InRange n h) where
         places_number (kept_of n h c) (suc n) (suc n),
         total₂_suc n (λ i j. cond (kept_of n h c i j) 1 0),
         inner_count,
-        total_mono n (λ i. cond (kept_of n h c i n) 1 0) (λ i. 1) (λ i a. one_le (kept_of n h c i n)),
-        total_mono n (λ j. cond (kept_of n h c n j) 1 0) (λ j. 1) (λ j a. one_le (kept_of n h c n j)),
-        one_le (kept_of n h c n n),
+        total_mono n (λ i. cond (kept_of n h c i n) 1 0) (λ i. 1) (λ i a. kept_le (kept_of n h c i n) 1),
+        total_mono n (λ j. cond (kept_of n h c n j) 1 0) (λ j. 1) (λ j a. kept_le (kept_of n h c n j) 1),
+        kept_le (kept_of n h c n n) 1,
         total_const n 1,
         mul-one n,
       )
@@ -130,7 +127,7 @@ module _ {n : ℕ} {h : Table} (c : ℕ → ℤ) (r : InRange n h) where
   absorbed_le : (i j : ℕ) → nat_abs (absorbed (value_at h) c i j) ≤ total h.count (λ l. onlyℕ (h.row l) i (onlyℕ (h.column l) j (nat_abs (h.value l)))) + onlyℕ i j (2 * nat_abs (c i))
   unfolding absorbed
   absorbed_le i j =
-      omega (arith, abs_add (value_at h i j) (only i j (pos 2 *ℤ c i)), value_le h i j, abs_only i j (pos 2 *ℤ c i) ∙ ap (onlyℕ i j) (abs_mul (pos 2) (c i)))
+      omega (arith, abs_add (value_at h i j) (only i j (pos 2 *ℤ c i)), value_le h i j, abs_only i j (pos 2 *ℤ c i) ∙ ap (onlyℕ i j) (unsigned_abs-mul (pos 2) (c i)))
 
   inner_magnitude : total n (λ i. total n (λ j. nat_abs (absorbed (value_at h) c i j))) ≤ magnitude_of h + 2 * total n (λ i. nat_abs (c i))
   inner_magnitude =

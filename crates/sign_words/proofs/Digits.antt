@@ -8,11 +8,6 @@ use Rattle.std.specs.Int.{bit_at}
 use Rattle.std.proofs.lemmas.Nat.Bits.{bit_at_lowest, bit_at-suc}
 use Rattle.sign_words.specs.Packed.{word}
 
--- ---- one digit more at the low end
-
-pub low_digit : (d w : ℕ) → d < 2 → bit_at (d + 2 * w) 0 ≡ d
-low_digit d w h = omega (arith, bit_at_lowest (d + 2 * w))
-
 -- ---- the number with given digits
 
 pub word_lt : (f : ℕ → ℕ) (n : ℕ) → ((i : ℕ) → f i < 2) → word f n < 2 ^ n
@@ -23,7 +18,7 @@ word_lt f (suc n) h = omega (arith, h 0, word_lt (λ i. f (suc i)) n (λ i. h (s
 pub digit_word : (f : ℕ → ℕ) (n i : ℕ) → ((j : ℕ) → f j < 2) → i < n → bit_at (word f n) i ≡ f i
 unfolding word
 digit_word f zero i h q = elim q [ ]
-digit_word f (suc n) zero h q = low_digit (f 0) (word (λ i. f (suc i)) n) (h 0)
+digit_word f (suc n) zero h q = omega (arith, h 0, bit_at_lowest (word f (suc n)))
 digit_word f (suc n) (suc i) h q =
     bit_at-suc (word f (suc n)) i
     ∙ (let first = h 0 in let half : word f (suc n) / 2 ≡ word (λ i. f (suc i)) n = omega arith in ap (λ (v : ℕ). bit_at v i) half)

@@ -21,6 +21,7 @@ use Rattle.sign_words.specs.Packed.{sign_in, packed}
 use Rattle.sign_words.specs.Distance.{ones_apart, places_apart}
 use Rattle.std.specs.Int.{bit_at}
 use Rattle.std.specs.List.{sum, range_with_len}
+use Rattle.std.proofs.lemmas.Bool.Decides.{nat_tests}
 use Rattle.std.proofs.lemmas.List.FromFn.{sum_by-map-range_with_len_more}
 use Rattle.std.proofs.lemmas.Nat.Bits.{bit_at-suc, bit_at_xor}
 use Rattle.sign_words.proofs.PackedLaws.{sign_lt, sign_packed, sign_at_lem, packed_words}
@@ -55,13 +56,7 @@ ones_digits (suc n) w h =
 -- ---- two choices
 
 apart : (a b : ℕ) → a < 2 → b < 2 → (a + b) % 2 ≡ cond (eqb a b) 0 1
-apart zero zero p q = refl
-apart zero (suc zero) p q = refl
-apart (suc zero) zero p q = refl
-apart (suc zero) (suc zero) p q = refl
-apart zero (suc (suc b)) p q = absurd (omega arith)
-apart (suc zero) (suc (suc b)) p q = absurd (omega arith)
-apart (suc (suc a)) b p q = absurd (omega arith)
+apart a b p q = grind (arith, nat_tests)
 
 -- the ones of the exclusive or: at most 64 in each word
 pub few_apart : (n : ℕ) (a b : List ℕ) → ((k : ℕ) → elem a k < 2 ^ 64) → ((k : ℕ) → elem b k < 2 ^ 64) → ones_apart n a b ≤ 64 * n

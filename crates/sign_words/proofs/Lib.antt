@@ -1,6 +1,5 @@
 pub mod Sizes
 pub mod Digits
-pub mod Copied
 pub mod PackedLaws
 pub mod DistanceLaws
 pub mod ApartLaws

@@ -39,7 +39,7 @@ pub fn flip_in(words: &mut [u64], i: usize)
 }
 
 // A level's words or objectives, copied. A loop: with the library's `copy_from_slice` in both places a search took 1.03 to 1.07 of its time (W 1, 16, 128).
-#[tactic(auto, using(crate::proofs::Copied::same_each))]
+#[tactic(auto, using(std::proofs::lemmas::List::same_lists))]
 pub fn copy<T: Copy>(to: &mut [T], from: &[T])
     requires { length to.old ≡ length from.now }
     ensures { to.new ≡ from.now }

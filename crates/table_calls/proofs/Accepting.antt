@@ -1,7 +1,7 @@
 -- What holds where a call is accepted, and how its answer is put together.
 use Rattle.std.specs.Prelude.{Ok, Err}
 use mathlib.Core.Path.{◌≡◌, refl, sym, ◌∙◌, ap}
-use mathlib.Core.Bool.{Bool, true, false}
+use mathlib.Core.Bool.{Bool, false}
 use mathlib.Core.List.{List, [], ◌∷◌, ◌++◌}
 use Prim.Native.Nat.{ℕ, zero, suc, ◌+◌, ◌*◌, ◌-◌, ◌≤◌, ◌<◌}
 use native.Mathlib.Omega.{arith}
@@ -37,11 +37,6 @@ module _ {A : Type 0} where
   unfolding answered
   accepted_is zero refused accepted e z = refl
   accepted_is (suc k) refused accepted e z = let no : ◌≡◌ {A = ℕ} (suc k) 0 = sym e ∙ z in absurd (omega arith)
-
--- what a slice that rests on a number needs, by that number's own condition
-pub short_refused : {t : Bool} (n l : ℕ) → t ≡ true → short t n l ≡ false
-unfolding short
-short_refused n l e = rw e
 
 pub short_open : {t : Bool} (n l : ℕ) → t ≡ false → short t n l ≡ ltb l n
 unfolding short

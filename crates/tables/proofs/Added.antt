@@ -19,7 +19,7 @@ use Rattle.std.proofs.lemmas.Fn.{serves_by, fold_over}
 use Rattle.std.proofs.lemmas.List.Sums.{fold-append, sum_by-append}
 use Rattle.std.proofs.lemmas.List.FromFn.{length-map-range_with_len, take-map-range_with_len, map-range_with_len_more, sum_by-map-range_with_len_more, length-range_with_len, get_or-range_with_len}
 use Rattle.laws.specs.Sum.{sum, total}
-use Rattle.laws.proofs.Integer.{fits_abs}
+use Rattle.std.proofs.lemmas.Int.{fits_signed_from_abs}
 use Rattle.laws.proofs.Sums.{Held}
 
 fold_sum : (n : ℕ) (f : ℕ → ℤ) → fold ◌+ℤ◌ (pos 0) (map f (range_with_len 0 n)) ≡ sum n f
@@ -29,7 +29,7 @@ fold_sum (suc n) f = ap (λ k. fold ◌+ℤ◌ (pos 0) (map f (range_with_len 0 
 
 held_to : {n : ℕ} {f : ℕ → ℤ} → Held n f → (k : ℕ) → k ≤ n → SFits w64 (sum k f)
 unfolding sum
-held_to held zero h = fits_abs (pos 0) (omega arith)
+held_to held zero h = fits_signed_from_abs w64 (pos 0) (omega arith)
 held_to held (suc k) h = held.next k (omega arith)
 
 module _ {S : Type 0} {steps : S → Option ℤ → S → Type 0} {s : S} (n : ℕ) (f : ℕ → ℤ) (e : YieldsList steps (λ x. x) s (map f (range_with_len 0 n))) where

@@ -1,18 +1,13 @@
 -- The float bound: its terms by cases, and its sums turn by turn.
 use mathlib.Core.Path.{◌≡◌}
-use Prim.Native.Nat.{ℕ, ◌+◌, ◌^◌, ◌≤◌}
+use Prim.Native.Nat.{ℕ, ◌+◌}
 use native.Mathlib.Numerals.{add-one}
 use borrow.Author.Tests.{eq-eqb, ne_eqb}
-use lib.Dec.{T, le→leb}
 use lib.IntN.{ℤ, pos, nat_abs}
-use lib.Ieee.{Float, binary64, in_float, neg}
+use lib.Ieee.{Float, neg}
 use Rattle.ieee.specs.Floats.{◌+ᶠ◌, eighth_of}
 use Rattle.tables.specs.Table.{Table}
 use Rattle.tables.specs.Bound.{bound_term, bound_sum, magnitude_sum}
-
-pub small_float : (n : ℕ) → n ≤ 2 ^ 53 → T (in_float binary64 (pos n))
-unfolding in_float
-small_float n h = le→leb n (2 ^ 53) h
 
 module _ (i j : ℕ) (v : ℤ) where
   pub term_diagonal : {u : Float} → i ≡ j → u ≡ eighth_of v → u ≡ bound_term i j v

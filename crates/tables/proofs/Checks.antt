@@ -1,5 +1,5 @@
 -- What the checks show: the mirror search, and that nothing is refused exactly where the table is as it should be.
-use Prim.Native.Nat.{ℕ, zero, suc, ◌+◌, ◌-◌, ◌*◌, ◌<◌, ◌≤◌, min}
+use Prim.Native.Nat.{ℕ, zero, suc, ◌+◌, ◌-◌, ◌*◌, ◌<◌, ◌≤◌}
 use mathlib.Core.Path.{◌≡◌, refl, sym, ap, ◌∙◌}
 use mathlib.Core.Bool.{Bool, true, false, not, ◌&&◌}
 use mathlib.Core.List.{List, [], ◌∷◌}
@@ -14,7 +14,7 @@ use lib.IntN.{ℤ, pos, negsuc}
 use Rattle.laws.specs.Lists.{any_below}
 use Rattle.laws.specs.Refusal.{◌if◌, or_else, first, short}
 use Rattle.laws.proofs.Refusal.{stop, pass, clear, first_head, first_rest, first_skip, first_end}
-use Rattle.laws.proofs.Any.{never, any_head, any_rest, any_not, any_none, and_true, below_none, below_only, below_true, below_false, below_at}
+use Rattle.laws.proofs.Any.{any_head, any_rest, any_not, any_none, and_true, below_none, below_only, below_true, below_false, below_at}
 use Rattle.tables.specs.Table.{Table, Lent, InRange, Before, Rising, Mirrored}
 use Rattle.tables.specs.Check.{bad_size, before, bad_entry, bad_order, place_key, Placed, eq_z, is_mirror, unmirrored, placed_number, hall_number, table_number, short_table, Hall, Accepted}
 use Rattle.tables.proofs.Mirrors.{rises}
@@ -83,9 +83,6 @@ same_test limit a b up down = go (dec_lt limit b)
     go (yes h) = lt-ltb limit a (up h) ∙ sym (lt-ltb limit b h)
     go (no h) = let le : b ≤ limit = omega arith in le-ltb limit a (down le) ∙ sym (le-ltb limit b le)
 
-pub capped_tests : (limit x y : ℕ) {a b : ℕ} → a ≡ min x (limit + 1) → b ≡ min y (limit + 1) → ltb limit (a + 2 * b) ≡ ltb limit (x + 2 * y)
-capped_tests limit x y {a} {b} e f = same_test limit (a + 2 * b) (x + 2 * y) (λ h. omega arith) (λ h. omega arith)
-
 -- ---- 14: in range and in order
 
 before_true : (i j k l : ℕ) → before i j k l ≡ true → Before i j k l
@@ -95,8 +92,8 @@ before_true i j k l e = go (dec_lt i k) (ℕ_discrete i k) (dec_lt j l)
     go : Dec (i < k) → Dec (i ≡ k) → Dec (j < l) → Before i j k l
     go (yes h) d f = inl h
     go (no h) (yes d) (yes f) = inr (d, f)
-    go (no h) (yes d) (no f) = never (sym (rw (le-ltb i k (omega arith), eq-eqb i k d) (le-ltb j l (omega arith))) ∙ e)
-    go (no h) (no d) f = never (rw (le-ltb i k (omega arith), ne_eqb i k d) at e)
+    go (no h) (yes d) (no f) = cc (rw (le-ltb i k (omega arith), eq-eqb i k d, le-ltb j l (omega arith)) at e)
+    go (no h) (no d) f = cc (rw (le-ltb i k (omega arith), ne_eqb i k d) at e)
 
 before_is : (i j k l : ℕ) → Before i j k l → before i j k l ≡ true
 unfolding before

@@ -11,7 +11,7 @@ use borrow.Author.Tests.{eq-eqb, ne_eqb}
 use Rattle.laws.specs.Sum.{sum, only}
 use Rattle.tables.specs.Table.{Table, value_at, stored_at, Before, Rising, Mirrored, Symmetric}
 use Rattle.tables.specs.Check.{Hall}
-use Rattle.laws.proofs.Any.{never, below_true, below_false, below_at, below_none}
+use Rattle.laws.proofs.Any.{below_true, below_false, below_at, below_none}
 use Rattle.tables.proofs.Quadratic.{Order, below, same, above, order}
 use Rattle.laws.proofs.Sums.{only_yes, only_no, only_zero, sum_ext, sum_zero, sum_only}
 
@@ -125,15 +125,15 @@ hall_symmetric {n = n} ok = mirrored_symmetric ok.rising ok.mirrored n
 
 both_false : (a b i j : ℕ) → cond (eqb a i) (eqb b j) false ≡ false → a ≡ i → b ≡ j → ⊥
 both_false a b i j e p q =
-    let t : true ≡ false = (rw (eq-eqb a i p, eq-eqb b j q) at e) in never (sym t)
+    cc (rw (eq-eqb a i p, eq-eqb b j q) at e)
 
 both_true : (a b i j : ℕ) → cond (eqb a i) (eqb b j) false ≡ true → (a ≡ i) × (b ≡ j)
 both_true a b i j e = go (ℕ_discrete a i) (ℕ_discrete b j)
   where
     go : Dec (a ≡ i) → Dec (b ≡ j) → (a ≡ i) × (b ≡ j)
     go (yes p) (yes q) = (p, q)
-    go (yes p) (no q) = never (rw (eq-eqb a i p, ne_eqb b j q) at e)
-    go (no p) q = never (rw (ne_eqb a i p) at e)
+    go (yes p) (no q) = cc (rw (eq-eqb a i p, ne_eqb b j q) at e)
+    go (no p) q = cc (rw (ne_eqb a i p) at e)
 
 -- an entry there, or none
 pub stored_true : (t : Table) (i j : ℕ) → stored_at t i j ≡ true → (k : ℕ) × (k < t.count) × (t.row k ≡ i) × (t.column k ≡ j)

@@ -10,7 +10,6 @@ use lib.Ieee.{Float, nan}
 use lib.ListN.{length, take}
 use lib.Seq.{get_or-take}
 use Rattle.laws.specs.Rows.{row_of}
-use Rattle.laws.proofs.Any.{never}
 use Rattle.laws.proofs.Parts.{row_within, length_row_of}
 use Rattle.step_rules.specs.declared.StepRule.TheVariants.{CoordNoStep}
 use Rattle.row_length.specs.Length.{AtMostTwo, UnitLength}
@@ -43,7 +42,7 @@ same_rows new run run' rows rows' s r u = record {
 
 none_new : (run : Run) (rows : List Float) → length rows ≡ used run → Tame run rows → UnitRows (λ i. false) run rows rows
 none_new run rows whole tame = record {
-  rewritten_rows = λ i l e. never e;
+  rewritten_rows = λ i l e. cc;
   standing_rows = λ i l e. refl;
   whole_rows = λ i l. length_row_of run.rank i rows (rw whole (row_within i run.size run.rank l));
   tame = tame;
@@ -61,10 +60,10 @@ join first later run rows between rows' a b = record {
     new : (i : ℕ) → i < run.size → (p q : Bool) → first i ≡ p → later i ≡ q → cond p true q ≡ true → UnitLength (row_of run.rank rows' i)
     new i l p true f g t = b.rewritten_rows i l g
     new i l true false f g t = subst UnitLength (sym (b.standing_rows i l g)) (a.rewritten_rows i l f)
-    new i l false false f g t = never t
+    new i l false false f g t = cc
 
     old : (i : ℕ) → i < run.size → (p : Bool) → first i ≡ p → cond p true (later i) ≡ false → row_of run.rank rows' i ≡ row_of run.rank rows i
-    old i l true f t = never (sym t)
+    old i l true f t = cc
     old i l false f t = b.standing_rows i l t ∙ a.standing_rows i l f
 
 -- ---- a call of sweeps, accepted or not

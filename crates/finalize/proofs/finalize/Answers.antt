@@ -1,29 +1,16 @@
 -- `finalize::finalize` meets its contract: the figures of the sign table are those of (H, c). Assumes nothing.
-use Prim.Native.Nat.{suc, ◌+◌, ◌*◌, ◌≤◌}
-use mathlib.Core.Path.{◌≡◌, sym, ◌∙◌, ap}
-use native.Mathlib.Nat.{mul-le-mul}
+use Prim.Native.Nat.{suc, ◌+◌, ◌*◌}
+use mathlib.Core.Path.{◌≡◌, ◌∙◌, ap}
 use native.Mathlib.Numerals.{add-one}
 use native.Mathlib.Omega.{arith}
 use lib.ListN.{length, take}
 use lib.Seq.{length-take-le}
 use Rattle.laws.specs.Lists.{elem_z}
-use Rattle.limits.specs.Limits.{most_signs, most_rank}
 use Rattle.tables.specs.Entries.{listed}
 use Rattle.tables.proofs.Checks.{hall_accepted, table_passes}
 use Rattle.sign_table.proofs.MadeTables.{made_accepted}
 use Rattle.finalize.proofs.Assembled.{finalizes}
 use Rattle.finalize.proofs.finalize.Goals as goal
-
-pub overflow_mul-size : goal.overflow_mul-size
-overflow_mul-size c = let a = c.args in
-    let m : a.hall.n + 1 ≤ most_signs = omega (arith, (hall_accepted a.hall.judged).wagons) in
-    let size : (a.hall.n + 1) * a.rank ≤ most_signs * most_rank = mul-le-mul m c.requires.rank_few in
-    omega (arith, size)
-
-pub slice_bounds-finish-end : goal.slice_bounds-finish-end
-slice_bounds-finish-end c = let a = c.args in
-    let e : (a.hall.n + 1) * a.rank ≡ suc a.hall.n * a.rank = ap (λ k. k * a.rank) (add-one a.hall.n) in
-    sym (length-take-le _ _ (omega (arith, e, c.requires.factor_room)))
 
 pub invariant_of-finish : goal.invariant_of-finish
 invariant_of-finish c = let a = c.args in
@@ -37,9 +24,6 @@ invariant_of-finish c = let a = c.args in
       draws_there = c.requires.draws_room;
       rows_are = long;
     }
-
-pub finalize_signs-requires : goal.finalize_signs-requires
-finalize_signs-requires c = (c.requires.b_room, c.requires.multipliers_room, c.requires.space_room)
 
 pub returns : goal.returns
 returns c =

@@ -1,10 +1,7 @@
 -- `finalize::finalize_signs` meets its contract. By what its callees ensure. Assumes nothing.
-use mathlib.Core.Path.{◌∙◌}
 use native.Mathlib.Numerals.{add-one}
 use native.Mathlib.Omega.{arith}
-use Rattle.laws.proofs.Integer.{held}
 use Rattle.tables.proofs.Checks.{table_accepted}
-use Rattle.finalize.proofs.Assembled.{works}
 use Rattle.finalize.proofs.finalize_signs.Goals as goal
 
 pub floor_eighths-floor-requires : goal.floor_eighths-floor-requires
@@ -18,10 +15,3 @@ multipliers-diagonal_sum-requires c = let f = c.args.finish in
     let t = table_accepted f.judged in
     rw (add-one f.n)
     (record { in_range = (t.in_range, f.rows_are); m_le_most_signs = (t.signs, t.entries, f.rank_few, c.requires.1) })
-
-pub choose-chosen-requires : goal.choose-chosen-requires
-choose-chosen-requires c = (c.requires.0, c.requires.2)
-
-pub returns : goal.returns
-returns c = works c.choose-chosen.ensures c.multipliers-diagonal_sum.ensures.value c.entrywise_lower_bound-float_bound.ensures
-    (held c.floor_eighths-floor.result c.floor_eighths-floor.type_inv ∙ c.floor_eighths-floor.ensures) c.multipliers-diagonal_sum.ensures.dual_after

@@ -1,10 +1,8 @@
 -- `initialize::set_signs` meets its contract. The factor is the definition at i. Assumes nothing.
 use mathlib.Core.Path.{◌≡◌}
-use Prim.Native.Nat.{◌<◌, ◌*◌}
 use native.Mathlib.Omega.{arith}
 use borrow.Author.Rules.{rules}
-use lib.ListN.{length, length-set}
-use Rattle.laws.proofs.Parts.{row_within}
+use lib.ListN.{length-set}
 use Rattle.laws.proofs.UpTo.{up_to_next}
 use Rattle.laws.specs.Turns.{up_to}
 use Rattle.initialize.specs.Initialize.{with_signs}
@@ -13,15 +11,6 @@ use Rattle.initialize.proofs.set_signs.Goals as goal
 pub loop-i-init : goal.loop-i-init
 unfolding up_to
 loop-i-init c = search rules
-
-pub overflow_mul-at : goal.overflow_mul-at
-overflow_mul-at c = omega (arith, row_within _ _ c.args.rank c.loop-i-test.true)
-
-pub offset_bounds-factor-at : goal.offset_bounds-factor-at
-offset_bounds-factor-at c = let h : c.loop-i.i * c.args.rank < length c.loop-i.factor = omega (arith, row_within _ _ c.args.rank c.loop-i-test.true) in search rules
-
-pub bounds-factor-at : goal.bounds-factor-at
-bounds-factor-at c = omega (arith, row_within _ _ c.args.rank c.loop-i-test.true)
 
 pub loop-i-preserved : goal.loop-i-preserved
 loop-i-preserved c = (omega arith, simp length-set (omega arith), rw c.sign.ensures (up_to_next _ _ _ _ c.loop-i.invariant.2))

@@ -1,5 +1,5 @@
 -- `job_reader::big_endian` meets its contract: after i bytes the value is theirs, below 256 ^ i. Assumes nothing.
-use Prim.Native.Nat.{ℕ, ◌+◌, ◌-◌, ◌*◌, ◌≤◌, ◌<◌, ◌^◌}
+use Prim.Native.Nat.{ℕ, ◌+◌, ◌-◌, ◌*◌, ◌<◌, ◌^◌}
 use mathlib.Core.Path.{◌≡◌, refl, ◌∙◌}
 use native.Mathlib.Omega.{arith}
 use native.Mathlib.Nat.{lt_of_lt_of_le, pow-suc, pow-le-pow_right}
@@ -9,12 +9,9 @@ use lib.Seq.{get_or-take, get_or-drop}
 use Rattle.job_reader.specs.Bytes.{big_endian}
 use Rattle.job_reader.proofs.big_endian.Goals as goal
 
-pow-le : (k i : ℕ) → i ≤ k → 256 ^ i ≤ 256 ^ k
-pow-le k i l = pow-le-pow_right (omega arith) l
-
 -- seven bytes leave room for one more
 room : (i value : ℕ) → i < 8 → value < 256 ^ i → value < 2 ^ 56
-room i value l h = lt_of_lt_of_le h (pow-le 7 i (omega arith))
+room i value l h = lt_of_lt_of_le h (pow-le-pow_right {n = 256} (omega arith) {i = i} {j = 7} (omega arith))
 
 -- one more byte
 next : (i value b : ℕ) → value < 256 ^ i → b < 256 → value * 256 + b < 256 ^ (i + 1)

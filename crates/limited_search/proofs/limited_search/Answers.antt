@@ -1,9 +1,8 @@
 -- `limited_search` meets its contract: a refusal lends nothing on, and the search is lent what it writes and no more. Assumes nothing.
-use mathlib.Core.Path.{◌≡◌, refl, sym, ◌∙◌}
+use mathlib.Core.Path.{◌≡◌, sym, ◌∙◌}
 use native.Mathlib.Omega.{arith}
 use Prim.Native.Nat.{◌-◌}
 use lib.ListN.{length, take, drop}
-use Rattle.refusal.proofs.Passed.{passed, some_number}
 use Rattle.limits.specs.Limits.{search_workspace}
 use Rattle.tables.specs.Lent.{costs_of}
 use Rattle.sign_search.proofs.ExpandLaws.{part_size}
@@ -11,16 +10,6 @@ use Rattle.tables.proofs.Checks.{hall_passes}
 use Rattle.limited_search.proofs.Numbers.{ready}
 use Rattle.limited_search.proofs.Calls.{searches}
 use Rattle.limited_search.proofs.limited_search.Goals as goal
-
-pub returns-in_err-limited_number : goal.returns-in_err-limited_number
-returns-in_err-limited_number c = let e = c.in_err-limited_number.ensures in rw (passed c.from_residual.ensures.1) (record {
-  numbered = e;
-  refused = λ n. (refl, refl);
-  answers = λ z. absurd (some_number _ (e ∙ z));
-  writes = λ z. absurd (some_number _ (e ∙ z));
-  kept = refl;
-  near = λ z. absurd (some_number _ (e ∙ z));
-})
 
 pub slice_bounds-search_limited-end : goal.slice_bounds-search_limited-end
 slice_bounds-search_limited-end c = let a = c.args in (ready (costs_of a.hall) a.request.present.now a.request.most a.request.width (length a.choice.now) (length a.workspace.now) (sym c.in_ok-limited_number.ensures)).choice_there

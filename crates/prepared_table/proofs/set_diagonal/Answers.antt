@@ -15,9 +15,6 @@ pub loop-e-init : goal.loop-e-init
 unfolding up_to
 loop-e-init c = (omega arith, refl, c.clear.ensures ∙ ap (λ (n : ℕ). replicate n zero64) (sym c.clear.auto.g))
 
-pub put_diagonal-requires : goal.put_diagonal-requires
-put_diagonal-requires c = omega (arith, c.requires.in_range.rows_in c.loop-e.e c.loop-e-test.true, c.clear.auto.g)
-
 pub loop-e-preserved : goal.loop-e-preserved
 loop-e-preserved c = (omega arith, omega arith, (rw (held (get_or c.args.table.values.now c.loop-e.e (pos 0)) c.put_diagonal-arg-in-loop-e-3-1.given) at c.put_diagonal.ensures) ∙ up_to_next _ _ _ _ c.loop-e.invariant.2)
 

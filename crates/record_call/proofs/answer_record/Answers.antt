@@ -11,6 +11,3 @@ returns-then-workspace-lt-RECORD_WORKSPACE c = let a = c.args in
 
 pub answer_judged-requires : goal.answer_judged-requires
 answer_judged-requires c = (c.if-workspace-lt-RECORD_WORKSPACE.false, c.if-answer-lt-LEAST_ANSWER.false)
-
-pub returns : goal.returns
-returns c = c.answer_judged.ensures

@@ -8,21 +8,11 @@ use Rattle.local_search.specs.Children.{parent_of}
 use Rattle.rounding.specs.Rounding.{first_least, signs_of, draw_objective, rounded_sol, rounded_objective}
 use Rattle.rounding.proofs.Least.{least_step}
 use Rattle.laws.proofs.Integer.{held}
-use Rattle.laws.proofs.Parts.{row_within}
 use Rattle.rounding.proofs.compute_rounded_sol.Goals as goal
-
-pub evaluate_draw-least-requires : goal.evaluate_draw-least-requires
-evaluate_draw-least-requires c = record { table_in_bounds = c.requires.table_in_bounds; rank_in_bounds = (c.requires.rank_in_bounds.0, omega (arith, row_within 0 c.args.draws.count c.args.rank c.requires.rank_in_bounds.2, c.requires.rank_in_bounds.1), c.requires.rank_in_bounds.3, c.requires.rank_in_bounds.5) }
 
 pub loop-k-init : goal.loop-k-init
 unfolding first_least
 loop-k-init c = (held c.evaluate_draw-least.result c.evaluate_draw-least.type_inv ∙ c.evaluate_draw-least.ensures.value, c.evaluate_draw-least.ensures.signs_after)
-
-pub evaluate_draw-objective-requires : goal.evaluate_draw-objective-requires
-evaluate_draw-objective-requires c = record { table_in_bounds = c.requires.table_in_bounds; rank_in_bounds = (c.requires.rank_in_bounds.0, omega (arith, row_within c.loop-k.k c.args.draws.count c.args.rank c.loop-k-test.true, c.requires.rank_in_bounds.1), omega (arith, c.loop-k.auto.direction, c.evaluate_draw-least.auto.direction, c.requires.rank_in_bounds.3), omega (arith, c.loop-k.auto.signs, c.requires.rank_in_bounds.4)) }
-
-pub keep_better-least-requires : goal.keep_better-least-requires
-keep_better-least-requires c = omega (arith, c.loop-k.auto.best, c.loop-k.auto.signs, c.evaluate_draw-least.auto.signs, c.evaluate_draw-objective.auto.signs, c.requires.rank_in_bounds.4, c.requires.rank_in_bounds.5)
 
 pub loop-k-preserved : goal.loop-k-preserved
 loop-k-preserved c = let a = c.args in

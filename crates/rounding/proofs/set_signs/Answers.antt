@@ -1,21 +1,14 @@
 -- `rounding::set_signs` meets its contract. The first i signs are written. Assumes nothing.
-use mathlib.Core.Path.{◌≡◌, sym, ◌∙◌}
+use mathlib.Core.Path.{◌≡◌}
 use native.Mathlib.Omega.{arith}
 use borrow.Author.Rules.{rules}
 use Rattle.laws.proofs.Made.{tabulate_next, tabulate_all}
-use Rattle.laws.proofs.Parts.{row_within}
 use Rattle.laws.specs.Lists.{tabulate}
 use Rattle.rounding.proofs.set_signs.Goals as goal
 
 pub loop-i-init : goal.loop-i-init
 unfolding tabulate
 loop-i-init c = search rules
-
-pub row-requires : goal.row-requires
-row-requires c = omega (arith, row_within _ _ c.args.rank c.loop-i-test.true)
-
-pub dot-requires : goal.dot-requires
-dot-requires c = c.row.ensures.result_len ∙ sym c.requires.1
 
 pub loop-i-preserved : goal.loop-i-preserved
 loop-i-preserved c = rw (c.sign_byte.ensures, c.dot.ensures, c.row.ensures.result_value) (tabulate_next _ _ _ _ 0 (omega (arith, c.loop-i.auto.signs)) c.loop-i.invariant)

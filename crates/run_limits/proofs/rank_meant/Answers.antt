@@ -1,11 +1,7 @@
 -- `run_limits::rank_meant` meets its contract. By the test. Assumes nothing.
 use mathlib.Core.Path.{sym, ◌∙◌}
-use native.Mathlib.Omega.{arith}
 use Rattle.run_limits.proofs.Ranks.{default_low, meant_given, meant_default}
 use Rattle.run_limits.proofs.rank_meant.Goals as goal
-
-pub overflow_cast-m : goal.overflow_cast-m
-overflow_cast-m c = omega (arith, c.requires.0 c.if-rank-eq0.true)
 
 pub returns-then-rank-eq0 : goal.returns-then-rank-eq0
 returns-then-rank-eq0 c = let zero-given = c.if-rank-eq0.true in

@@ -5,15 +5,6 @@ use Rattle.run_limits.specs.Start.{start_length}
 use Rattle.run_limits.proofs.Starts.{counted}
 use Rattle.run_limits.proofs.start_length.Goals as goal
 
-pub overflow_mul-result : goal.overflow_mul-result
-overflow_mul-result c = omega (arith, mul-le-mul c.requires.0 c.requires.1)
-
-pub overflow_mul-result-in-SignsAndDraws : goal.overflow_mul-result-in-SignsAndDraws
-overflow_mul-result-in-SignsAndDraws c = omega (arith, mul-le-mul c.requires.0 c.requires.1)
-
-pub overflow_add-result : goal.overflow_add-result
-overflow_add-result c = omega (arith, mul-le-mul c.requires.0 c.requires.1)
-
 pub returns-in-Rows : goal.returns-in-Rows
 unfolding start_length
 returns-in-Rows c = (rw c.in-Rows.is at (counted _ _ c.args.rank c.args.m c.start_of.ensures), omega (arith, mul-le-mul c.requires.0 c.requires.1))

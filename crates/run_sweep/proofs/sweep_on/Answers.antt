@@ -1,6 +1,6 @@
-use mathlib.Core.Path.{sym, ◌∙◌}
+use mathlib.Core.Path.{◌∙◌}
 use Rattle.step_rules.proofs.Standing.{standing_in_few}
-use Rattle.run_sweep.proofs.Loop.{after_factor, after_left, reshaped}
+use Rattle.run_sweep.proofs.Loop.{reshaped}
 use Rattle.run_sweep.proofs.sweep_on.Goals as goal
 
 pub run_after-requires : goal.run_after-requires
@@ -12,6 +12,3 @@ run_after-requires c = record {
   };
   sweeps_lt_most = (c.requires.sweeps_lt_most.0, reshaped c.requires.sweepable.shaped c.step-left.auto.factor, c.step-left.auto.scratch ∙ c.requires.sweepable.product_is, c.requires.sweepable.dual_is);
 }
-
-pub returns : goal.returns
-returns c = (after_left _ _ _ (after_factor _ _ _ c.run_after.ensures (sym c.step-left.ensures.factor_after)) (sym c.step-left.ensures.standing_value), c.step-left.ensures.factor_after)

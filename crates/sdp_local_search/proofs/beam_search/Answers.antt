@@ -1,8 +1,5 @@
 -- `beam_search` meets its contract: a refusal lends nothing on, and the search is lent what it writes and no more. Assumes nothing.
-use mathlib.Core.Path.{◌≡◌, refl, sym, ap, ◌∙◌}
-use Rattle.refusal.specs.Number.{in_numbers}
-use Rattle.refusal.proofs.Passed.{passed, some_number}
-use Rattle.sdp_local_search.specs.Call.{number_of}
+use mathlib.Core.Path.{◌≡◌, sym, ◌∙◌}
 use native.Mathlib.Omega.{arith}
 use Prim.Native.Nat.{◌-◌}
 use lib.ListN.{length, take, drop}
@@ -15,16 +12,6 @@ use Rattle.sdp_local_search.specs.BeamSearch.{sign_bytes}
 use Rattle.sdp_local_search.proofs.Numbers.{call_ready}
 use Rattle.sdp_local_search.proofs.Calls.{answered, written, tail_kept}
 use Rattle.sdp_local_search.proofs.beam_search.Goals as goal
-
-pub returns-in_err-entries : goal.returns-in_err-entries
-returns-in_err-entries c = let out = ap in_numbers (passed c.from_residual.ensures.1) in
-    record {
-      numbered = ap number_of out ∙ c.in_err-entries.ensures.number;
-      refused = λ n. (refl, refl);
-      answers = λ e. absurd (some_number _ (c.in_err-entries.ensures.number ∙ e));
-      writes = λ e. absurd (some_number _ (c.in_err-entries.ensures.number ∙ e));
-      kept = refl;
-    }
 
 pub slice_bounds-search_from-end : goal.slice_bounds-search_from-end
 slice_bounds-search_from-end c = (call_ready (sym c.in_ok-entries.ensures.number)).out_there

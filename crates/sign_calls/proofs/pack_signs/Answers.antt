@@ -1,16 +1,9 @@
 -- `sign_calls::pack_signs` meets its contract. Assumes nothing.
-use mathlib.Core.Path.{refl, sym, ap, ◌∙◌}
-use Rattle.refusal.specs.Number.{numbered}
-use Rattle.refusal.proofs.Passed.{passed, some_number}
+use mathlib.Core.Path.{refl, sym}
 use native.Mathlib.Omega.{arith}
 use lib.Seq.{length-take-le}
-use Rattle.sign_calls.proofs.Accepting.{pack_room, packs_refused, packs_accepted}
+use Rattle.sign_calls.proofs.Accepting.{pack_room, packs_accepted}
 use Rattle.sign_calls.proofs.pack_signs.Goals as goal
-
-pub returns-in_err-pack_number : goal.returns-in_err-pack_number
-returns-in_err-pack_number c = let a = c.args in
-    let out = ap numbered (passed c.from_residual.ensures.1) in
-    packs_refused a.m a.signs.now a.words.now (out ∙ c.in_err-pack_number.ensures) (λ z. some_number _ (sym out ∙ z))
 
 pub slice_bounds-pack-end : goal.slice_bounds-pack-end
 slice_bounds-pack-end c = let a = c.args in

@@ -3,15 +3,6 @@ use mathlib.Core.Path.{refl}
 use Rattle.step_rules.specs.Rule.{stepped, standing_in}
 use Rattle.step_rules.proofs.step.Goals as goal
 
-pub make_step_adv-requires : goal.make_step_adv-requires
-make_step_adv-requires c = record { shaped = c.requires.shaped; obj_fits = c.requires.obj_fits; product_len = (c.requires.scratch_len.0, c.requires.scratch_len.1) }
-
-pub make_step_coord_momentum-requires : goal.make_step_coord_momentum-requires
-make_step_coord_momentum-requires c = record { shaped = c.requires.shaped; rank_in_bounds = (rw c.requires.scratch_len.0 c.requires.scratch_len.2, rw c.requires.scratch_len.1 c.requires.scratch_len.2) }
-
-pub make_step_coord_momentum-requires-in-CoordMomentum : goal.make_step_coord_momentum-requires-in-CoordMomentum
-make_step_coord_momentum-requires-in-CoordMomentum c = record { shaped = c.requires.shaped; rank_in_bounds = (rw c.requires.scratch_len.0 c.requires.scratch_len.2, rw c.requires.scratch_len.1 c.requires.scratch_len.2) }
-
 pub returns-in-Grad : goal.returns-in-Grad
 unfolding stepped standing_in
 returns-in-Grad c = rw c.in-Grad.is (record { standing_value = refl; factor_after = c.make_step.ensures })

@@ -1,11 +1,7 @@
 use mathlib.Core.Path.{sym, ap, ◌∙◌}
-use lib.Seq.{length-take-le}
 use Rattle.record_call.specs.Record.{JobAnswer}
 use Rattle.record_call.proofs.Long.{read_same}
 use Rattle.wagonplan.proofs.respond_to.Goals as goal
-
-pub slice_bounds-respond-end : goal.slice_bounds-respond-end
-slice_bounds-respond-end c = sym (length-take-le _ _ c.requires.0)
 
 pub returns : goal.returns
 returns c = let a = c.args in

@@ -1,10 +1,9 @@
-use mathlib.Core.Path.{◌≡◌, refl, sym, ap, ◌∙◌}
+use mathlib.Core.Path.{refl, sym, ◌∙◌}
 use native.Mathlib.Omega.{arith}
 use native.Mathlib.Nat.{zero-add}
-use lib.ListN.{length, length-append, take}
-use lib.Seq.{take-length}
+use lib.ListN.{length-append}
 use Rattle.job_reader.proofs.Encode.{length_bytes_of}
-use Rattle.answer_record.specs.Put.{put, bytes_in}
+use Rattle.answer_record.specs.Put.{put}
 use Rattle.answer_record.proofs.Written.{put_next, fields_next, fields_within}
 use Rattle.answer_record.proofs.put.put_fields.Goals as goal
 
@@ -26,8 +25,3 @@ loop-width-preserved c = let l = c.loop-width in
       rw next (simp (length-append, length_bytes_of) (omega arith)),
       omega arith,
     )
-
-pub returns : goal.returns
-returns c = let a = c.args in let l = c.loop-width in
-    let all : take l.width-index a.fields.now ≡ a.fields.now = let e : l.width-index ≡ length a.fields.now = omega arith in rw (e, take-length a.fields.now) in
-    l.invariant.1 ∙ ap (λ (fs : _). put a.out.now 0 (bytes_in fs)) all

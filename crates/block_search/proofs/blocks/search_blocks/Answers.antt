@@ -1,6 +1,6 @@
 -- `block_search::blocks::search_blocks` meets its contract. Assumes nothing.
 use borrow.Author.Rules.{rules}
-use mathlib.Core.Path.{◌≡◌, refl, sym, ap, ◌∙◌}
+use mathlib.Core.Path.{refl, ap, ◌∙◌}
 use mathlib.Core.List.{List}
 use native.Mathlib.Omega.{arith}
 use lib.ListN.{length}
@@ -20,32 +20,8 @@ pub loop-k-init : goal.loop-k-init
 unfolding tabulate total
 loop-k-init c = (omega arith, refl, choice_none _ _ _ _ _ _, refl, refl, c.requires.house_fits.bytes_many, c.requires.house_fits.bytes_low, refl)
 
-pub block-block-requires : goal.block-block-requires
-block-block-requires c = (c.loop-k-test.true, c.loop-k.invariant.1)
-
 pub overflow_add-at : goal.overflow_add-at
 overflow_add-at c = omega (arith, block_ends (elem c.args.blocks.lent.sizes.now) c.loop-k.k (length c.args.blocks.lent.sizes.now) c.loop-k-test.true, c.args.blocks.wagons_there, c.block-block.ensures.many, c.loop-k.invariant.1)
 
-pub search_moving-requires : goal.search_moving-requires
-search_moving-requires c = record { width_some = c.requires.house_fits.width_some; width_few = c.requires.house_fits.width_few; bytes_many = c.loop-k.invariant.5; bytes_low = c.loop-k.invariant.6; space_room = omega (arith, c.requires.house_fits.space_room, c.loop-k.invariant.7) }
-
-pub offset_bounds-falls-k : goal.offset_bounds-falls-k
-offset_bounds-falls-k c = omega (arith, c.requires.sizes_in_bounds.1, c.loop-k-test.true)
-
-pub bounds-falls-k : goal.bounds-falls-k
-bounds-falls-k c = omega (arith, c.requires.sizes_in_bounds.0, c.loop-k.invariant.4, c.loop-k-test.true)
-
 pub loop-k-preserved : goal.loop-k-preserved
 loop-k-preserved c = (omega arith, total_next (elem c.args.blocks.lent.sizes.now) c.loop-k.k c.loop-k.invariant.1 (ap (λ (i : ℕ). c.loop-k.at + i) c.block-block.ensures.many), choice_next c.args.hall.n (listed c.args.hall.table) (elem_z c.args.hall.c.now) c.args.width (block_moves c.args.pinned.now c.args.blocks.lent.sizes.now c.args.blocks.lent.wagons.now) c.args.b.now c.loop-k.k _ c.loop-k.invariant.2 (c.search_moving.ensures.1 ∙ ap (λ (l : List ℕ). searched_from c.args.hall.n (listed c.args.hall.table) (elem_z c.args.hall.c.now) c.args.width (free_among c.args.pinned.now (named l)) c.loop-k.b) c.block-block.ensures.wagons), rw (held _ c.search_moving.type_inv) (cost_next _ _ _ _ (omega (arith, c.requires.sizes_in_bounds.0, c.loop-k-test.true)) c.loop-k.invariant.3 (fall_next c.args.hall.n (listed c.args.hall.table) (elem_z c.args.hall.c.now) c.args.width (block_moves c.args.pinned.now c.args.blocks.lent.sizes.now c.args.blocks.lent.wagons.now) c.args.b.now c.loop-k.k _ c.loop-k.invariant.2 (c.search_moving.ensures.0 ∙ ap (λ (l : List ℕ). fall_from c.args.hall.n (listed c.args.hall.table) (elem_z c.args.hall.c.now) c.args.width (free_among c.args.pinned.now (named l)) c.loop-k.b) c.block-block.ensures.wagons))), search rules, c.search_moving.auto.b ∙ c.loop-k.invariant.5, rw c.search_moving.ensures.1 (low_after c.args.hall.n _ c.loop-k.b c.loop-k.invariant.6 (hall_accepted c.args.hall.judged) c.args.width c.requires.house_fits.width_some), c.search_moving.auto.workspace ∙ c.loop-k.invariant.7)
-
-pub shape_of-b : goal.shape_of-b
-shape_of-b c = c.loop-k.invariant.5 ∙ sym c.requires.house_fits.bytes_many
-
-pub shape_of-falls : goal.shape_of-falls
-shape_of-falls c = c.loop-k.invariant.4
-
-pub shape_of-workspace : goal.shape_of-workspace
-shape_of-workspace c = c.loop-k.invariant.7
-
-pub returns : goal.returns
-returns c = let e : c.loop-k.k ≡ length c.args.blocks.lent.sizes.now = omega (arith, c.loop-k.invariant.0, c.loop-k-test.false) in ((rw e at c.loop-k.invariant.2), (rw e at c.loop-k.invariant.3))

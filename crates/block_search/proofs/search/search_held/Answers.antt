@@ -68,11 +68,6 @@ search_reduced-fall-requires c =
     let w = (goal.at.search_reduced-fall-requires c).After-reduce-shrunk in
     record { wagons_many = (free_many w); wagons_there = free_in_lem c.args.hall.n _ c.args.states.now (free_is w) (omega (arith, c.requires.1)); bytes_low = c.requires.2; width_few = c.requires.3; found_room = omega (arith, (fewer w)); space_room = c.requires.4 }
 
-pub lift_choice-requires : goal.lift_choice-requires
-lift_choice-requires c =
-    let w = (goal.at.lift_choice-requires c).After-reduce-shrunk in
-    (c.requires.0, (free_is w), omega (arith, (free_many w), (fewer w), c.search_reduced-fall.auto.found), omega (arith, c.requires.1))
-
 pub returns : goal.returns
 returns c =
     let w = (goal.at.returns c).After-reduce-shrunk in

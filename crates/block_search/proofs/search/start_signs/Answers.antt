@@ -13,17 +13,8 @@ pub loop-k-init : goal.loop-k-init
 unfolding tabulate
 loop-k-init c = (omega arith, refl, refl)
 
-pub bounds-b-from : goal.bounds-b-from
-bounds-b-from c = omega (arith, c.requires.0.below c.loop-k.k c.loop-k-test.true, c.from.ensures)
-
-pub bounds-signs-k : goal.bounds-signs-k
-bounds-signs-k c = omega (arith, c.requires.1, c.loop-k.invariant.2, c.loop-k-test.true)
-
 pub loop-k-preserved : goal.loop-k-preserved
 loop-k-preserved c = (omega arith, ap (λ (v : ℕ). set c.loop-k.signs c.loop-k.k (elem c.args.b.now v)) c.from.ensures ∙ tabulate_next _ _ _ _ 0 (omega (arith, c.requires.1, c.loop-k-test.true)) c.loop-k.invariant.1, search rules)
-
-pub bounds-signs-free : goal.bounds-signs-free
-bounds-signs-free c = omega (arith, c.requires.1, c.loop-k.invariant.0, c.loop-k.invariant.2)
 
 pub returns : goal.returns
 returns c = let e : c.loop-k.k ≡ length c.args.free.now = omega (arith, c.loop-k.invariant.0, c.loop-k-test.false) in ap (λ n. set c.loop-k.signs n 0) (sym e) ∙ signs_made c.args.free.now c.args.b.now c.args.signs.now e c.loop-k.invariant.1 c.requires.1

@@ -1,8 +1,7 @@
 -- `coordinate_sweep::pairs::meets` meets its contract. What is found is the definition at e. Assumes nothing.
 use borrow.Author.Rules.{rules}
-use mathlib.Core.Path.{◌≡◌, ◌∙◌}
+use mathlib.Core.Path.{◌∙◌}
 use native.Mathlib.Omega.{arith}
-use lib.ListN.{length}
 use Rattle.laws.specs.Lists.{any_below}
 use Rattle.laws.proofs.Any.{below_next}
 use Rattle.coordinate_sweep.proofs.pairs.meets.Goals as goal
@@ -13,6 +12,3 @@ loop-e-init c = search rules
 
 pub loop-e-preserved : goal.loop-e-preserved
 loop-e-preserved c = (omega arith, c.found_by-found.ensures ∙ below_next _ _ _ c.loop-e.invariant.1)
-
-pub returns : goal.returns
-returns c = let e : c.loop-e.e ≡ length c.args.cols.now = omega arith in rw e at c.loop-e.invariant.1

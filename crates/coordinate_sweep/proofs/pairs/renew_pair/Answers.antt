@@ -1,26 +1,14 @@
 -- `coordinate_sweep::pairs::renew_pair` meets its contract. By whether both rows move with momentum. Assumes nothing.
 use mathlib.Core.Path.{ap, ◌∙◌}
-use native.Mathlib.Omega.{arith}
 use Rattle.ieee.specs.Sqrt.{sqrt_of}
-use Rattle.coordinate_sweep.proofs.TwoRows.{first_within, pair_moves, pair_updates}
-use Rattle.coordinate_sweep.proofs.Standing.{left_few, both_left, none_left}
+use Rattle.coordinate_sweep.proofs.TwoRows.{pair_moves, pair_updates}
+use Rattle.coordinate_sweep.proofs.Standing.{both_left, none_left}
 use Rattle.coordinate_sweep.proofs.pairs.renew_pair.Goals as goal
 
 pub returns-then-moves : goal.returns-then-moves
 returns-then-moves c = let a = c.sqrt-a.ensures ∙ ap sqrt_of c.squared_norm.ensures in
     let b = c.sqrt-b.ensures ∙ ap sqrt_of c.squared_norm-2.ensures in
     let w = c.moves.ensures c.if-moves.true in record { factor_after = pair_moves _ _ _ _ _ _ _ _ _ a b w c.move_pair.ensures; value = none_left _ _ _ _ a b w.0 w.1 }
-
-pub update_at-first-requires : goal.update_at-first-requires
-update_at-first-requires c = first_within _ _ _ c.requires.0
-
-pub update_at-second-requires : goal.update_at-second-requires
-update_at-second-requires c = rw (c.update_at-first.auto.factor, c.requires.1) c.requires.0
-
-pub overflow_add-result : goal.overflow_add-result
-overflow_add-result c = let first = left_few c.update_at-first.result c.left_of.ensures in
-    let second = left_few c.update_at-second.result c.left_of-2.ensures in
-    omega (arith, first, second)
 
 pub returns : goal.returns
 returns c = let a = c.sqrt-a.ensures ∙ ap sqrt_of c.squared_norm.ensures in

@@ -11,9 +11,6 @@ use Rattle.exhaustive.proofs.grid.raise.Goals as goal
 pub loop-i-init : goal.loop-i-init
 loop-i-init c = (omega arith, fill_none _ _)
 
-pub raised_field-requires : goal.raised_field-requires
-raised_field-requires c = (omega arith, c.requires.0)
-
 pub loop-i-preserved : goal.loop-i-preserved
 loop-i-preserved c = (omega arith, fill_more (raised_field c.args.fields.now c.args.grid.now c.args.j) c.args.up.now c.loop-i.i c.loop-i.invariant.1 (held _ c.raised_field.type_inv ∙ c.raised_field.ensures))
 

@@ -11,9 +11,6 @@ use Rattle.exhaustive.proofs.grid.start_fields.Goals as goal
 pub loop-j-init : goal.loop-j-init
 loop-j-init c = (omega arith, fill_none _ _)
 
-pub start_field-requires : goal.start_field-requires
-start_field-requires c = (omega arith, omega arith, c.requires.2, c.requires.3 c.loop-j.j (omega arith))
-
 pub loop-j-preserved : goal.loop-j-preserved
 loop-j-preserved c = (omega arith, fill_more (start_field c.args.grid.now c.args.c.now) c.args.fields.now c.loop-j.j c.loop-j.invariant.1 (held _ c.start_field.type_inv ∙ c.start_field.ensures))
 

@@ -1,11 +1,11 @@
 -- `exhaustive::walk::walk` meets its contract. Assumes nothing.
-use mathlib.Core.Path.{ap, subst, refl, ◌∙◌}
+use mathlib.Core.Path.{ap, refl, ◌∙◌}
 use mathlib.Core.Bool.{cond}
-use Prim.Native.Nat.{ℕ, ◌-◌, ◌<◌}
+use native.Mathlib.Omega.{arith}
 use lib.IntN.{ℤ}
 use lib.Signed.{lt_z}
 use mir.Facts.{to_z-of_z}
-use Rattle.exhaustive.proofs.Standing.{same_stands, end_stands, low_stands, can_raise, top_below, more_fits, more_is, high_stands, both_stand}
+use Rattle.exhaustive.proofs.Standing.{same_stands, end_stands, low_stands, can_raise, more_fits, more_is, high_stands, both_stand}
 use Rattle.exhaustive.proofs.walk.+walk.Goals as goal
 
 pub returns-then-d-eq0 : goal.returns-then-d-eq0
@@ -21,7 +21,7 @@ unfolding same_stands
 returns-then-d-eq1 t c = λ s. c.visit_two.ensures (same_stands (to_z-of_z c.ranges.cost) s)
 
 pub walk-low-requires : goal.walk-low-requires
-walk-low-requires t c = (subst (λ (x : ℕ). c.args.d - 1 < x) c.decreases (top_below c.if-d-eq0.false c.requires), low_stands c.if-d-eq0.false c.requires (to_z-of_z c.ranges.cost))
+walk-low-requires t c = (omega arith, low_stands c.if-d-eq0.false c.requires (to_z-of_z c.ranges.cost))
 
 pub raise-requires : goal.raise-requires
 raise-requires t c = (can_raise c.if-d-eq0.false c.requires, refl)
@@ -34,7 +34,7 @@ unfolding low_stands high_stands
 walk-requires t c =
     let z = c.if-d-eq0.false in
     let w = c.walk-low.ensures (low_stands z c.requires (to_z-of_z c.ranges.cost)) in
-    (subst (λ (x : ℕ). c.args.d - 1 < x) c.decreases (top_below z c.requires), high_stands z c.requires w c.raise.ensures (more_is z c.requires))
+    (omega arith, high_stands z c.requires w c.raise.ensures (more_is z c.requires))
 
 pub returns : goal.returns
 unfolding low_stands high_stands

@@ -18,8 +18,5 @@ start_fields-requires c = (c.requires.1, c.args.hall.costs_there, grid_values c.
 pub walk-found-requires : goal.walk-found-requires
 walk-found-requires c = first_stands c.args.hall.c.now (hall_accepted c.args.hall.judged) c.requires.1 c.lay_out.ensures c.start_fields.ensures
 
-pub put_digits-requires : goal.put_digits-requires
-put_digits-requires c = c.requires.0
-
 pub returns : goal.returns
 returns c = let w = all_walked c.args.hall.c.now (hall_accepted c.args.hall.judged) c.requires.1 c.lay_out.ensures c.start_fields.ensures c.walk-found.ensures in record { found = (held c.walk-found.result.least c.struct_told-1.given.0.1 ∙ w.0, w.2); choice = c.put_digits.ensures ∙ ap (λ (k : ℕ). over (digits_of c.args.hall.n k) c.args.b.now) w.1 }

@@ -5,7 +5,7 @@ use native.Mathlib.Nat.{add-sub_cancel_left}
 use native.Mathlib.Omega.{arith}
 use lib.ListN.{length}
 use Rattle.exports.specs.Words.{run_words, run_in}
-use Rattle.exports.proofs.Turning.{put_none, put_next, put_all}
+use Rattle.exports.proofs.Turning.{put_none, put_next}
 use Rattle.exports.proofs.turns.put_runs.Goals as goal
 
 pub loop-i-init : goal.loop-i-init
@@ -16,6 +16,3 @@ loop-i-preserved c = let l = c.loop-i in
     let room : run_words * l.i + run_words ≤ length l.words = omega (arith, c.loop-i-test.true, c.requires.0, c.requires.1, l.invariant.1.long) in
     let is = c.copy_from_slice.ensures.after ∙ c.words_of.ensures.0 in
     (omega (arith, c.loop-i-test.true), put_next l.i l.invariant.1 room (add-sub_cancel_left (run_words * l.i) run_words) is (ap run_in c.copy_from_slice.ensures.after ∙ c.words_of.ensures.1))
-
-pub returns : goal.returns
-returns c = put_all _ _ c.loop-i.invariant.1 c.loop-i.invariant.0 c.loop-i-test.false

@@ -7,14 +7,14 @@ use Rattle.laws.proofs.MapFirst.{fill_none, fill_more, fill_all}
 use Rattle.limits.specs.Limits.{most_runs}
 use Rattle.exports.specs.Words.{run_words, run_in}
 use Rattle.exports.specs.TurnWords.{runs_in}
-use Rattle.exports.proofs.Turning.{rest_is}
+use Rattle.std.proofs.lemmas.List.{take_rest}
 use Rattle.exports.proofs.turns.runs_in.Goals as goal
 
 pub loop-i-init : goal.loop-i-init
 loop-i-init c = (omega arith, ap (replicate most_runs) c.no_run-runs.ensures ∙ fill_none _ _)
 
 pub loop-i-preserved : goal.loop-i-preserved
-loop-i-preserved c = (omega (arith, c.loop-i-test.true), fill_more _ _ _ c.loop-i.invariant.1 (c.run_in.ensures ∙ ap run_in (rest_is (run_words * c.loop-i.i) c.args.words.now)))
+loop-i-preserved c = (omega (arith, c.loop-i-test.true), fill_more _ _ _ c.loop-i.invariant.1 (c.run_in.ensures ∙ ap run_in (take_rest c.args.words.now (run_words * c.loop-i.i))))
 
 pub returns : goal.returns
 unfolding runs_in

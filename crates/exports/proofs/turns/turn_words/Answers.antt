@@ -1,22 +1,13 @@
 -- `exports::turns::turn_words` meets its contract, by what `turn` promises of the records that the words hold. Assumes nothing.
 use mathlib.Core.Path.{sym}
-use Rattle.refusal.proofs.Passed.{passed, some_number}
-use Rattle.exports.proofs.Turning.{ample, turn_early, turn_left, turn_made}
+use Rattle.exports.proofs.Turning.{ample, turn_made}
 use Rattle.exports.proofs.turns.turn_words.Goals as goal
-
-pub returns-in_err-early_number : goal.returns-in_err-early_number
-returns-in_err-early_number c = rw (passed c.from_residual.ensures.1) (turn_early _ _ _ _ _ _ _ _ _ c.in_err-early_number.ensures (some_number _))
 
 pub runs_in-runs-requires : goal.runs_in-runs-requires
 runs_in-runs-requires c = let a = ample _ _ _ _ (sym c.in_ok-early_number.ensures) in (a.few, a.words_there)
 
 pub halls_in-halls-requires : goal.halls_in-halls-requires
 halls_in-halls-requires c = let a = ample _ _ _ _ (sym c.in_ok-early_number.ensures) in (a.few, a.sizes_there)
-
-pub returns-in_err-after : goal.returns-in_err-after
-returns-in_err-after c =
-    rw (passed c.from_residual-in_err-after.ensures.1)
-    (turn_left _ _ _ _ _ _ _ _ _ _ (some_number _) (sym c.in_ok-early_number.ensures) (rw (c.runs_in-runs.ensures, c.halls_in-halls.ensures) at c.in_err-after.ensures))
 
 pub put_runs-requires : goal.put_runs-requires
 put_runs-requires c = let a = ample _ _ _ _ (sym c.in_ok-early_number.ensures) in (a.few, a.words_there)

@@ -9,15 +9,6 @@ use Rattle.factor.proofs.block.block.Goals as goal
 pub loop-e-init : goal.loop-e-init
 loop-e-init g c = (omega arith, refl, block_start_lem (g.T.Term.joins c.args.term) (g.T.Term.leaves c.args.term) c.args.row.cols.now c.args.row.values.now c.args.factor.now c.args.rank c.args.offset g.row.N)
 
-pub overflow_mul-start : goal.overflow_mul-start
-overflow_mul-start g c = rw c.from-k.ensures (omega (arith, c.requires.by_index c.loop-e.e c.loop-e-test.true))
-
-pub overflow_add-start : goal.overflow_add-start
-overflow_add-start g c = rw c.from-k.ensures (omega (arith, c.requires.by_index c.loop-e.e c.loop-e-test.true))
-
-pub add_entry-requires : goal.add_entry-requires
-add_entry-requires g c = rw c.from-k.ensures (omega (arith, c.requires.by_index c.loop-e.e c.loop-e-test.true))
-
 pub loop-e-preserved : goal.loop-e-preserved
 loop-e-preserved g c = (omega arith, omega arith, (rw c.from-k.ensures at c.add_entry.ensures) ∙ block_next _ _ _ _ _ _ _ _ _ _ c.loop-e.invariant.2)
 

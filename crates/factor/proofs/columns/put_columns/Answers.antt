@@ -13,9 +13,6 @@ pub loop-j-init : goal.loop-j-init
 unfolding tabulate
 loop-j-init g c = search rules
 
-pub column-requires : goal.column-requires
-column-requires g c = record { j_lt_rank = omega arith; columns_within = c.requires }
-
 pub loop-j-preserved : goal.loop-j-preserved
 loop-j-preserved g c = (omega arith, simp length-set (omega arith), rw c.column.ensures (tabulate_next _ _ _ _ nan (omega arith) c.loop-j.invariant.2))
 

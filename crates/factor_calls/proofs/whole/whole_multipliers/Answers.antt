@@ -5,7 +5,6 @@ use lib.ListN.{length-set}
 use lib.Ieee.{nan}
 use Rattle.laws.specs.Lists.{tabulate}
 use Rattle.laws.proofs.Made.{tabulate_next, tabulate_all}
-use Rattle.laws.proofs.Parts.{row_within}
 use Rattle.factor_calls.specs.Equation8.{multipliers_by}
 use Rattle.sign_table.proofs.Cursor.{at_start}
 use Rattle.factor_calls.proofs.whole.whole_multipliers.Goals as goal
@@ -13,15 +12,6 @@ use Rattle.factor_calls.proofs.whole.whole_multipliers.Goals as goal
 pub loop-i-init : goal.loop-i-init
 unfolding tabulate
 loop-i-init c = (omega arith, c.requires.0, omega arith, refl, at_start _)
-
-pub whole_row-from-requires : goal.whole_row-from-requires
-whole_row-from-requires c = (c.loop-i.invariant.4, c.loop-i.invariant.1)
-
-pub row-requires : goal.row-requires
-row-requires c = omega (arith, row_within _ _ c.args.qv.rank c.loop-i-test.true, c.args.qv.rows_there)
-
-pub value_of-requires : goal.value_of-requires
-value_of-requires c = omega (arith, c.row.ensures.result_len)
 
 pub loop-i-preserved : goal.loop-i-preserved
 loop-i-preserved c = (omega arith, omega arith, simp length-set (omega arith), rw (c.value_of.ensures, c.whole_row-from.ensures.sums_after, c.row.ensures.result_value) (tabulate_next _ _ _ _ nan (omega arith) c.loop-i.invariant.3), c.whole_row-from.ensures.at)

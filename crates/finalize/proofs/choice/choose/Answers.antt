@@ -6,12 +6,6 @@ use lib.Seq.{length-take-le}
 use Rattle.tables.proofs.Checks.{table_accepted}
 use Rattle.finalize.proofs.choice.choose.Goals as goal
 
-pub slice_bounds-direction-end : goal.slice_bounds-direction-end
-slice_bounds-direction-end c = omega (arith, c.direction-direction.ensures.most_rank_value, c.args.finish.rank_few)
-
-pub slice_bounds-search_from-end : goal.slice_bounds-search_from-end
-slice_bounds-search_from-end c = sym (length-take-le _ _ (omega (arith, c.direction-direction.ensures.most_rank_value, c.args.finish.rank_few)))
-
 pub slice_bounds-signs-end : goal.slice_bounds-signs-end
 slice_bounds-signs-end c = omega (arith, c.signs-signs.ensures.most_signs_value, (table_accepted c.args.finish.judged).signs)
 
@@ -32,6 +26,3 @@ search_from-requires c = (
   length-take-le _ _ (omega (arith, c.signs-signs.ensures.most_signs_value, (table_accepted c.args.finish.judged).signs)) ∙ add-one _,
   length-take-le _ _ (omega (arith, c.signs-best.ensures.most_signs_value, (table_accepted c.args.finish.judged).signs)) ∙ add-one _,
 )
-
-pub returns : goal.returns
-returns c = c.search_from.ensures

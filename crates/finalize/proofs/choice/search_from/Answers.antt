@@ -27,12 +27,6 @@ search_signs-found-requires c =
       sound (table_accepted f.judged) (rounded-long),
     )
 
-pub qubo_binary_from_sign_solution-requires : goal.qubo_binary_from_sign_solution-requires
-qubo_binary_from_sign_solution-requires c =
-    let rounded-long : length c.compute_rounded_sol-rounded_cost.new.best ≡ suc c.args.finish.n =
-    c.compute_rounded_sol-rounded_cost.auto.best ∙ c.requires.4 in
-    (omega (arith, c.search_signs-found.auto.kept, rounded-long), c.requires.0)
-
 pub returns : goal.returns
 returns c = let f = c.args.finish in
     chooses (listed f.table) f.n f.rank f.width f.draws.count f.draws.numbers.now f.factor.now c.args.b.now _ _ _ _ c.search_signs-found.result.least _ _

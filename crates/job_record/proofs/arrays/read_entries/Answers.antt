@@ -5,7 +5,7 @@ use lib.ListN.{length-set}
 use mir.Syntax.{w64}
 use mir.ValLaws.{to_z-of_z}
 use Rattle.job_reader.specs.Bytes.{big_endian, signed_at}
-use Rattle.laws.proofs.MapFirst.{fill_none, fill_more, fill_all}
+use Rattle.laws.proofs.MapFirst.{fill_none, fill_more}
 use Rattle.job_record.proofs.arrays.read_entries.Goals as goal
 
 pub loop-i-init : goal.loop-i-init
@@ -21,6 +21,3 @@ loop-i-preserved c = let inv = c.loop-i.invariant in let job = c.args.job.now in
   simp length-set inv.5,
   simp length-set inv.6,
 )
-
-pub returns : goal.returns
-returns c = let inv = c.loop-i.invariant in record { rows_after = fill_all _ _ _ _ inv.1 inv.0 c.loop-i-test.false; cols_after = fill_all _ _ _ _ inv.2 inv.0 c.loop-i-test.false; values_after = fill_all _ _ _ _ inv.3 inv.0 c.loop-i-test.false }

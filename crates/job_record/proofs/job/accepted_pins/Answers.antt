@@ -7,6 +7,3 @@ invariant_of-head c = let f = fields c.args.job.bytes.now c.args.job.accepted in
 
 pub behind_pins-requires : goal.behind_pins-requires
 behind_pins-requires c = (passed c.args.job.bytes.now c.args.job.accepted).pins
-
-pub returns : goal.returns
-returns c = c.behind_pins.ensures

@@ -4,15 +4,6 @@ use Rattle.job_record.specs.Values.{job_by}
 use Rattle.job_record.proofs.Accepted.{fields, settings_held, drawn_held}
 use Rattle.job_record.proofs.job.job_of.Goals as goal
 
-pub accepted_settings-f-requires : goal.accepted_settings-f-requires
-accepted_settings-f-requires c = (c.args.job.accepted, c.accepted_pins-b.ensures.2)
-
-pub overflow_cast-result : goal.overflow_cast-result
-overflow_cast-result c = omega (arith, c.accepted_settings-f.ensures.1)
-
-pub overflow_cast-result-2 : goal.overflow_cast-result-2
-overflow_cast-result-2 c = omega (arith, c.accepted_settings-f.ensures.2)
-
 pub of-requires : goal.of-requires
 of-requires c = let s = c.args.job.bytes.now in let t = settings_held s c.args.job.accepted _ c.accepted_settings-f.ensures.0 in omega (arith, t.rule, (fields s c.args.job.accepted).settings.rule)
 

@@ -4,9 +4,6 @@ use Rattle.job_record.specs.Values.{job_rank, job_start_count}
 use Rattle.job_record.proofs.Accepted.{fields, free_few, settings_held}
 use Rattle.job_record.proofs.job.parts_of.Goals as goal
 
-pub accepted_settings-f-requires : goal.accepted_settings-f-requires
-accepted_settings-f-requires c = (c.args.job.accepted, c.accepted_pins-b.ensures.2)
-
 pub overflow_add-b : goal.overflow_add-b
 overflow_add-b c = omega (arith, c.accepted_pins-b.ensures.1, free_few c.args.job.bytes.now c.args.job.accepted)
 
@@ -19,14 +16,8 @@ overflow_cast-f c = let s = c.args.job.bytes.now in let t = settings_held s c.ar
 pub overflow_add-b-2 : goal.overflow_add-b-2
 overflow_add-b-2 c = omega (arith, c.accepted_pins-b.ensures.1, free_few c.args.job.bytes.now c.args.job.accepted)
 
-pub overflow_cast-f-2 : goal.overflow_cast-f-2
-overflow_cast-f-2 c = omega (arith, c.accepted_settings-f.ensures.1)
-
 pub start_length-count-requires : goal.start_length-count-requires
 start_length-count-requires c = (omega (arith, c.accepted_pins-b.ensures.1, free_few c.args.job.bytes.now c.args.job.accepted), c.rank_meant-rank.ensures.1)
-
-pub overflow_mul-result : goal.overflow_mul-result
-overflow_mul-result c = omega (arith, c.start_length-count.ensures.1)
 
 pub overflow_add-result : goal.overflow_add-result
 overflow_add-result c = let s = c.args.job.bytes.now in let f = fields s c.args.job.accepted in let t = settings_held s c.args.job.accepted _ c.accepted_settings-f.ensures.0 in omega (arith, t.next, f.settings.there, f.small, c.start_length-count.ensures.1)

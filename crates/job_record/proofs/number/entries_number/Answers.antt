@@ -2,12 +2,6 @@ use native.Mathlib.Omega.{arith}
 use Rattle.job_record.proofs.Entries.{refused_14, refused_11, refused_15, accepted, placed}
 use Rattle.job_record.proofs.number.entries_number.Goals as goal
 
-pub read_entries-requires : goal.read_entries-requires
-read_entries-requires c = omega (arith, c.whole_entries-whole.ensures, c.requires)
-
-pub bad_order-requires : goal.bad_order-requires
-bad_order-requires c = omega (arith, c.whole_entries-whole.ensures, c.requires, c.args.head.there.n, c.args.head.few)
-
 pub returns-then-bad_order : goal.returns-then-bad_order
 returns-then-bad_order c = let a = c.args in let s = a.head.bytes.now in let n = a.head.values.n in let count = a.head.values.count in let w = c.whole_entries-whole in
     refused_14 s n count w.result w.ensures.0 w.ensures.1 w.ensures.2 a.rows.now a.cols.now a.values.now c.read_entries.ensures.rows_after c.read_entries.ensures.cols_after c.read_entries.ensures.values_after (omega (arith, w.ensures.0, c.requires)) (omega (arith, w.ensures.0, c.requires)) (omega (arith, w.ensures.0, c.requires)) c.bad_order.ensures c.if-bad_order.true
@@ -15,9 +9,6 @@ returns-then-bad_order c = let a = c.args in let s = a.head.bytes.now in let n =
 pub returns-then-whole-count : goal.returns-then-whole-count
 returns-then-whole-count c = let a = c.args in let s = a.head.bytes.now in let n = a.head.values.n in let count = a.head.values.count in let w = c.whole_entries-whole in
     refused_11 s n count w.result w.ensures.0 w.ensures.1 w.ensures.2 a.rows.now a.cols.now a.values.now c.read_entries.ensures.rows_after c.read_entries.ensures.cols_after c.read_entries.ensures.values_after (omega (arith, w.ensures.0, c.requires)) (omega (arith, w.ensures.0, c.requires)) (omega (arith, w.ensures.0, c.requires)) c.bad_order.ensures c.if-bad_order.false c.if-whole-count.true
-
-pub invariant_of-table : goal.invariant_of-table
-invariant_of-table c = record { lent = record { rows_there = omega (arith, c.requires); cols_there = omega (arith, c.requires); values_there = omega (arith, c.requires) } }
 
 pub unmirrored-requires : goal.unmirrored-requires
 unmirrored-requires c = let a = c.args in let s = a.head.bytes.now in let n = a.head.values.n in let count = a.head.values.count in let w = c.whole_entries-whole in placed s n count w.result w.ensures.0 w.ensures.1 w.ensures.2 a.rows.now a.cols.now a.values.now c.read_entries.ensures.rows_after c.read_entries.ensures.cols_after c.read_entries.ensures.values_after (omega (arith, w.ensures.0, c.requires)) (omega (arith, w.ensures.0, c.requires)) (omega (arith, w.ensures.0, c.requires)) c.bad_order.ensures c.if-bad_order.false c.if-whole-count.false (omega (arith, a.head.there.n, a.head.few))

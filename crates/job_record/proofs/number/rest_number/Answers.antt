@@ -13,9 +13,6 @@ use Rattle.job_record.proofs.number.rest_number.Goals as goal
 pub returns-in_err-version_pins : goal.returns-in_err-version_pins
 returns-in_err-version_pins c = let p = passed c.from_residual.ensures.1 in stop _ _ (handed p c.in_err-version_pins.ensures) (refused p)
 
-pub behind_pins-b-requires : goal.behind_pins-b-requires
-behind_pins-b-requires c = sym c.in_ok-version_pins.ensures
-
 pub run_number-requires : goal.run_number-requires
 run_number-requires c = let p = pins_passed c.args.head.bytes.now (sym c.in_ok-version_pins.ensures) in
     (omega (arith, c.behind_pins-b.ensures.1, p.few, c.args.head.few), omega (arith, c.behind_pins-b.ensures.2, p.few, p.reach, c.args.head.few, c.args.head.short))

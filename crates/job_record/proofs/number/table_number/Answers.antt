@@ -5,10 +5,6 @@ use Rattle.refusal.proofs.Passed.{passed}
 use Rattle.job_record.proofs.Handed.{handed, refused}
 use Rattle.job_record.proofs.number.table_number.Goals as goal
 
-pub entries_number-requires : goal.entries_number-requires
-entries_number-requires c = let h = c.args.head.there in let room = c.requires.1 in
-    (c.requires.0, omega (arith, h.count, c.args.head.short, room.rows_room), omega (arith, h.count, c.args.head.short, room.cols_room), omega (arith, h.count, c.args.head.short, room.values_room))
-
 pub returns-in_err-entries_number : goal.returns-in_err-entries_number
 returns-in_err-entries_number c = let p = passed c.from_residual.ensures.1 in (table_refused c.args.head.bytes.now c.args.head.there.n c.args.head.there.count (handed p c.in_err-entries_number.ensures.0) (refused p), λ z. absurd (refused p z))
 

@@ -4,9 +4,6 @@ use native.Mathlib.Omega.{arith}
 use Rattle.job_record.proofs.Accepted.{pins_passed, unpinned, settings_are, read_count, costs_place, version_pinned, free_is}
 use Rattle.job_record.proofs.pins.behind_pins.Goals as goal
 
-pub costs_end-at-requires : goal.costs_end-at-requires
-costs_end-at-requires c = omega (arith, c.args.head.there.n, c.args.head.there.count, c.args.head.few, c.args.head.short)
-
 pub returns-then-not-carries_pins : goal.returns-then-not-carries_pins
 returns-then-not-carries_pins c = let s = c.args.head.bytes.now in let h = c.args.head.there in let u = unpinned s (version_pinned s h c.carries_pins.ensures (ap not c.if-not-carries_pins.true)) in
     (u.0, h.n ∙ u.1, costs_place s h c.costs_end-at.ensures ∙ u.2)
@@ -18,9 +15,6 @@ overflow_sub-result c = let s = c.args.head.bytes.now in let h = c.args.head.the
 pub overflow_mul-result : goal.overflow_mul-result
 overflow_mul-result c = let s = c.args.head.bytes.now in let h = c.args.head.there in let t = version_pinned s h c.carries_pins.ensures (ap not c.if-not-carries_pins.false) in
     record { fits = omega (arith, c.unwrap_or-pins.ensures, read_count s c.requires t (costs_place s h c.costs_end-at.ensures) c.field_at.ensures, (pins_passed s c.requires).few, c.args.head.few) }
-
-pub overflow_add-result : goal.overflow_add-result
-overflow_add-result c = omega (arith, costs_place c.args.head.bytes.now c.args.head.there c.costs_end-at.ensures, c.args.head.few, c.args.head.short)
 
 pub overflow_add-result-2 : goal.overflow_add-result-2
 overflow_add-result-2 c = let s = c.args.head.bytes.now in let h = c.args.head.there in let t = version_pinned s h c.carries_pins.ensures (ap not c.if-not-carries_pins.false) in

@@ -1,10 +1,8 @@
 use borrow.Author.Rules.{rules}
-use mathlib.Core.Path.{◌≡◌, refl, ap, ◌∙◌}
+use mathlib.Core.Path.{refl, ap, ◌∙◌}
 use native.Mathlib.Omega.{arith}
 use lib.ListN.{length}
 use Rattle.laws.specs.Refusal.{first_of}
-use Rattle.laws.proofs.Refusal.{ended}
-use Rattle.job_record.specs.Number.{pin_number}
 use Rattle.job_record.proofs.Pinning.{length_states, states_begin, turn_refused, turn_pin, turn_wagon, turn_store, turn_next, turn_passed, turn_states}
 use Rattle.refusal.proofs.Passed.{passed}
 use Rattle.job_record.proofs.Handed.{handed, refused}
@@ -13,9 +11,6 @@ use Rattle.job_record.proofs.pins.each_pin.Goals as goal
 pub loop-k-init : goal.loop-k-init
 unfolding first_of
 loop-k-init c = (omega arith, refl, c.requires ∙ states_begin _ _ _, omega arith, refl)
-
-pub judged_pin-requires : goal.judged_pin-requires
-judged_pin-requires c = omega (arith, ap length c.loop-k.invariant.2, length_states c.args.job.now c.args.n c.args.at c.loop-k.k)
 
 pub returns-in_err-judged_pin : goal.returns-in_err-judged_pin
 returns-in_err-judged_pin c = let p = passed c.from_residual.ensures.1 in
@@ -29,6 +24,3 @@ put_pin-requires c = let p = turn_pin _ _ _ _ c.loop-k.invariant.1 c.loop-k.inva
 
 pub loop-k-preserved : goal.loop-k-preserved
 loop-k-preserved c = (omega arith, turn_passed _ _ _ _ c.loop-k.invariant.1 c.loop-k.invariant.2 c.loop-k.invariant.3 c.read_pin-pin.ensures c.in_ok-judged_pin.ensures refl, turn_states _ _ _ _ c.loop-k.invariant.1 c.loop-k.invariant.2 c.loop-k.invariant.3 c.read_pin-pin.ensures c.in_ok-judged_pin.ensures refl c.put_pin.ensures, turn_next _ _ _ _ c.loop-k.invariant.1 c.loop-k.invariant.2 c.loop-k.invariant.3 c.read_pin-pin.ensures c.in_ok-judged_pin.ensures refl, search rules)
-
-pub returns : goal.returns
-returns c = (ended (pin_number c.args.job.now c.args.n c.args.at) _ _ c.loop-k.invariant.1 c.loop-k.invariant.0 c.loop-k-test.false, λ z. let e : c.loop-k.k ≡ c.args.count = omega arith in rw e at c.loop-k.invariant.2)

@@ -13,9 +13,6 @@ use Rattle.job_record.proofs.pins.version_pins.Goals as goal
 pub returns-then-not-carries_pins : goal.returns-then-not-carries_pins
 returns-then-not-carries_pins c = version_none c.args.head.bytes.now (version_pinned c.args.head.bytes.now c.args.head.there c.carries_pins.ensures (ap not c.if-not-carries_pins.true))
 
-pub costs_end-requires : goal.costs_end-requires
-costs_end-requires c = omega (arith, c.args.head.there.n, c.args.head.there.count, c.args.head.few, c.args.head.short)
-
 pub pins_number-requires : goal.pins_number-requires
 pins_number-requires c = take-replicate c.args.head.values.n most_wagons free_state (omega (arith, c.args.head.there.n, c.args.head.few))
 

@@ -2,7 +2,6 @@ use Prim.Native.Nat.{ℕ, ◌+◌, ◌*◌, ◌<◌, ◌≤◌}
 use mathlib.Core.Path.{◌≡◌, refl, sym, ap, ◌∙◌}
 use mathlib.Core.List.{List, [], ◌∷◌}
 use mathlib.Core.Logic.{◌⊎◌, inl, inr}
-use native.Mathlib.Nat.{mul-le-mul}
 use native.Mathlib.Omega.{arith}
 use borrow.Author.Tests.{lt-ltb, le-ltb, eq-eqb, ne_eqb}
 use lib.ListN.{length}
@@ -10,7 +9,7 @@ use lib.Dec.{ltb}
 use Rattle.laws.specs.Refusal.{◌if◌, first}
 use Rattle.laws.proofs.Made.{below_or_not}
 use Rattle.laws.proofs.Following.{answers, moves_on, answers_if, moves_on_if, passes_last}
-use Rattle.limits.specs.Limits.{most_rank, most_draws}
+use Rattle.limits.specs.Limits.{most_draws}
 use Rattle.std.specs.Prelude.{Option, Some}
 use Rattle.job_reader.specs.Bytes.{big_endian, field_at, value_of}
 use Rattle.job_record.specs.Reading.{field_number}
@@ -72,15 +71,6 @@ returns-in_err-limit_number c = let p = passed c.from_residual.ensures.1 in
 
 pub returns-then-count-eq0 : goal.returns-then-count-eq0
 returns-then-count-eq0 c = let k = counted c.args.job.now c.args.at c.field_at-drawn.ensures c.in_ok-limit_number.ensures c.unwrap_or-count.ensures in none c.args.job.now c.args.at c.args.rank k c.if-job-at.false c.if-count-eq0.true
-
-pub overflow_mul-end : goal.overflow_mul-end
-overflow_mul-end c = let k = counted c.args.job.now c.args.at c.field_at-drawn.ensures c.in_ok-limit_number.ensures c.unwrap_or-count.ensures in omega (arith, mul-le-mul {n₁ = c.unwrap_or-count.result} {m₁ = c.args.rank} {n₂ = most_draws} {m₂ = most_rank} k.low (omega arith))
-
-pub overflow_mul-end-2 : goal.overflow_mul-end-2
-overflow_mul-end-2 c = let k = counted c.args.job.now c.args.at c.field_at-drawn.ensures c.in_ok-limit_number.ensures c.unwrap_or-count.ensures in omega (arith, mul-le-mul {n₁ = c.unwrap_or-count.result} {m₁ = c.args.rank} {n₂ = most_draws} {m₂ = most_rank} k.low (omega arith))
-
-pub overflow_add-end : goal.overflow_add-end
-overflow_add-end c = let k = counted c.args.job.now c.args.at c.field_at-drawn.ensures c.in_ok-limit_number.ensures c.unwrap_or-count.ensures in omega (arith, mul-le-mul {n₁ = c.unwrap_or-count.result} {m₁ = c.args.rank} {n₂ = most_draws} {m₂ = most_rank} k.low (omega arith))
 
 pub returns-then-job-end : goal.returns-then-job-end
 returns-then-job-end c = let k = counted c.args.job.now c.args.at c.field_at-drawn.ensures c.in_ok-limit_number.ensures c.unwrap_or-count.ensures in not_whole c.args.job.now c.args.at c.args.rank k c.if-job-at.false c.if-count-eq0.false c.if-job-end.true

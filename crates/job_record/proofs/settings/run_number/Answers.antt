@@ -24,12 +24,6 @@ overflow_cast-v c = let h = settings c.args.job.now c.args.at (sym (settings_num
 pub overflow_cast-v-2 : goal.overflow_cast-v-2
 overflow_cast-v-2 c = let h = settings c.args.job.now c.args.at (sym (settings_number_is c.args.job.now c.args.at c.read_settings-f.ensures c.in_ok-settings_number.ensures)) in let t = settings_values_are c.args.job.now c.args.at c.read_settings-f.ensures c.settings_values-v.ensures h.there in omega (arith, t.most, number_below c.args.job.now (c.args.at + 10) 4 (λ i. omega (arith, c.type_inv.job i)))
 
-pub start_length-count-requires : goal.start_length-count-requires
-start_length-count-requires c = omega (arith, c.rank_meant-rank.ensures)
-
-pub overflow_mul-count : goal.overflow_mul-count
-overflow_mul-count c = omega (arith, c.start_length-count.ensures)
-
 pub overflow_add-v : goal.overflow_add-v
 overflow_add-v c = let h = settings c.args.job.now c.args.at (sym (settings_number_is c.args.job.now c.args.at c.read_settings-f.ensures c.in_ok-settings_number.ensures)) in let t = settings_values_are c.args.job.now c.args.at c.read_settings-f.ensures c.settings_values-v.ensures h.there in omega (arith, t.next, c.start_length-count.ensures)
 

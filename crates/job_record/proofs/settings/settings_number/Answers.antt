@@ -1,19 +1,18 @@
 use Prim.Native.Nat.{ℕ}
 use mathlib.Core.Path.{◌≡◌, refl, sym, ap, ◌∙◌}
-use mathlib.Core.Bool.{Bool, true, ◌||◌, not}
+use mathlib.Core.Bool.{Bool, true, ◌||◌, not, not-not}
 use Rattle.std.specs.Prelude.{Option, is_some}
 use Rattle.job_record.specs.Reading.{is_short}
 use Rattle.laws.proofs.Refusal.{stop, pass}
 use Rattle.laws.proofs.Following.{answers_if, moves_on_if}
 use Rattle.refusal.proofs.Passed.{passed}
 use Rattle.job_record.proofs.FieldByField.{settings_parts}
-use Rattle.job_record.proofs.Accepted.{twice_not}
 use Rattle.job_record.proofs.Handed.{handed, refused}
 use Rattle.job_record.proofs.settings.settings_number.Goals.{then-is_none-via-then-is_none, then-is_none-via-else-is_none+then-is_none-2, then-is_none-via-else-is_none+else-is_none-2+then-is_none-3, then-is_none-via-else-is_none+else-is_none-2+else-is_none-3+then-is_none-4}
 use Rattle.job_record.proofs.settings.settings_number.Goals as goal
 
 short_is : (f : Option ℕ) {b : Bool} → is_some f ≡ not b → is_short f ≡ b
-short_is f {b} e = ap not e ∙ twice_not b
+short_is f {b} e = ap not e ∙ not-not b
 
 pub returns-in_err-rule_number : goal.returns-in_err-rule_number
 returns-in_err-rule_number c = let p = passed c.from_residual.ensures.1 in stop _ _ (handed p c.in_err-rule_number.ensures) (refused p) ∙ sym (settings_parts c.args.f)

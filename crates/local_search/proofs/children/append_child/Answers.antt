@@ -3,7 +3,7 @@ use native.Mathlib.Nat.{mul-le-mul_right}
 use native.Mathlib.Omega.{arith}
 use borrow.Author.Rules.{sfits_of}
 use mathlib.Core.Bool.{true, false≢true}
-use mathlib.Core.Path.{◌≡◌, refl, sym, ap, ap₂, ◌∙◌}
+use mathlib.Core.Path.{◌≡◌, sym, ap, ap₂, ◌∙◌}
 use lib.IntN.{ℤ, pos, ◌+ℤ◌}
 use lib.ListN.{length, get_or}
 use mir.Facts.{to_z-of_z}
@@ -13,20 +13,9 @@ use Rattle.laws.proofs.Integer.{held}
 use Rattle.local_search.specs.SignSearch.{improves_c}
 use Rattle.local_search.specs.Children.{change_of, flip_w, parent_choice}
 use Rattle.local_search.specs.Level.{word_child, level_of}
-use Rattle.local_search.proofs.ExpandLaws.{child_appended, child_skipped}
+use Rattle.local_search.proofs.ExpandLaws.{child_appended}
 use Rattle.local_search.proofs.LevelLaws.{words_length, level_appended}
 use Rattle.local_search.proofs.children.append_child.Goals as goal
-
-pub overflow_add-start : goal.overflow_add-start
-overflow_add-start c =
-    let changed : let a = c.args in to_z w64 (of_z w64 (get_or a.start.changes.now a.i (pos 0))) ≡ get_or a.start.changes.now a.i (pos 0) =
-    to_z-of_z {w = w64} (sfits_of c.change-1.given) in
-    rw (held c.args.start.objective c.struct_told-1.given.0.1, changed) (c.requires.0.safe c.args.i (omega arith))
-
-pub insert_row-requires : goal.insert_row-requires
-insert_row-requires c = let m = length c.args.start.row.now in
-    let h : suc c.args.count ≤ suc c.args.i = omega arith in
-    (omega arith, omega (arith, mul-le-mul_right m h, c.requires.0.signs_room), omega (arith, c.requires.0.signs_held))
 
 pub returns-then-change-lt0 : goal.returns-then-change-lt0
 unfolding flip_w word_child
@@ -48,14 +37,4 @@ returns-then-change-lt0 c =
           (omega (arith, c.requires.0.objectives_room)) (omega (arith, mul-le-mul_right m h, c.requires.0.signs_room)))
           c.requires.1;
       stays_out = λ q. absurd (false≢true (sym q ∙ exists));
-    }
-
-pub returns : goal.returns
-returns c =
-    let changed : let a = c.args in to_z w64 (of_z w64 (get_or a.start.changes.now a.i (pos 0))) ≡ get_or a.start.changes.now a.i (pos 0) =
-    to_z-of_z {w = w64} (sfits_of c.change-1.given) in
-    let change = change_of c.args.start.changes.now in record {
-      appended = child_skipped _ _ c.args.count c.args.i c.args.start.changes.now (improves_c change) (parent_choice c.args.start)
-          (rw (changed) at c.if-change-lt0.false) refl c.requires.1;
-      stays_out = λ q. record { objectives_stay = refl; signs_stay = refl; count_stays = refl };
     }

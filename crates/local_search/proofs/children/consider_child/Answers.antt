@@ -14,12 +14,6 @@ use Rattle.local_search.proofs.ExpandLaws.{child_kept, no_child}
 use Rattle.local_search.proofs.EntersMeans.{room_missed}
 use Rattle.local_search.proofs.children.consider_child.Goals as goal
 
-pub overflow_add-parent : goal.overflow_add-parent
-overflow_add-parent c =
-    let changed : let a = c.args in to_z w64 (of_z w64 (get_or a.parent.changes.now a.i (pos 0))) ≡ get_or a.parent.changes.now a.i (pos 0) =
-    to_z-of_z {w = w64} (sfits_of c.d-1.given) in
-    rw (held c.args.parent.objective c.struct_told-1.given.0.1, changed) (c.requires.0.safe c.args.i (omega arith))
-
 pub returns-then-d-lt0 : goal.returns-then-d-lt0
 returns-then-d-lt0 c =
     let changed : let a = c.args in to_z w64 (of_z w64 (get_or a.parent.changes.now a.i (pos 0))) ≡ get_or a.parent.changes.now a.i (pos 0) =

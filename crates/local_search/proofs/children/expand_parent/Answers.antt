@@ -22,11 +22,6 @@ loop-i-init c = let a = c.args in (
   children_none a.width (level_of (length a.parent.row.now) a.count a.objectives.now a.signs.now) a.parent.changes.now (improves_c (change_of a.parent.changes.now)) (parent_choice a.parent) a.count c.requires.0.used,
 )
 
-pub next_child-requires : goal.next_child-requires
-next_child-requires c = let l = c.loop-i in
-    let p = c.requires.0 in
-    (l.invariant.0, p.changes_many, p.safe, p.some, omega (arith, l.auto.objectives, l.invariant.1.room, p.objectives_room))
-
 pub consider_child-kept-requires : goal.consider_child-kept-requires
 consider_child-kept-requires c = let l = c.loop-i in
     let p = c.requires.0 in

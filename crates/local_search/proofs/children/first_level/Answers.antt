@@ -1,7 +1,4 @@
-use Prim.Native.Nat.{suc, ◌≤◌}
-use native.Mathlib.Nat.{mul-le-mul_right}
 use native.Mathlib.Omega.{arith}
-use mathlib.Core.Path.{◌≡◌}
 use lib.ListN.{length}
 use Rattle.local_search.specs.Level.{level_of}
 use Rattle.local_search.specs.SignSearch.{improves_c}
@@ -14,26 +11,9 @@ pub loop-i-init : goal.loop-i-init
 loop-i-init c = let a = c.args in
     (omega arith, append_none a.start.changes.now (improves_c (change_of a.start.changes.now)) (parent_choice a.start) (level_of (length a.start.row.now) 0 a.objectives.now a.signs.now) (level_empty _ _ _))
 
-pub append_child-count-requires : goal.append_child-count-requires
-append_child-count-requires c = let l = c.loop-i in (
-  record {
-    objectives_room = omega (arith, l.auto.objectives, c.requires.objectives_room);
-    signs_room = (let h : suc l.i ≤ c.args.m = omega arith in omega (arith, l.auto.signs, c.requires.signs_room, mul-le-mul_right (length c.args.start.row.now) h));
-    signs_held = omega (arith, c.requires.signs_held);
-    changes_many = omega (arith, c.requires.changes_many);
-    safe = λ j h. c.requires.safe j (omega arith);
-  },
-  l.invariant.1.room,
-)
-
 pub loop-i-preserved : goal.loop-i-preserved
 loop-i-preserved c = let l = c.loop-i in (
   omega arith,
   append_one_more c.args.start.changes.now (improves_c (change_of c.args.start.changes.now)) (parent_choice c.args.start)
       l.i _ _ l.count c.append_child-count.result l.invariant.1 c.append_child-count.ensures.appended,
 )
-
-pub returns : goal.returns
-returns c = let l = c.loop-i in
-    let all : l.i ≡ c.args.m = omega arith in
-    rw all at l.invariant.1

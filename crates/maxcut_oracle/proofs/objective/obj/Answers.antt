@@ -25,24 +25,10 @@ pub loop-e-init : goal.loop-e-init
 unfolding up_to of_bits
 loop-e-init c = search rules
 
-pub add_four-trace-requires : goal.add_four-trace-requires
-add_four-trace-requires c =
-    record {
-      rows_len = (c.requires.rows_len.0, c.requires.rows_len.1, c.four_above.ensures c.if-four_above.true);
-      columns_within = c.requires.columns_within;
-      columns_within_2 = c.requires.columns_within_2;
-    }
-
-pub overflow_add-e : goal.overflow_add-e
-overflow_add-e c = record { fits = omega (arith, (c.four_above.ensures c.if-four_above.true).within) }
-
 pub loop-e-preserved-then-four_above : goal.loop-e-preserved-then-four_above
 unfolding obj_four
 loop-e-preserved-then-four_above c = let a = c.four_above.ensures c.if-four_above.true in
     (omega (arith, a.within), c.add_four-trace.ensures ∙ four-turns _ _ _ _ c.loop-e.invariant.1)
-
-pub add_entry-trace-requires : goal.add_entry-trace-requires
-add_entry-trace-requires c = (rw c.index_at.ensures (c.requires.columns_within _ (omega arith)), rw c.index_at-in-loop-e.ensures (c.requires.columns_within_2 _ (omega arith)))
 
 pub loop-e-preserved : goal.loop-e-preserved
 loop-e-preserved c = (omega arith, rw (c.index_at.ensures, c.index_at-in-loop-e.ensures) at c.add_entry-trace.ensures ∙ up_to_next _ _ _ _ c.loop-e.invariant.1)

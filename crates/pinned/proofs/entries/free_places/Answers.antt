@@ -1,7 +1,7 @@
 use borrow.Author.Rules.{rules}
 use Rattle.pinned.proofs.Walk.{place_so, place_next}
 use Rattle.pinned.proofs.Steps.{free_zero, free_before}
-use Rattle.laws.proofs.MapFirst.{fill_none, fill_more, fill_all}
+use Rattle.laws.proofs.MapFirst.{fill_none, fill_more}
 use native.Mathlib.Omega.{arith}
 use Rattle.pinned.proofs.entries.free_places.Goals as goal
 
@@ -16,6 +16,3 @@ after-at-requires c = free_before c.args.states.now c.loop-i.invariant.1 (omega 
 
 pub loop-i-preserved : goal.loop-i-preserved
 loop-i-preserved c = (omega arith, place_next _ _ _ (omega (arith, c.requires.0, c.loop-i-test.true)) c.loop-i.invariant.1 (place_so _ _ _ c.loop-i.invariant.1 c.place_of-place.ensures) c.after-at.ensures, fill_more _ _ _ c.loop-i.invariant.2 (place_so _ _ _ c.loop-i.invariant.1 c.place_of-place.ensures))
-
-pub returns : goal.returns
-returns c = fill_all _ _ _ _ c.loop-i.invariant.2 c.loop-i.invariant.0 c.loop-i-test.false

@@ -2,7 +2,6 @@ use Rattle.pinned.proofs.Steps.{sums_none, row_fits, sums_next}
 use Rattle.limits.specs.Limits.{most_wagons}
 use Rattle.tables.specs.Entries.{listed}
 use native.Mathlib.Omega.{arith}
-use mathlib.Core.Path.{◌≡◌}
 use Rattle.laws.proofs.Integer.{held}
 use Rattle.laws.specs.Lists.{elem_z}
 use mir.Facts.{to_z-of_z}
@@ -16,6 +15,3 @@ overflow_add-sums c = rw (held (elem_z c.loop-l.sums c.from-i.result) c.sums-1.g
 
 pub loop-l-preserved : goal.loop-l-preserved
 loop-l-preserved c = (omega arith, rw (held (elem_z c.loop-l.sums c.from-i.result) c.sums-1.given, held c.entry_term.result c.entry_term.type_inv, c.entry_term.ensures, c.from-i.ensures, to_z-of_z (row_fits (listed c.args.table) c.args.held.now c.loop-l.l c.loop-l.invariant.1 (c.requires.0.rows_in c.loop-l.l c.loop-l-test.true) c.loop-l-test.true c.requires.1)) (sums_next (listed c.args.table) c.args.held.now c.loop-l.l c.loop-l.invariant.1 (c.requires.0.rows_in c.loop-l.l c.loop-l-test.true)))
-
-pub returns : goal.returns
-returns c = let e : c.loop-l.l ≡ c.args.table.count = omega arith in rw (← e) c.loop-l.invariant.1

@@ -1,4 +1,4 @@
-use Rattle.laws.proofs.MapFirst.{fill_none, fill_more, fill_all}
+use Rattle.laws.proofs.MapFirst.{fill_none, fill_more}
 use native.Mathlib.Omega.{arith}
 use Rattle.pinned.proofs.reduce.held_choice.Goals as goal
 
@@ -7,6 +7,3 @@ loop-i-init c = (omega arith, fill_none _ _)
 
 pub loop-i-preserved : goal.loop-i-preserved
 loop-i-preserved c = (omega arith, fill_more _ _ _ c.loop-i.invariant.1 c.held_byte.ensures)
-
-pub returns : goal.returns
-returns c = fill_all _ _ _ _ c.loop-i.invariant.1 c.loop-i.invariant.0 c.loop-i-test.false

@@ -5,20 +5,6 @@ use mir.Facts.{to_z-of_z}
 use mathlib.Core.Path.{◌∙◌}
 use Rattle.pinned.proofs.reduce.held_term.Goals as goal
 
-pub overflow_mul-sums : goal.overflow_mul-sums
-overflow_mul-sums c = let q = elem_z c.args.sums.now c.args.i in
-    rw (held q c.chosen_once-arg-1.given) (own_fits q (elem_z c.args.c.now c.args.i) c.requires.2).sums_fit
-
-pub overflow_mul-c : goal.overflow_mul-c
-overflow_mul-c c = let l = elem_z c.args.c.now c.args.i in
-    rw (held l c.chosen_once-arg-2-1.given) (own_fits (elem_z c.args.sums.now c.args.i) l c.requires.2).cost_fits
-
-pub overflow_add-sums : goal.overflow_add-sums
-overflow_add-sums c = let q = elem_z c.args.sums.now c.args.i in
-    let l = elem_z c.args.c.now c.args.i in
-    let f = own_fits q l c.requires.2 in
-    rw (held q c.chosen_once-arg-1.given, held l c.chosen_once-arg-2-1.given, to_z-of_z f.sums_fit, to_z-of_z f.cost_fits) f.both_fit
-
 pub returns : goal.returns
 returns c = let q = elem_z c.args.sums.now c.args.i in
     let l = elem_z c.args.c.now c.args.i in

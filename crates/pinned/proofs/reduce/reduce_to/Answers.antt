@@ -11,9 +11,6 @@ use Rattle.pinned.proofs.reduce.reduce_to.Goals as goal
 pub held_choice-held-requires : goal.held_choice-held-requires
 held_choice-held-requires c = ((hall_accepted c.args.hall.judged).wagons, c.requires.0)
 
-pub invariant_of-turned : goal.invariant_of-turned
-invariant_of-turned c = record { lent = record { rows_there = c.args.hall.table.lent.cols_there; cols_there = c.args.hall.table.lent.rows_there; values_there = c.args.hall.table.lent.values_there } }
-
 pub beside_sums-sums-requires : goal.beside_sums-sums-requires
 beside_sums-sums-requires c = (wider most_wagons (turned_range (hall_accepted c.args.hall.judged).in_range) (hall_accepted c.args.hall.judged).wagons, omega (arith, (hall_accepted c.args.hall.judged).magnitude))
 

@@ -1,8 +1,7 @@
 -- `ranged_finish::finish::finish_ranged_accepted` meets its contract: the finish on the high table, then the figures. Assumes nothing.
 use Prim.Native.Nat.{◌≤◌, ◌^◌}
-use mathlib.Core.Path.{sym, subst, ◌∙◌}
+use mathlib.Core.Path.{sym, subst}
 use native.Mathlib.Omega.{arith}
-use Rattle.laws.proofs.Integer.{held}
 use Rattle.laws.specs.Lists.{elem_z}
 use Rattle.tables.specs.Table.{Table}
 use Rattle.tables.specs.Check.{hall_magnitude}
@@ -32,22 +31,3 @@ eval_qubo_objective-most-requires c =
 
 pub invariant_of-low_hall : goal.invariant_of-low_hall
 invariant_of-low_hall c = let u = ranged_finishable _ _ _ _ _ c.requires in record { costs_there = u.low.costs; judged = rw c.entries-low_table.ensures (hall_passes u.low.hall) }
-
-pub shape_of-b : goal.shape_of-b
-shape_of-b c = c.finish_accepted-result.auto.b
-
-pub shape_of-dual_variables : goal.shape_of-dual_variables
-shape_of-dual_variables c = c.finish_accepted-result.auto.dual_variables
-
-pub shape_of-workspace : goal.shape_of-workspace
-shape_of-workspace c = c.finish_accepted-result.auto.workspace
-
-pub returns : goal.returns
-returns c = record {
-  finished = rw (← c.high_hall.ensures) c.finish_accepted-result.ensures;
-  figures = record {
-    low_is = held _ c.eval_qubo_objective-least.type_inv ∙ (rw c.entries-low_table.ensures at c.eval_qubo_objective-least.ensures);
-    high_is = held _ c.eval_qubo_objective-most.type_inv ∙ (rw c.entries-high_table.ensures at c.eval_qubo_objective-most.ensures);
-    floor_is = held _ c.floor_of-floor.type_inv ∙ (rw c.entries-low_table.ensures at c.floor_of-floor.ensures);
-  };
-}

@@ -1,6 +1,5 @@
 -- `ranged_finish::number::ranged_finish_number` meets its contract. Assumes nothing.
 use mathlib.Core.Path.{sym, ◌∙◌}
-use native.Mathlib.Omega.{arith}
 use Rattle.std.proofs.Common.{rules}
 use Rattle.run_record.proofs.Refused.{handed_on, some_refusal}
 use Rattle.ranged_finish.proofs.Deciding.{short_ranged, by_state, by_table, by_settings}

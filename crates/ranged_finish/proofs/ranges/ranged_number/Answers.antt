@@ -1,11 +1,9 @@
 -- `ranged_finish::ranges::ranged_number` meets its contract. Assumes nothing.
 use mathlib.Core.Path.{sym, ◌∙◌}
 use native.Mathlib.Omega.{arith}
-use Rattle.laws.proofs.Refusal.{first_skip, first_end}
 use Rattle.tables.specs.CostTable.{quadratic}
 use Rattle.tables.proofs.Checks.{size_parts, order_placed}
 use Rattle.ranged_finish.specs.Ranged.{ranged_of, low_of}
-use Rattle.ranged_finish.specs.Numbers.{ranged_number}
 use Rattle.ranged_finish.proofs.ranges.ranged_number.Goals as goal
 
 pub bad_order-requires : goal.bad_order-requires
@@ -22,7 +20,3 @@ above-requires-2 c = c.requires.1 (size_parts _ _ _ _ _ (sym c.bad_size.ensures 
 
 pub ranges_too_large-requires : goal.ranges_too_large-requires
 ranges_too_large-requires c = let s = size_parts _ _ _ _ _ (sym c.bad_size.ensures ∙ c.if-bad_size.false) in let l = c.requires.0 s.2 in let m = c.requires.1 s.1 in (l.0.values_there, l.1, m.0, m.1, omega arith)
-
-pub returns : goal.returns
-unfolding ranged_number
-returns c = sym (first_skip 13 _ _ (sym c.bad_size.ensures ∙ c.if-bad_size.false) ∙ first_skip 14 _ _ (sym c.bad_order.ensures ∙ c.if-bad_order.false) ∙ first_skip 23 _ _ (sym c.above.ensures ∙ c.if-above.false) ∙ first_skip 15 _ _ (sym c.ranges_unmirrored.ensures ∙ c.if-ranges_unmirrored.false) ∙ first_skip 23 _ _ (sym c.above-2.ensures ∙ c.if-above-2.false) ∙ first_skip 16 _ _ (sym c.ranges_too_large.ensures ∙ c.if-ranges_too_large.false) ∙ first_end)

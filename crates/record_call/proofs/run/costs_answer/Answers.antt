@@ -1,9 +1,6 @@
 use Rattle.record_call.proofs.Decoding.{unpinned_run, unpinned_figures, unpinned_fields, unpinned_choice}
 use Rattle.record_call.proofs.run.costs_answer.Goals as goal
 
-pub pinned_answer-requires : goal.pinned_answer-requires
-pinned_answer-requires c = c.requires
-
 pub returns-then-j-ne0 : goal.returns-then-j-ne0
 returns-then-j-ne0 c = c.pinned_answer.ensures
 

@@ -18,6 +18,3 @@ slice_bounds-finish_run-end c = sym (length-take-le _ _ (omega (arith, (sizes c.
 
 pub finish_run-requires : goal.finish_run-requires
 finish_run-requires c = let z = sizes c.args.job.decoded c.job_rank-rank.result c.job_rank-rank.ensures.0 in (c.requires.0, length-take-le _ _ (omega (arith, z.1)) ∙ z.2, omega arith, c.requires.1)
-
-pub returns : goal.returns
-returns c = c.finish_run.ensures

@@ -13,9 +13,3 @@ cut_hall-requires c =
 
 pub invariant_of-own : goal.invariant_of-own
 invariant_of-own c = record { own = rw c.cut_hall.ensures (cut c.args.job.now c.requires.0.accepted c.requires.0 c.job_of-j.result c.job_of-j.ensures) }
-
-pub costs_answer-requires : goal.costs_answer-requires
-costs_answer-requires c = c.requires.1
-
-pub returns : goal.returns
-returns c = c.costs_answer.ensures

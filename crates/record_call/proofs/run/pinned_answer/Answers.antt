@@ -4,9 +4,6 @@ use lib.Seq.{length-take-le}
 use Rattle.record_call.proofs.Decoding.{own_n, own_few, own_states, free_fits, free_cut, lift_asks, lifted_choice}
 use Rattle.record_call.proofs.run.pinned_answer.Goals as goal
 
-pub read_states-requires : goal.read_states-requires
-read_states-requires c = omega arith
-
 pub slice_bounds-states-end : goal.slice_bounds-states-end
 slice_bounds-states-end c = omega (arith, own_few c.args.job.own, c.read_states.auto.states)
 
@@ -15,9 +12,6 @@ slice_bounds-pinned-end c = sym (length-take-le _ _ (omega (arith, own_few c.arg
 
 pub invariant_of-pinned : goal.invariant_of-pinned
 invariant_of-pinned c = record { states_are = own_states c.args.job.own _ _ c.read_states.ensures }
-
-pub finish_pinned-fields-requires : goal.finish_pinned-fields-requires
-finish_pinned-fields-requires c = (omega arith, record { choice_room = omega arith; search_room = c.requires.search_room })
 
 pub slice_bounds-states-end-2 : goal.slice_bounds-states-end-2
 slice_bounds-states-end-2 c = omega (arith, own_few c.args.job.own, c.read_states.auto.states)

@@ -5,19 +5,13 @@ use lib.ListN.{length}
 use Rattle.laws.specs.Lists.{any_below}
 use Rattle.laws.specs.Turns.{up_to}
 use Rattle.reduced.specs.Indices.{twice}
-use Rattle.reduced.proofs.Distinct.{index_low, twice_next}
+use Rattle.reduced.proofs.Distinct.{twice_next}
 use Rattle.reduced.proofs.Put.{put_next}
 use Rattle.reduced.proofs.indices.any_twice.Goals as goal
 
 pub loop-original-init : goal.loop-original-init
 unfolding any_below up_to
 loop-original-init c = (omega arith, refl, refl)
-
-pub bounds-seen-index : goal.bounds-seen-index
-bounds-seen-index c = index_low c.args.variable_map.now c.requires c.loop-original.original-index (omega arith) c.loop-original.invariant.2 c.from-index.ensures
-
-pub bounds-seen-index-in-loop-original : goal.bounds-seen-index-in-loop-original
-bounds-seen-index-in-loop-original c = index_low c.args.variable_map.now c.requires c.loop-original.original-index (omega arith) c.loop-original.invariant.2 c.from-index.ensures
 
 pub loop-original-preserved : goal.loop-original-preserved
 loop-original-preserved c = (omega arith, twice_next c.args.variable_map.now c.requires c.loop-original.original-index (omega arith) c.loop-original.invariant.2 c.from-index.ensures c.loop-original.invariant.1, put_next _ _ _ _ c.loop-original.invariant.2 c.from-index.ensures refl)

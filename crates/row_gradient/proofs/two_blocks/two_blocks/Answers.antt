@@ -6,23 +6,11 @@ use native.Mathlib.Omega.{arith}
 use lib.Dec.{eqb}
 use Rattle.ieee.specs.Floats.{◌-ᶠ◌}
 use Rattle.factor.proofs.ByColumns.{block_start_lem, block_next}
-use Rattle.row_gradient.proofs.ByColumns.{two_ends, at_rank}
+use Rattle.row_gradient.proofs.ByColumns.{two_ends}
 use Rattle.row_gradient.proofs.two_blocks.two_blocks.Goals as goal
 
 pub loop-e-init : goal.loop-e-init
 loop-e-init g c = (omega arith, refl, block_start_lem ◌-ᶠ◌ (λ k. eqb k c.args.vertex) c.args.row.cols.now c.args.row.values.now c.args.factor.now c.args.rank 0 g.row.N, block_start_lem ◌-ᶠ◌ (λ k. eqb k c.args.vertex) c.args.row.cols.now c.args.row.values.now c.args.factor.now c.args.rank (c.args.rank - g.row.M) g.row.M)
-
-pub overflow_mul-start : goal.overflow_mul-start
-overflow_mul-start g c = rw c.from-k.ensures (omega (arith, at_rank _ _ _ _ c.requires.in_bounds.3 c.requires.columns_within c.loop-e.e c.loop-e-test.true))
-
-pub overflow_add-there : goal.overflow_add-there
-overflow_add-there g c = rw c.from-k.ensures (omega (arith, at_rank _ _ _ _ c.requires.in_bounds.3 c.requires.columns_within c.loop-e.e c.loop-e-test.true))
-
-pub add_entry-requires : goal.add_entry-requires
-add_entry-requires g c = rw c.from-k.ensures (omega (arith, c.requires.in_bounds.0, c.requires.in_bounds.3, at_rank _ _ _ _ c.requires.in_bounds.3 c.requires.columns_within c.loop-e.e c.loop-e-test.true))
-
-pub add_entry-requires-in-loop-e : goal.add_entry-requires-in-loop-e
-add_entry-requires-in-loop-e g c = rw c.from-k.ensures (omega (arith, c.requires.in_bounds.1, c.requires.in_bounds.3, at_rank _ _ _ _ c.requires.in_bounds.3 c.requires.columns_within c.loop-e.e c.loop-e-test.true))
 
 pub loop-e-preserved : goal.loop-e-preserved
 loop-e-preserved g c = (omega arith, omega arith, (rw c.from-k.ensures at c.add_entry.ensures) ∙ (rw add-zero at (block_next _ _ _ _ _ _ 0 g.row.N _ _ c.loop-e.invariant.2)), (rw c.from-k.ensures at c.add_entry-in-loop-e.ensures) ∙ block_next _ _ _ _ _ _ _ _ _ _ c.loop-e.invariant.3)

@@ -24,9 +24,6 @@ loop-i-preserved c = let a = c.args in
       simp length-set l.invariant.2,
     )
 
-pub shape_of-kept : goal.shape_of-kept
-shape_of-kept c = c.loop-i.invariant.2
-
 pub returns : goal.returns
 unfolding sign_bytes
 returns c = let a = c.args in

@@ -1,9 +1,8 @@
 -- `sdp_solver::open::open_accepted` meets its contract, by what its parts ensure. Assumes nothing.
-use Prim.Native.Nat.{◌+◌, ◌*◌}
+use Prim.Native.Nat.{◌+◌}
 use mathlib.Core.Path.{refl, sym, ap}
 use native.Mathlib.Nat.{le_trans}
 use native.Mathlib.Omega.{arith}
-use lib.ListN.{take}
 use lib.Seq.{length-take-le}
 use Rattle.std.specs.Prelude.{Ok}
 use Rattle.run_limits.proofs.Ranks.{given_under}

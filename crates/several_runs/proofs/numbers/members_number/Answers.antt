@@ -11,9 +11,6 @@ pub loop-i-init : goal.loop-i-init
 unfolding first_of
 loop-i-init c = (omega arith, rw (c.default-at.ensures.0, c.default-at.ensures.1.0, c.default-at.ensures.1.1) (cursor_start _ _ _), refl)
 
-pub hall_from-table-requires : goal.hall_from-table-requires
-hall_from-table-requires c = let k = c.loop-i.invariant.1 in (k.rows_room, k.cols_room, k.values_room, k.costs_room)
-
 pub returns-in_err-member_number : goal.returns-in_err-member_number
 returns-in_err-member_number c = let n = handed_on _ _ c.from_residual.ensures.1 c.in_err-member_number.ensures in
     found _ _ _ c.loop-i.invariant.2 c.loop-i-test.true (n ∙ cut_number _ _ _ c.loop-i.invariant.1 c.hall_from-table.ensures) (λ z. some_refusal _ c.in_err-member_number.ensures (sym n ∙ z))

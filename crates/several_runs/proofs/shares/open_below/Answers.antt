@@ -3,18 +3,8 @@ use Rattle.std.proofs.Common.{◌∙◌, rules, tests, take}
 use native.Mathlib.Omega.{arith}
 use Rattle.std.proofs.lemmas.Iterator.{YieldsList-from_slice}
 use Rattle.std.proofs.lemmas.Iterator.Consumers.{YieldsList-from_filter, count_from_yields_List}
-use Rattle.several_runs.specs.Turn.{run_at}
-use Rattle.several_runs.proofs.Counted.{is_open, open_counted, open_below_le}
+use Rattle.several_runs.proofs.Counted.{is_open, open_counted}
 use Rattle.several_runs.proofs.shares.open_below.Goals as goal
-
-pub overflow_cast-result : goal.overflow_cast-result
-overflow_cast-result c =
-    let a = c.args in
-    let found = count_from_yields_List c.filter.result _ c.count.ensures.ran
-    (YieldsList-from_filter _ is_open (YieldsList-from_slice (take a.end a.runs) cc) c.filter.ensures.closure (λ x b q k. search (rules, tests)))
-    ∙ open_counted a.end a.runs (omega arith) in
-    let few = open_below_le (run_at a.runs) a.end in
-    omega (arith, found, few, c.requires)
 
 pub returns : goal.returns
 returns c =

@@ -29,9 +29,6 @@ bounds-halls-i c = let eight = count_few _ (count_good _ _ _ _ _ c.requires) in 
 pub share_of-k-requires : goal.share_of-k-requires
 share_of-k-requires c = (rw c.open_below-open.ensures (open_counts _ _ _ c.loop-i-test.true), turn_few _ (turn_good _ _ _ _ _ c.requires))
 
-pub hall_from-table-requires : goal.hall_from-table-requires
-hall_from-table-requires c = let k = c.loop-i.invariant.1 in (k.rows_room, k.cols_room, k.values_room, k.costs_room)
-
 pub turn_one-requires : goal.turn_one-requires
 turn_one-requires c =
     let number = cut_number _ _ _ c.loop-i.invariant.1 c.hall_from-table.ensures ∙ number_good _ _ _ _ _ c.requires _ c.loop-i-test.true in

@@ -1,17 +1,11 @@
 -- `changes_of` meets its contract: with no entries the changes are 0.
 -- Assumes nothing.
 use native.Mathlib.Omega.{arith}
-use mathlib.Core.Path.{refl, ◌∙◌}
+use mathlib.Core.Path.{refl}
 use lib.ListN.{length}
 use Rattle.tables.specs.Entries.{listed}
 use Rattle.sign_search.proofs.ChangeLaws.{cleared, changes_laid, over_cleared, changes_none}
 use Rattle.sign_search.proofs.changes.changes_of.Goals as goal
-
-pub clear-requires : goal.clear-requires
-clear-requires c = c.requires.1
-
-pub shape_of-changes-then-table-eq0 : goal.shape_of-changes-then-table-eq0
-shape_of-changes-then-table-eq0 c = c.clear.auto.changes
 
 pub returns-then-table-eq0 : goal.returns-then-table-eq0
 returns-then-table-eq0 c = let k = c.clear in
@@ -25,9 +19,6 @@ returns-then-table-eq0 c = let k = c.clear in
 pub sum_rows-requires : goal.sum_rows-requires
 sum_rows-requires c = let k = c.clear in
     (c.requires.0, omega (arith, k.auto.changes, c.requires.1), omega arith, cleared (length c.args.signs.now) c.args.changes.now k.new.changes c.requires.1 k.ensures)
-
-pub shape_of-changes : goal.shape_of-changes
-shape_of-changes c = c.sum_rows.auto.changes ∙ c.clear.auto.changes
 
 pub returns : goal.returns
 returns c = let k = c.clear in

@@ -18,9 +18,6 @@ use Rattle.sign_search.proofs.ChangeLaws as L
 use Rattle.sign_search.proofs.changes.sum_rows.Goals as goal
 use Rattle.sign_search.proofs.changes.sum_rows.Goals.{After-change_term-held, After-loop-k}
 
-pub bounds-table-0 : goal.bounds-table-0
-bounds-table-0 c = omega (arith, c.args.table.lent.rows_there)
-
 pub loop-k-init : goal.loop-k-init
 loop-k-init c = let a = c.args in (
   omega arith,
@@ -29,18 +26,12 @@ loop-k-init c = let a = c.args in (
   refl,
 )
 
-pub bounds-table-k : goal.bounds-table-k
-bounds-table-k c = omega (arith, c.args.table.lent.rows_there)
-
 pub turn_row-held-requires : goal.turn_row-held-requires
 turn_row-held-requires c = let l = c.loop-k in
     let a = c.args in (
       L.row_room (listed a.table) a.signs.now l.k l.row (to_z w64 l.held-bits) l.changes c.requires.0 l.invariant.2,
       L.laid_fits (listed a.table) a.signs.now l.k l.row (to_z w64 l.held-bits) l.changes c.requires.0 l.invariant.2 l.invariant.0,
     )
-
-pub change_term-held-requires : goal.change_term-held-requires
-change_term-held-requires c = (omega arith, c.requires.0)
 
 -- what entry k adds to the sum of its row
 module _ (c : After-change_term-held) where
@@ -87,20 +78,8 @@ module _ (c : After-loop-k) where
   last_fits : SFits w64 (get_or c.loop-k.changes c.loop-k.row (pos 0) +ℤ to_z w64 c.loop-k.held-bits)
   last_fits = let l = c.loop-k in L.laid_fits (listed c.args.table) c.args.signs.now l.k l.row (to_z w64 l.held-bits) l.changes c.requires.0 l.invariant.2 l.invariant.0
 
-pub offset_bounds-changes-row : goal.offset_bounds-changes-row
-offset_bounds-changes-row c = let h = room (goal.at.offset_bounds-changes-row c).After-loop-k in omega (arith, h)
-
-pub slice_copy_out-changes : goal.slice_copy_out-changes
-slice_copy_out-changes c = room (goal.at.slice_copy_out-changes c).After-loop-k
-
 pub overflow_add-changes : goal.overflow_add-changes
 overflow_add-changes c = rw (stays (get_or c.loop-k.changes c.loop-k.row (pos 0)) c.changes-2-1.given) (last_fits (goal.at.overflow_add-changes c).After-loop-k)
-
-pub bounds-changes-row : goal.bounds-changes-row
-bounds-changes-row c = room (goal.at.bounds-changes-row c).After-loop-k
-
-pub shape_of-changes : goal.shape_of-changes
-shape_of-changes c = simp length-set c.loop-k.invariant.1
 
 pub returns : goal.returns
 returns c =

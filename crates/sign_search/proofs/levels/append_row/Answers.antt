@@ -1,11 +1,12 @@
 use Prim.Native.Nat.{ℕ, ◌≤◌}
-use mathlib.Core.Bool.{Bool, true, false, cond}
+use mathlib.Core.Bool.{cond}
 use lib.Dec.{eqb}
 use native.Mathlib.Omega.{arith}
 use mathlib.Core.List.{List, []}
 use mathlib.Core.Path.{◌≡◌, sym, subst}
 use lib.ListN.{length}
 use mir.Facts.{to_z-of_z}
+use Rattle.std.proofs.lemmas.Bool.Decides.{nat_tests}
 use Rattle.local_search.specs.Level.{sign_level}
 use Rattle.local_search.specs.Children.{parent_of, Appended}
 use Rattle.tables.specs.Entries.{listed}
@@ -16,11 +17,7 @@ use Rattle.sign_search.proofs.ExpandLaws.{row_appends, row_appended, row_first_t
 use Rattle.sign_search.proofs.levels.append_row.Goals as goal
 
 first-few : (flips most first : ℕ) → first ≡ cond (eqb most 0) 0 flips → first ≤ flips
-first-few flips most first e = go (eqb most 0) e
-  where
-    go : (b : Bool) → first ≡ cond b 0 flips → first ≤ flips
-    go true e = omega arith
-    go false e = omega arith
+first-few flips most first e = grind (arith, nat_tests)
 
 pub first_level-requires : goal.first_level-requires
 first_level-requires c = let k = c.changes_of in

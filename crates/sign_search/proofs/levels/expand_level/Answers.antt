@@ -7,12 +7,12 @@ use lib.ListN.{length}
 use mir.Facts.{to_z-of_z}
 use Rattle.sign_words.specs.Packed.{unpacked}
 use Rattle.local_search.specs.Level.{Choice, decoded, sign_level}
-use Rattle.local_search.proofs.ExpandLaws.{parents_none, parents_one_more, part_long, parent_is}
+use Rattle.local_search.proofs.ExpandLaws.{parents_none, parents_one_more, part_long, parent_is, part_room}
 use Rattle.local_search.proofs.Decoded.{sign_level_empty, sign_rising, tidy_none, tidy_part}
 use Rattle.tables.specs.Entries.{listed}
 use Rattle.sign_search.specs.Within.{bounds}
 use Rattle.sign_search.specs.Clauses.{table_children}
-use Rattle.sign_search.proofs.ExpandLaws.{parent_expands, parent_kept, part_tidy, next_level_lem, row_room}
+use Rattle.sign_search.proofs.ExpandLaws.{parent_expands, parent_kept, part_tidy, next_level_lem}
 use Rattle.sign_search.proofs.levels.expand_level.Goals as goal
 
 pub loop-k-init : goal.loop-k-init
@@ -31,33 +31,11 @@ loop-k-init c = let a = c.args in
       λ t. tidy_none a.words m a.objectives.now a.signs.now,
     )
 
-pub overflow_mul-at : goal.overflow_mul-at
-overflow_mul-at c = let a = c.args in
-    omega (arith, row_room a.words a.from_count c.loop-k.k (length a.from_signs.now) (omega arith) c.requires.0.from_signs_room)
-
-pub overflow_add-end : goal.overflow_add-end
-overflow_add-end c = let a = c.args in
-    omega (arith, row_room a.words a.from_count c.loop-k.k (length a.from_signs.now) (omega arith) c.requires.0.from_signs_room)
-
-pub offset_bounds-from_objectives-k : goal.offset_bounds-from_objectives-k
-offset_bounds-from_objectives-k c = omega (arith, c.requires.0.from_objectives_room)
-
-pub bounds-from_objectives-k : goal.bounds-from_objectives-k
-bounds-from_objectives-k c = omega (arith, c.requires.0.from_objectives_room)
-
-pub offset_bounds-from_signs-at : goal.offset_bounds-from_signs-at
-offset_bounds-from_signs-at c = let a = c.args in
-    omega (arith, row_room a.words a.from_count c.loop-k.k (length a.from_signs.now) (omega arith) c.requires.0.from_signs_room)
-
-pub slice_bounds-expand_row-end : goal.slice_bounds-expand_row-end
-slice_bounds-expand_row-end c = let a = c.args in
-    row_room a.words a.from_count c.loop-k.k (length a.from_signs.now) (omega arith) c.requires.0.from_signs_room
-
 pub expand_row-kept-requires : goal.expand_row-kept-requires
 expand_row-kept-requires c = let a = c.args in
     let l = c.loop-k in
     let m = length a.current.now in
-    let room = row_room a.words a.from_count l.k (length a.from_signs.now) (omega arith) c.requires.0.from_signs_room in (
+    let room = part_room {k = l.k} a.words (omega arith) c.requires.0.from_signs_room in (
       rw l.invariant.4
           (parent_expands (listed a.table) a.words m a.from_objectives.now a.from_signs.now l.k room
           _ a.from_count a.width l.kept (length l.changes) (length l.objectives) (length l.signs) (to_z-of_z {w = w64} (sfits_of c.objective-1.given)) (omega arith) l.invariant.6.room
@@ -76,7 +54,7 @@ loop-k-preserved c = let a = c.args in
     let v = c.expand_row-kept in
     let t = listed a.table in
     let m = length a.current.now in
-    let room = row_room a.words a.from_count l.k (length a.from_signs.now) c.loop-k-test.true c.requires.0.from_signs_room in
+    let room = part_room a.words c.loop-k-test.true c.requires.0.from_signs_room in
     let long = part_long a.words a.from_objectives.now a.from_signs.now l.k room in (
       omega (arith, c.loop-k-test.true),
       v.auto.changes ∙ l.invariant.1,
@@ -93,21 +71,6 @@ loop-k-preserved c = let a = c.args in
       λ t. part_tidy m a.words _ _ l.kept v.result l.objectives _ l.signs _ long (rw l.invariant.4 at v.ensures.tidy)
           (tidy_part a.words m l.k a.from_count a.from_objectives.now a.from_signs.now room c.loop-k-test.true c.requires.0.from_objectives_room t) (l.invariant.8 t),
     )
-
-pub shape_of-current : goal.shape_of-current
-shape_of-current c = c.loop-k.invariant.4
-
-pub shape_of-current_row : goal.shape_of-current_row
-shape_of-current_row c = c.loop-k.invariant.5
-
-pub shape_of-changes : goal.shape_of-changes
-shape_of-changes c = c.loop-k.invariant.1
-
-pub shape_of-objectives : goal.shape_of-objectives
-shape_of-objectives c = c.loop-k.invariant.2
-
-pub shape_of-signs : goal.shape_of-signs
-shape_of-signs c = c.loop-k.invariant.3
 
 pub returns : goal.returns
 returns c = let l = c.loop-k in

@@ -9,44 +9,13 @@ use Rattle.sign_words.proofs.PackedLaws.{length_unpacked}
 use Rattle.tables.specs.Entries.{listed}
 use Rattle.sign_search.specs.Within.{bounds}
 use Rattle.sign_search.specs.Clauses.{Changes}
-use Rattle.sign_search.proofs.NearLaws.{both_packed}
-use Rattle.sign_search.proofs.ExpandLaws.{row_expands, row_kept, row_tidy}
+use Rattle.sign_search.proofs.ExpandLaws.{row_kept, row_tidy}
 use Prim.Native.Nat.{ℕ, ◌*◌, ◌≤◌}
 use Rattle.sign_search.proofs.levels.expand_row.Goals as goal
 
 pub move_to-requires : goal.move_to-requires
 move_to-requires c = let a = c.args in
     let long = length_unpacked (length a.current.now) a.parent.now in (rw long at c.requires.0.table, record { signs_held = omega (arith, c.requires.0.signs_held, long, c.requires.1); words_few = omega (arith, c.requires.0.words_few, c.requires.1); as_long = c.requires.1 }, c.requires.2)
-
-pub expand_near-requires : goal.expand_near-requires
-expand_near-requires c = let k = c.move_to in
-    let a = c.args in
-    let changes = k.new.changes in (
-      rw (to_z-of_z c.ranges.objective)
-          (row_expands (listed a.table) (length a.current.now) a.objective a.parent.now changes
-          (subst (λ (x : List ℕ). Changes (listed a.table) x changes) k.ensures.current_after k.ensures.at_hand.changes_are)
-          (bounds a.reach.leeway.flips a.reach.leeway.most (unpacked (length a.current.now) a.reach.origin.now)) c.requires.4.flips_few
-          a.count a.width (length a.objectives.now) (length a.signs.now) (rw k.auto.changes c.requires.0)),
-      c.requires.3,
-      omega (arith, c.requires.4.flips_few, k.auto.current),
-      both_packed (length a.current.now) k.new.current a.parent.now a.reach.origin.now a.reach.leeway.flips k.auto.current k.ensures.current_after c.requires.4 c.requires.5
-          (omega (arith, c.requires.0.signs_held, length_unpacked (length a.current.now) a.parent.now)) c.requires.0.words_few,
-    )
-
-pub shape_of-current : goal.shape_of-current
-shape_of-current c = c.move_to.auto.current
-
-pub shape_of-current_row : goal.shape_of-current_row
-shape_of-current_row c = c.move_to.auto.current_row
-
-pub shape_of-changes : goal.shape_of-changes
-shape_of-changes c = c.move_to.auto.changes
-
-pub shape_of-objectives : goal.shape_of-objectives
-shape_of-objectives c = c.expand_near.auto.objectives
-
-pub shape_of-signs : goal.shape_of-signs
-shape_of-signs c = c.expand_near.auto.signs
 
 pub returns : goal.returns
 returns c = let e = c.expand_near in

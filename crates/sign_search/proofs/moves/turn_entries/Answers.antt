@@ -21,34 +21,10 @@ use lib.Signed.{mag}
 pub loop-k-init : goal.loop-k-init
 loop-k-init c = let a = c.args in (omega arith, c.requires.starts.inside, refl, turned_none (listed a.table) a.current.now a.i a.from a.changes.now c.requires.starts)
 
-pub offset_bounds-table-k : goal.offset_bounds-table-k
-offset_bounds-table-k c = omega (arith, c.args.table.lent.cols_there, c.requires.ends.inside)
-
-pub bounds-table-k : goal.bounds-table-k
-bounds-table-k c = omega (arith, c.args.table.lent.cols_there, c.requires.ends.inside)
-
-pub offset_bounds-table-k-in-loop-k : goal.offset_bounds-table-k-in-loop-k
-offset_bounds-table-k-in-loop-k c = omega (arith, c.args.table.lent.values_there, c.requires.ends.inside)
-
-pub bounds-table-k-in-loop-k : goal.bounds-table-k-in-loop-k
-bounds-table-k-in-loop-k c = omega (arith, c.args.table.lent.values_there, c.requires.ends.inside)
-
-pub sign_at-requires : goal.sign_at-requires
-sign_at-requires c = c.requires.sign
-
-pub sign_at-requires-in-loop-k : goal.sign_at-requires-in-loop-k
-sign_at-requires-in-loop-k c = let h : c.loop-k.k < c.args.table.count = omega (arith, c.requires.ends.inside) in omega (arith, c.from-j.ensures, c.requires.usable.in_range.cols_in c.loop-k.k h)
-
 pub weighed-requires : goal.weighed-requires
 weighed-requires c = let a = c.args in
     let h : c.loop-k.k < a.table.count = omega (arith, c.requires.ends.inside) in
     (omega arith, rw (held (elem_z a.table.values.now c.loop-k.k) c.weighed-arg-1.given) (value_small (listed a.table) c.requires.usable.small c.loop-k.k h))
-
-pub offset_bounds-changes-j : goal.offset_bounds-changes-j
-offset_bounds-changes-j c = let h : c.loop-k.k < c.args.table.count = omega (arith, c.requires.ends.inside) in omega (arith, c.from-j.ensures, c.requires.usable.in_range.cols_in c.loop-k.k h, c.loop-k.invariant.2, c.requires.changes_are.many)
-
-pub slice_copy_out-changes : goal.slice_copy_out-changes
-slice_copy_out-changes c = let h : c.loop-k.k < c.args.table.count = omega (arith, c.requires.ends.inside) in omega (arith, c.from-j.ensures, c.requires.usable.in_range.cols_in c.loop-k.k h, c.loop-k.invariant.2, c.requires.changes_are.many)
 
 -- what entry k adds, and that it fits
 module _ (c : After-weighed) where
@@ -88,9 +64,6 @@ module _ (c : After-weighed) where
 pub overflow_add-changes : goal.overflow_add-changes
 overflow_add-changes c = let w = (goal.at.overflow_add-changes c).After-weighed in subst (SFits w64) (sym (sum_is w c.changes-1.given)) (fits w)
 
-pub bounds-changes-j : goal.bounds-changes-j
-bounds-changes-j c = let h : c.loop-k.k < c.args.table.count = omega (arith, c.requires.ends.inside) in omega (arith, c.from-j.ensures, c.requires.usable.in_range.cols_in c.loop-k.k h, c.loop-k.invariant.2, c.requires.changes_are.many)
-
 pub loop-k-preserved : goal.loop-k-preserved
 loop-k-preserved c =
     let a = c.args in
@@ -106,9 +79,6 @@ loop-k-preserved c =
           (turned_more t a.current.now a.i l.k a.changes.now l.changes l.invariant.3 (row_is w) in_row z
           (omega (arith, in_row, l.invariant.2, c.requires.changes_are.many)) (to_z-of_z (subst (SFits w64) (sym (sum_is w c.changes-1.given)) (fits w)) ∙ sum_is w c.changes-1.given)),
     )
-
-pub shape_of-changes : goal.shape_of-changes
-shape_of-changes c = c.loop-k.invariant.2
 
 pub returns : goal.returns
 returns c = let a = c.args in

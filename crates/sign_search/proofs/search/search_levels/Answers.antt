@@ -1,4 +1,4 @@
-use Prim.Native.Nat.{ℕ, ◌*◌, ◌≤◌, ◌<◌}
+use Prim.Native.Nat.{ℕ, ◌<◌}
 use native.Mathlib.Nat.{mul-le-mul_right}
 use native.Mathlib.Omega.{arith}
 use borrow.Author.Rules.{sfits_of}
@@ -90,10 +90,6 @@ loop-count-init c = let w = (goal.at.loop-count-init c).After-append_row-count i
       ap length c.requires.3.same,
     )
 
-pub keep_least-least-requires : goal.keep_least-least-requires
-keep_least-least-requires c = let l = c.loop-count in
-    (l.invariant.6, subst (λ (n : ℕ). l.count * n ≤ length l.signs) (sym l.invariant.0) l.invariant.7)
-
 pub advance-count-requires : goal.advance-count-requires
 advance-count-requires c = let w = (goal.at.advance-count-requires c).After-append_row-count in
     let l = c.loop-count in
@@ -162,30 +158,6 @@ loop-count-preserved c =
       tidy_best n m l.count l.objectives l.signs (parent_of (to_z w64 l.least-bits) l.kept) (parent_of k.result k.new.kept) (k.ensures ∙ among) l.invariant.12 l.invariant.11,
       v.auto.current_row ∙ l.invariant.13,
     )
-
-pub shape_of-kept : goal.shape_of-kept
-shape_of-kept c = c.loop-count.invariant.0
-
-pub shape_of-current : goal.shape_of-current
-shape_of-current c = c.loop-count.invariant.9
-
-pub shape_of-current_row : goal.shape_of-current_row
-shape_of-current_row c = c.loop-count.invariant.13 ∙ sym (ap length c.requires.3.same)
-
-pub shape_of-changes : goal.shape_of-changes
-shape_of-changes c = c.loop-count.invariant.1 ∙ c.append_row-count.auto.changes
-
-pub shape_of-objectives : goal.shape_of-objectives
-shape_of-objectives c = c.loop-count.invariant.2 ∙ c.append_row-count.auto.objectives
-
-pub shape_of-signs : goal.shape_of-signs
-shape_of-signs c = c.loop-count.invariant.3 ∙ c.append_row-count.auto.signs
-
-pub shape_of-next_objectives : goal.shape_of-next_objectives
-shape_of-next_objectives c = c.loop-count.invariant.4
-
-pub shape_of-next_signs : goal.shape_of-next_signs
-shape_of-next_signs c = c.loop-count.invariant.5
 
 pub returns : goal.returns
 returns c = let w = (goal.at.returns c).After-append_row-count in

@@ -7,20 +7,8 @@ use Rattle.sign_search.proofs.search.search_room.Goals as goal
 pub slice_bounds-kept-end : goal.slice_bounds-kept-end
 slice_bounds-kept-end c = omega (arith, c.sign_words-words.ensures, few_words (length c.args.current.now))
 
-pub slice_bounds-current_row-end : goal.slice_bounds-current_row-end
-slice_bounds-current_row-end c = omega (arith, c.sign_words-words.ensures, few_words (length c.args.current.now))
-
 pub search_words-requires : goal.search_words-requires
 search_words-requires c = let m = length c.args.current.now in record {
   searchable = c.requires;
   words_held = (simp (length-take, length-drop) (omega (arith, c.sign_words-words.ensures, few_words m)), simp (length-take, length-drop) (omega (arith, c.sign_words-words.ensures, few_words m, enough_words m c.requires.0.room.signs_few)), refl);
 }
-
-pub shape_of-current : goal.shape_of-current
-shape_of-current c = c.search_words.auto.current
-
-pub shape_of-level : goal.shape_of-level
-shape_of-level c = c.search_words.auto.level
-
-pub returns : goal.returns
-returns c = c.search_words.ensures

@@ -10,9 +10,6 @@ use Rattle.sign_search.specs.Search.{objective_in}
 use Rattle.sign_search.proofs.Searches.{found_within, found_none}
 use Rattle.sign_search.proofs.search.search_within.Goals as goal
 
-pub obj_rounded-start-requires : goal.obj_rounded-start-requires
-obj_rounded-start-requires c = (c.requires.2.mirrors.in_range, c.requires.2.small)
-
 pub returns-then-width-eq0 : goal.returns-then-width-eq0
 unfolding objective_in
 returns-then-width-eq0 c =
@@ -27,12 +24,6 @@ search_room-requires c =
     let started : let a = c.args in to_z w64 (of_z w64 c.obj_rounded-start.result) ≡ objective_in (listed a.table) a.kept.now =
     held _ c.obj_rounded-start.type_inv ∙ c.obj_rounded-start.ensures in
     (record { room = c.requires.0; some = omega arith; sound = c.requires.2; start_is = started; flips_few = c.requires.3 }, c.requires.1)
-
-pub shape_of-kept : goal.shape_of-kept
-shape_of-kept c = c.search_room.auto.current
-
-pub shape_of-level : goal.shape_of-level
-shape_of-level c = c.search_room.auto.level
 
 pub returns : goal.returns
 unfolding objective_in

@@ -35,9 +35,6 @@ returns-then-not-differs c = let a = c.args in
     no_child a.width _ _ a.count a.i a.parent.changes.now (goes_back a.parent.changes.now a.current.now (unpacked (length a.current.now) a.origin.now)) (parent_choice a.parent)
     (left_out a.parent.changes.now a.current.now (unpacked (length a.current.now) a.origin.now) (parent_choice a.parent) a.i (sign-is (length a.current.now) a.current.now a.origin.now a.i c.requires.2 c.differs.ensures c.sign_in-sign.ensures) c.if-not-differs.true) refl c.requires.0.used
 
-pub consider_child-requires : goal.consider_child-requires
-consider_child-requires c = (c.requires.0, c.requires.1)
-
 pub returns : goal.returns
 returns c = let a = c.args in
     let k = c.consider_child in

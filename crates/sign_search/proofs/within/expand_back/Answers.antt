@@ -1,5 +1,4 @@
 use native.Mathlib.Omega.{arith}
-use mathlib.Core.Path.{◌≡◌}
 use lib.ListN.{length}
 use Rattle.sign_words.specs.Packed.{unpacked}
 use Rattle.local_search.specs.Level.{level_of}
@@ -45,7 +44,3 @@ loop-i-preserved c = let l = c.loop-i in
       children_one_more a.width (level_of (length a.parent.row.now) a.count a.objectives.now a.signs.now) a.parent.changes.now (goes_back a.parent.changes.now a.current.now (unpacked (length a.current.now) a.origin.now))
           (parent_choice a.parent) l.i _ _ l.kept k.result l.invariant.1 k.ensures,
     )
-
-pub returns : goal.returns
-returns c = let all : c.loop-i.i ≡ c.args.flips = omega arith in
-    rw all at c.loop-i.invariant.1

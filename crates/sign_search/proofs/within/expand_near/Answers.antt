@@ -8,9 +8,6 @@ use Rattle.local_search.specs.Children.{parent_choice}
 use Rattle.sign_search.proofs.NearLaws.{near_free, near_inside, near_far, near_edge, all_near, back_near, none_near}
 use Rattle.sign_search.proofs.within.expand_near.Goals as goal
 
-pub expand_parent-requires : goal.expand_parent-requires
-expand_parent-requires c = (c.requires.0, c.requires.1)
-
 pub returns-then-current-reach : goal.returns-then-current-reach
 returns-then-current-reach c = let a = c.args in
     let k = c.expand_parent in
@@ -19,12 +16,6 @@ returns-then-current-reach c = let a = c.args in
     all_near a.width a.reach.leeway.flips (level_of (length a.parent.row.now) a.count a.objectives.now a.signs.now)
     (level_of (length a.parent.row.now) k.result k.new.objectives k.new.signs) a.parent.changes.now (parent_choice a.parent) k.result
     a.reach.leeway.most (unpacked (length x) a.reach.origin.now) x (λ i h. near_free x (unpacked (length x) a.reach.origin.now) i (omega (arith, h, c.requires.2)) a.reach.leeway.most free) k.ensures
-
-pub places_apart-apart-requires : goal.places_apart-apart-requires
-places_apart-apart-requires c = (c.requires.3.as_many, c.requires.3.words_few, c.requires.3)
-
-pub expand_parent-requires-then-apart-reach : goal.expand_parent-requires-then-apart-reach
-expand_parent-requires-then-apart-reach c = (c.requires.0, c.requires.1)
 
 pub returns-then-apart-reach : goal.returns-then-apart-reach
 returns-then-apart-reach c = let a = c.args in
@@ -40,9 +31,6 @@ returns-then-apart-reach-gt1 c = let a = c.args in
     none_near a.width a.reach.leeway.flips (level_of (length a.parent.row.now) a.count a.objectives.now a.signs.now)
     (level_of (length a.parent.row.now) a.count a.objectives.now a.signs.now) a.parent.changes.now (parent_choice a.parent) a.count
     a.reach.leeway.most (unpacked (length x) a.reach.origin.now) x (λ i h. near_far x (unpacked (length x) a.reach.origin.now) i (omega (arith, h, c.requires.2)) a.reach.leeway.most (omega (arith, c.places_apart-apart.ensures, c.if-apart-reach-gt1.true))) refl c.requires.0.used
-
-pub expand_back-requires : goal.expand_back-requires
-expand_back-requires c = (c.requires.0, c.requires.1, c.requires.2, omega (arith, c.requires.2, c.requires.3.signs_held, c.requires.3.as_many))
 
 pub returns : goal.returns
 returns c = let a = c.args in

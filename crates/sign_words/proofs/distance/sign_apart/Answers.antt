@@ -3,9 +3,6 @@ use Rattle.sign_words.specs.Distance.{none}
 use Rattle.sign_words.proofs.ApartLaws.{same_on, found}
 use Rattle.sign_words.proofs.distance.sign_apart.Goals as goal
 
-pub loop-k-init : goal.loop-k-init
-loop-k-init c = (omega arith, omega arith, omega arith, λ j p q. absurd (omega arith))
-
 pub returns-in-Some : goal.returns-in-Some
 returns-in-Some c = let l = c.loop-k in
     found c.args.a.now c.args.b.now c.args.from l.k l.invariant.3 (omega arith) (rw l.invariant.2 at c.in-Some.ensures)

@@ -1,10 +1,9 @@
 use Prim.Native.Nat.{◌+◌, ◌-◌, ◌*◌}
 use native.Mathlib.Omega.{arith}
-use native.Mathlib.Nat.{zero-add}
-use mathlib.Core.Path.{◌≡◌, refl, ◌∙◌}
+use mathlib.Core.Path.{refl}
 use lib.ListN.{get_or}
 use Rattle.sign_words.specs.Packed.{word, digit_at}
-use Rattle.sign_words.proofs.Digits.{from_turn, from_room, word_ext}
+use Rattle.sign_words.proofs.Digits.{from_turn, from_room}
 use Rattle.sign_words.proofs.PackedLaws.{sign_digit_lt}
 use Rattle.sign_words.proofs.pack.pack_word.Goals as goal
 
@@ -26,8 +25,3 @@ pub loop-j-preserved : goal.loop-j-preserved
 loop-j-preserved c = let a = c.args in
     let l = c.loop-j in
     rw c.sign_bit.ensures (from_turn (digit_at a.signs.now a.k) 64 (l.j - 1) l.j l.w (omega arith) (omega arith) l.invariant)
-
-pub returns : goal.returns
-returns c = let none : c.loop-j.j ≡ 0 = omega arith in
-    let a = c.args in
-    rw none at c.loop-j.invariant ∙ word_ext (λ i. digit_at a.signs.now a.k (0 + i)) (digit_at a.signs.now a.k) 64 (λ i h. rw (zero-add i))

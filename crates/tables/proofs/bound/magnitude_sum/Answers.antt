@@ -5,7 +5,9 @@ use native.Mathlib.Omega.{arith}
 use lib.IntN.{pos, nat_abs, neg_ℤ}
 use lib.Ieee.{of_bits}
 use Rattle.laws.specs.Lists.{elem_z}
-use Rattle.laws.proofs.Integer.{held, fits_abs, abs_neg}
+use mir.Syntax.{w64}
+use Rattle.std.proofs.lemmas.Int.{fits_signed_from_abs}
+use Rattle.laws.proofs.Integer.{held, abs_neg}
 use Rattle.ieee.specs.Floats.{eighth_of}
 use Rattle.tables.specs.Table.{table_of}
 use Rattle.tables.specs.Bound.{magnitude_sum}
@@ -20,7 +22,7 @@ loop-k-init c = (omega arith, refl)
 pub abs-requires : goal.abs-requires
 abs-requires c = let a = c.args in
     let value = elem_z a.values.now c.loop-k.k in
-    rw (held value c.abs-arg-1.given) (fits_abs (neg_ℤ value) (omega (arith, abs_neg value, value_small (table_of a.count [] [] a.values.now) c.requires.1 c.loop-k.k c.loop-k-test.true)))
+    rw (held value c.abs-arg-1.given) (fits_signed_from_abs w64 (neg_ℤ value) (omega (arith, abs_neg value, value_small (table_of a.count [] [] a.values.now) c.requires.1 c.loop-k.k c.loop-k-test.true)))
 
 pub loop-k-preserved : goal.loop-k-preserved
 loop-k-preserved c = let values = c.args.values.now in

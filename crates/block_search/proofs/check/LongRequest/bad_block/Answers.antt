@@ -15,9 +15,6 @@ pub loop-k-init : goal.loop-k-init
 unfolding total
 loop-k-init c = (omega arith, refl, below_start _)
 
-pub block-block-requires : goal.block-block-requires
-block-block-requires c = (c.loop-k-test.true, c.loop-k.invariant.1)
-
 pub overflow_add-at : goal.overflow_add-at
 overflow_add-at c = omega (arith, block_ends (elem c.args.blocks.lent.sizes.now) c.loop-k.k (length c.args.blocks.lent.sizes.now) c.loop-k-test.true, c.args.blocks.wagons_there, c.block-block.ensures.many, c.loop-k.invariant.1)
 
