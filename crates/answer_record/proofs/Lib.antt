@@ -1,4 +1,3 @@
 pub mod Written
-pub mod Sizes
 pub mod Examples
 pub mod RoundTrip

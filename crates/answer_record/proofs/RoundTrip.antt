@@ -12,10 +12,9 @@ use lib.Ieee.{Float}
 use Rattle.laws.specs.Lists.{over}
 use Rattle.job_reader.specs.Bytes.{big_endian}
 use Rattle.job_reader.specs.Encode.{bytes_of}
-use Rattle.job_reader.proofs.Encode.{read_bytes, read_signed, read_double}
+use Rattle.job_reader.proofs.Encode.{length_bytes_of, read_bytes, read_signed, read_double}
 use Rattle.answer_record.specs.Answer.{frame_bytes, count_bytes, float_bytes, eighth_bytes, answer_bytes, fields_read, choice_read, Held}
 use Rattle.answer_record.specs.declared.answer.Answer.{Answer}
-use Rattle.answer_record.proofs.Sizes.{length_frame, length_count, length_float, length_eighth}
 
 same : {status status' rank rank' n n' sweeps sweeps' rounds rounds' : ℕ} {relaxed relaxed' bound bound' : Float} {floor floor' rounded rounded' cost cost' : ℤ}
     → status ≡ status' → rank ≡ rank' → n ≡ n' → sweeps ≡ sweeps' → relaxed ≡ relaxed' → bound ≡ bound' → floor ≡ floor' → rounded ≡ rounded' → cost ≡ cost' → rounds ≡ rounds'
@@ -32,7 +31,8 @@ answer_back a b out h =
 
 front_size : (a : Answer) → length (frame_bytes a.n ++ count_bytes a.status a.rank a.n a.sweeps ++ float_bytes a.relaxed_objective a.float_bound
     ++ eighth_bytes a.floor a.rounded_cost a.cost a.rounds) ≡ 60
-front_size a = simp (length-append, length_frame, length_count, length_float, length_eighth)
+unfolding frame_bytes count_bytes float_bytes eighth_bytes
+front_size a = simp (length-append, length_bytes_of)
 
 after : (a : Answer) (b out : List ℕ) → drop 60 (over (answer_bytes a b) out) ≡ take a.n b ++ drop (length (answer_bytes a b)) out
 unfolding answer_bytes

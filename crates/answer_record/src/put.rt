@@ -17,6 +17,7 @@ pub fn put_number(out: &mut [u8], at: usize, width: usize, value: u64)
 }
 
 // The numbers of `fields`, (width, value) each, one behind the other from the start on.
+#[tactic(auto, unfolding(crate::specs::Put::put), using(crate::proofs::Written::fields_within))]
 pub fn put_fields(out: &mut [u8], fields: &[(usize, u64)])
     requires { length (bytes_in fields.now) ≤ length out.old }
     ensures { out.new ≡ put out.old 0 (bytes_in fields.now) }

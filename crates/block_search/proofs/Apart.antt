@@ -4,7 +4,7 @@
 -- Assumes nothing.
 use Prim.Native.Nat.{ℕ, zero, suc, ◌≤◌, ◌<◌}
 use native.Mathlib.Omega.{arith}
-use mathlib.Core.Bool.{Bool, true, false, cond}
+use mathlib.Core.Bool.{Bool, cond}
 use mathlib.Core.List.{List}
 use mathlib.Core.Path.{◌≡◌, refl, sym, ap, ◌∙◌}
 use lib.IntN.{ℤ}
@@ -13,7 +13,7 @@ use Rattle.laws.specs.Turns.{up_to}
 use Rattle.laws.specs.Lists.{elem}
 use Rattle.laws.proofs.Made.{tabulate_ext}
 use Rattle.tables.specs.Table.{Table}
-use Rattle.block_search.specs.Blocks.{BlockCall, named, held, searched_held, fall_held, block_of, searched_from, fall_from, choice_from, block_fall, block_moves, first_choice, choice_after, house_moves}
+use Rattle.block_search.specs.Blocks.{BlockCall, held, searched_held, fall_held, block_of, searched_from, fall_from, choice_from, block_fall, block_moves, first_choice, choice_after, house_moves}
 use Rattle.block_search.specs.Moved.{named_moves, choice_after_moved, Apart, AsMoved}
 use Rattle.block_search.proofs.Named.{named_at, unnamed}
 
@@ -46,13 +46,9 @@ apart q away = record {
   unnamed_there = λ k i a e. let (j, b, w) = named_at q.pinned i e in unnamed (block_of q.sizes q.wagons k) i (λ l d v. away j k l b a d (v ∙ sym w));
 }
 
-free_same : (t s : Bool) → (t ≡ true → s ≡ false) → cond t false s ≡ s
-free_same true s e = sym (e refl)
-free_same false s e = refl
-
 module _ (q : BlockCall) (a : Apart q) where
   agree : (k i : ℕ) → k < length q.sizes → i < q.n → block_moves q.pinned q.sizes q.wagons k i ≡ named_moves q.sizes q.wagons k i
-  agree k i l d = free_same (named q.pinned i) (named (block_of q.sizes q.wagons k) i) (a.unnamed_there k i l)
+  agree k i l d = let u = a.unnamed_there k i l in grind arith
 
   same : (k : ℕ) → k ≤ length q.sizes → choice_after q k ≡ choice_after_moved q k
   same = same_choice q.n q.table q.costs q.width (block_moves q.pinned q.sizes q.wagons) (named_moves q.sizes q.wagons) (first_choice q) (length q.sizes) agree

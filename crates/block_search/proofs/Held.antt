@@ -19,8 +19,9 @@ use lib.IntN.{ℤ, pos, ◌+ℤ◌, ◌-ℤ◌}
 use lib.ListN.{length, length-append, get_or-append, get_or-eq_default}
 use lib.Seq.{get_or_at}
 use lib.Signed.{◌≤ℤ◌}
+use Rattle.std.proofs.lemmas.Bool.{cases_lt}
 use Rattle.laws.specs.Lists.{elem}
-use Rattle.laws.proofs.Made.{length_tabulate, get_d_tabulate, below_or_not}
+use Rattle.laws.proofs.Made.{length_tabulate, get_d_tabulate}
 use Rattle.std.proofs.lemmas.Int.{ints}
 use Rattle.tables.specs.Table.{Table, value_at, same_sign}
 use Rattle.tables.specs.Cost.{bit, choice_at, cost_eighths, decoded_byte, decoded}
@@ -33,14 +34,14 @@ use Rattle.sign_search.proofs.Theorems.{answer_le}
 use Rattle.sign_search.proofs.HallTheorems.{hall_mirrors, signs_cost, one_wagon, all_wagons}
 use Rattle.finalize.specs.Finalize.{choice_of, cost_of}
 use Rattle.finalize.specs.Demand3.{DifferInOne}
-use Rattle.finalize.proofs.Demand3.{decoded_byte_lem, other}
+use Rattle.finalize.proofs.Demand3.{decoded_byte_lem, alone_at_lem, other}
 use Rattle.pinned.specs.Pinned.{is_free, free_of, free_table, free_cost, held_cost, free_part, Keeps}
 use Rattle.pinned.proofs.Free.{free_map, free_once}
-use Rattle.pinned.proofs.Lifting.{length_lifted, lifted_free, lifted_held, part_choice, keeping_cost}
+use Rattle.pinned.proofs.Lifting.{length_lifted, lifted_free, lifted_held, part_choice}
 use Rattle.pinned.proofs.Costs.{reduce_cost}
 use Rattle.pinned.proofs.Halls.{reduce_hall}
 use Rattle.pinned_demand.specs.PinnedDemand3.{DifferInFree}
-use Rattle.pinned_demand.proofs.Pinned.{add_le, same_fall}
+use Rattle.pinned_demand.proofs.Pinned.{add_le, same_fall, part_cost}
 use Rattle.block_search.specs.Blocks.{held, held_signs, held_table, answer_held, searched_held, fall_held, searched_from, fall_from}
 use Rattle.block_search.specs.Clauses.{Low}
 
@@ -48,7 +49,7 @@ use Rattle.block_search.specs.Clauses.{Low}
 
 -- a byte past the end is 0
 pub low_beyond : (xs : List ℕ) (n : ℕ) → length xs ≡ n → ((i : ℕ) → i < n → elem xs i ≤ 1) → Low xs
-low_beyond xs n e h = record { low = λ i. go i (below_or_not i n) }
+low_beyond xs n e h = record { low = λ i. go i (cases_lt i n) }
   where
     go : (i : ℕ) → (i < n) ⊎ (n ≤ i) → elem xs i ≤ 1
     go i (inl l) = h i l
@@ -58,11 +59,6 @@ low_beyond xs n e h = record { low = λ i. go i (below_or_not i n) }
 plus_anchor : (x : ℕ) → pos (cond (same_sign x 0) 0 1) ≡ bit x
 plus_anchor zero = refl
 plus_anchor (suc x) = refl
-
--- ---- whole numbers
-
-fall_low : (a b : ℤ) → a ≤ℤ b → pos 0 ≤ℤ (b -ℤ a)
-fall_low a b h = omega (arith, ints)
 
 -- ---- the signs that the search starts from
 
@@ -108,10 +104,6 @@ module _ {most capacity limit n : ℕ} {h : Table} {c : ℕ → ℤ} (hall : Hal
   reduced : Hall most capacity limit f H' c'
   reduced = reduce_hall hall states
 
-  answer_at : (k : ℕ) → k < f → choice_at (choice_of f answer) k ≡ decoded f answer k
-  unfolding choice_of
-  answer_at k l = ap bit (get_d_tabulate (decoded_byte f answer) f k 0 l) ∙ (decoded_byte_lem f answer k).1
-
   answer_low : (k : ℕ) → k < f → elem (choice_of f answer) k ≤ 1
   unfolding choice_of
   answer_low k l = rw (get_d_tabulate (decoded_byte f answer) f k 0 l) (decoded_byte_lem f answer k).0
@@ -121,12 +113,12 @@ module _ {most capacity limit n : ℕ} {h : Table} {c : ℕ → ℤ} (hall : Hal
   unfolding held_table
   start_costs keeps =
       ap (λ z. z +ℤ K) (signs_cost reduced (held_signs n states b) ∙ cost_ext f (value_at H') c' (start_decodes n states b))
-      ∙ reduce_cost n h c states (free_part n states b) long (hall_symmetric hall) ∙ sym (keeping_cost n h c states b long keeps)
+      ∙ part_cost hall states long b keeps
 
   answer_costs : objective_in (held_table n h c states) answer +ℤ K ≡ cost_of n h c (searched_held n h c W states b)
   unfolding held_table searched_held
   answer_costs =
-      ap (λ z. z +ℤ K) (signs_cost reduced answer ∙ cost_ext f (value_at H') c' (λ k l. sym (answer_at k l)))
+      ap (λ z. z +ℤ K) (signs_cost reduced answer ∙ cost_ext f (value_at H') c' (λ k l. sym (alone_at_lem f answer k l)))
       ∙ reduce_cost n h c states (choice_of f answer) long (hall_symmetric hall)
 
   -- the theorem: the full cost falls by exactly the fall
@@ -139,9 +131,7 @@ module _ {most capacity limit n : ℕ} {h : Table} {c : ℕ → ℤ} (hall : Hal
   -- which is never negative
   pub held_up : pos 0 ≤ℤ fall_held n h c W states b
   unfolding fall_held held_table answer_held
-  held_up =
-      fall_low (objective_in (held_table n h c states) answer) (objective_in (held_table n h c states) (held_signs n states b))
-      (answer_le (hall_mirrors reduced) (held_signs n states b) (start_long n states b) W some)
+  held_up = omega (arith, ints, answer_le (hall_mirrors reduced) (held_signs n states b) (start_long n states b) W some)
 
   -- a held wagon stays, and a free one is where the answer has it
   pub held_stays : (i : ℕ) → i < n → is_free states i ≡ false → elem (searched_held n h c W states b) i ≡ elem states i
@@ -168,15 +158,14 @@ module _ {most capacity limit n : ℕ} {h : Table} {c : ℕ → ℤ} (hall : Hal
 
   -- free wagon k of the choice found
   this : (k : ℕ) → k < f → decoded f answer k ≡ choice_at (searched_held n h c W states b) (elem (free_of n states) k)
-  this k l = sym (answer_at k l) ∙ ap bit (sym (free_moves k l))
+  this k l = sym (alone_at_lem f answer k l) ∙ ap bit (sym (free_moves k l))
 
   -- what keeps the held wagons and doesn't cost less in its free part doesn't cost less
   beside : (b' : List ℕ) → Keeps n states b' → cost_eighths f (value_at H') c' (decoded f answer) ≤ℤ cost_eighths f (value_at H') c' (choice_at (free_part n states b'))
       → cost_of n h c (searched_held n h c W states b) ≤ℤ cost_of n h c b'
   unfolding held_table
   beside b' keeps less =
-      subst₂ ◌≤ℤ◌ (ap (λ z. z +ℤ K) (sym (signs_cost reduced answer)) ∙ answer_costs)
-      (reduce_cost n h c states (free_part n states b') long (hall_symmetric hall) ∙ sym (keeping_cost n h c states b' long keeps))
+      subst₂ ◌≤ℤ◌ (ap (λ z. z +ℤ K) (sym (signs_cost reduced answer)) ∙ answer_costs) (part_cost hall states long b' keeps)
       (add_le (cost_eighths f (value_at H') c' (decoded f answer)) (cost_eighths f (value_at H') c' (choice_at (free_part n states b'))) K less)
 
   -- no choice that differs in one free wagon costs less

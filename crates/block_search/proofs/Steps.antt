@@ -16,7 +16,7 @@ use Rattle.laws.proofs.Made.{length_tabulate, over_next, over_all}
 use Rattle.std.proofs.lemmas.Int.{fits_signed_from_abs}
 use Rattle.laws.proofs.Integer.{abs_add, abs_neg}
 use Rattle.limits.specs.Limits.{most_wagons, most_entries, most_magnitude, most_signs, most_sign_entries, most_sign_magnitude}
-use Rattle.tables.specs.Table.{Table, table_of, Lent, InRange, objective_of, sign_at}
+use Rattle.tables.specs.Table.{Table, table_of, Lent, objective_of, sign_at}
 use Rattle.tables.specs.Check.{Hall, Accepted}
 use Rattle.tables.specs.declared.judged.JudgedHall.{JudgedHall}
 use Rattle.tables.proofs.Checks.{hall_accepted}
@@ -42,18 +42,18 @@ use Rattle.block_search.specs.Clauses.{Low, start_signs}
 
 -- ---- the signs that the search starts from
 
+pub start_size : (free b : List ℕ) → length (start_signs free b) ≡ suc (length free)
+unfolding start_signs
+start_size free b = length-append (tabulate (λ k. elem b (elem free k)) (length free)) (0 ∷ []) ∙ ap (λ i. i + 1) (length_tabulate (λ k. elem b (elem free k)) (length free)) ∙ add-one (length free)
+
 pub signs_made : (free b signs₀ : List ℕ) {k : ℕ} {signs : List ℕ} → k ≡ length free → signs ≡ over (tabulate (λ j. elem b (elem free j)) k) signs₀
     → length signs₀ ≡ suc (length free) → set signs k 0 ≡ start_signs free b
 unfolding start_signs
 signs_made free b signs₀ e s l =
     let front = tabulate (λ j. elem b (elem free j)) (length free) in
     let m : length front ≡ length free = length_tabulate (λ j. elem b (elem free j)) (length free) in
-    let q : length signs₀ ≡ length (front ++ (0 ∷ [])) = l ∙ sym (length-append front (0 ∷ []) ∙ ap (λ i. i + 1) m ∙ add-one (length free)) in
+    let q : length signs₀ ≡ length (front ++ (0 ∷ [])) = l ∙ sym (start_size free b) in
     rw (s, e) (subst (λ (i : ℕ). set (over front signs₀) i 0 ≡ front ++ (0 ∷ [])) m (over_next front 0 0 signs₀ (omega (arith, m, l)) ∙ over_all (front ++ (0 ∷ [])) signs₀ q))
-
-pub start_size : (free b : List ℕ) → length (start_signs free b) ≡ suc (length free)
-unfolding start_signs
-start_size free b = length-append (tabulate (λ k. elem b (elem free k)) (length free)) (0 ∷ []) ∙ ap (λ i. i + 1) (length_tabulate (λ k. elem b (elem free k)) (length free)) ∙ add-one (length free)
 
 pub start_binary : (free : List ℕ) {b : List ℕ} → Low b → Binary (start_signs free b)
 unfolding start_signs
@@ -66,9 +66,6 @@ pub differ_fits : {m : ℕ} {t : Table} → Accepted most_signs most_sign_entrie
 differ_fits {t = t} ok x y p q =
     rw (p, q) (fits_signed_from_abs w64 (objective_in t x -ℤ objective_in t y)
     (omega (arith, abs_add (objective_in t x) (neg_ℤ (objective_in t y)), abs_neg (objective_in t y), objective_abs (accepted_mirrors ok) ok.magnitude x, objective_abs (accepted_mirrors ok) ok.magnitude y)))
-
-pub range_at : {m len : ℕ} {t : Table} → len ≡ m → InRange m t → InRange len t
-range_at e r = rw e r
 
 pub objective_is : (t : Table) (x : List ℕ) → objective_of t (sign_at x) ≡ objective_in t x
 unfolding objective_in
@@ -83,13 +80,6 @@ from_made {t = t} ok W f start signs answer found found' p q e by d room =
       to_z-of_z (differ_fits ok signs answer p q) ∙ ap₂ ◌-ℤ◌ (p ∙ ap (objective_in t) e) (q ∙ ap (objective_in t) is),
       d ∙ fill_choice f answer found room ∙ ap (λ (x : List ℕ). over (choice_of f x) found) is,
     )
-
--- and on the sign table of (H, c)
-pub table_is : {t t' : Table} → t ≡ t' → (W f : ℕ) (start found found' : List ℕ) (fall : ℤ)
-    → (fall ≡ objective_in t start -ℤ objective_in t (beam_search t W start).answer) × (found' ≡ over (choice_of f (beam_search t W start).answer) found)
-    → (fall ≡ objective_in t' start -ℤ objective_in t' (beam_search t' W start).answer) × (found' ≡ over (choice_of f (beam_search t' W start).answer) found)
-table_is e W f start found found' fall p =
-    subst (λ (t : Table). (fall ≡ objective_in t start -ℤ objective_in t (beam_search t W start).answer) × (found' ≡ over (choice_of f (beam_search t W start).answer) found)) e p
 
 pub lent_front : (rows cols : List ℕ) (values : List ℤ) (k : ℕ) → k ≤ length rows → k ≤ length cols → k ≤ length values → Lent k (take k rows) (take k cols) (take k values)
 lent_front rows cols values k r q v =

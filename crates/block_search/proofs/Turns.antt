@@ -6,17 +6,16 @@ use native.Mathlib.Numerals.{add-one}
 use native.Mathlib.Omega.{arith}
 use mathlib.Core.Bool.{Bool, true, false, cond}
 use mathlib.Core.List.{List, [], ◌∷◌}
-use mathlib.Core.Path.{◌≡◌, refl, sym, ap, subst, ◌∙◌}
-use lib.IntN.{ℤ, pos, ◌-ℤ◌}
+use mathlib.Core.Path.{◌≡◌, refl, sym, ap, ◌∙◌}
+use lib.IntN.{ℤ, ◌-ℤ◌}
 use lib.ListN.{length, take, drop}
 use lib.Seq.{length-take-le, get_or-take}
-use lib.Signed.{◌≤ℤ◌}
 use Rattle.std.specs.List.{sum_by}
 use Rattle.std.proofs.lemmas.List.Sums.{sum_by-cons}
 use Rattle.laws.specs.Sum.{total}
 use Rattle.laws.specs.Turns.{up_to}
 use Rattle.laws.specs.Lists.{elem, tabulate, over}
-use Rattle.laws.proofs.Made.{tabulate_get_d, length_tabulate, over_all}
+use Rattle.laws.proofs.Made.{tabulate_take, length_tabulate, over_all}
 use Rattle.laws.proofs.Sums.{total_le}
 use Rattle.laws.proofs.Totals.{total_front}
 use Rattle.laws.proofs.UpTo.{up_to_next}
@@ -25,7 +24,7 @@ use Rattle.tables.specs.Table.{Table}
 use Rattle.tables.specs.Check.{Hall}
 use Rattle.reduced.specs.Indices.{put_each, Once}
 use Rattle.reduced.proofs.Put.{Last, found, none, put_last, length_put}
-use Rattle.block_search.specs.Blocks.{BlockCall, named, held, searched_held, fall_held, falls_of, block_of, block_moves, searched_from, fall_from, choice_from, block_fall, pinned_choice, first_choice, choice_after, fall_of, house_moves, last_choice}
+use Rattle.block_search.specs.Blocks.{BlockCall, named, block_of, block_moves, searched_from, fall_from, choice_from, block_fall, pinned_choice, first_choice, choice_after, fall_of, house_moves}
 use Rattle.block_search.specs.Clauses.{Low, PinsFit}
 use Rattle.block_search.specs.Call.{call_cost, Cleared}
 use Rattle.block_search.proofs.Named.{is_named}
@@ -34,9 +33,9 @@ use Rattle.block_search.proofs.Held.{low_beyond, fall_is, fall_up, stays, one_be
 
 -- ---- where a block lies
 
-pub block_ends : (f : ℕ → ℕ) (k n : ℕ) → k < n → total k f + f k ≤ total n f
+pub block_ends : (sizes : List ℕ) {k at size lent : ℕ} → k < length sizes → total (length sizes) (elem sizes) ≤ lent → at ≡ total k (elem sizes) → size ≡ elem sizes k → at + size ≤ lent
 unfolding total
-block_ends f k n h = total_le n (suc k) f h
+block_ends sizes {k} h room a e = omega (arith, total_le (length sizes) (suc k) (elem sizes) h, room, a, e)
 
 -- all sizes in one sum
 pub sizes_summed : (sizes : List ℕ) → sum_by (λ x. x) sizes ≡ total (length sizes) (elem sizes)
@@ -127,15 +126,11 @@ pub first_made : (n : ℕ) (pinned stores present b : List ℕ) {mid out : List 
     → out ≡ put_each (elem pinned) (elem stores) (length pinned) mid → out ≡ pinned_choice n pinned stores present
 unfolding pinned_choice
 first_made n pinned stores present b long s e g =
-    let copied : tabulate (elem present) n ≡ take n present = sym (tabulate_get_d (take n present) n 0 (elem present) (length-take-le n present long) (λ j h. get_or-take n present j 0 h)) in
-    g ∙ ap (put_each (elem pinned) (elem stores) (length pinned)) (e ∙ over_all (tabulate (elem present) n) b (s ∙ sym (length_tabulate (elem present) n)) ∙ copied)
+    g ∙ ap (put_each (elem pinned) (elem stores) (length pinned)) (e ∙ over_all (tabulate (elem present) n) b (s ∙ sym (length_tabulate (elem present) n)) ∙ tabulate_take present n 0 long)
 
 -- ---- the theorem
 
--- a wagon that moves isn't pinned; of the house, one that doesn't is
-fallen : (a b f : ℤ) → a -ℤ b ≡ f → pos 0 ≤ℤ f → b ≤ℤ a
-fallen a b f e h = omega (arith, ints)
-
+-- who moves with a block
 abbrev moved : BlockCall → ℕ → ℕ → Bool
 moved q = block_moves q.pinned q.sizes q.wagons
 
@@ -191,8 +186,12 @@ module _ {most capacity limit : ℕ} (q : BlockCall) (hall : Hall most capacity 
     keeps = kept;
     keeps_last = λ j l. stays q.n (house_moves q) (choice_after q end) (low end) hall q.width some (elem q.pinned j) (pin_there j l)
         (ap (λ (t : Bool). cond t false true) (pin_named j l)) ∙ kept end j l;
-    house_falls = fallen (call_cost q (choice_after q end)) (call_cost q (last_choice q)) _ (fall_is q.n (house_moves q) (choice_after q end) (low end) hall q.width some)
-        (fall_up q.n (house_moves q) (choice_after q end) (low end) hall q.width some);
+    house_falls = omega (
+      arith,
+      ints,
+      fall_is q.n (house_moves q) (choice_after q end) (low end) hall q.width some,
+      fall_up q.n (house_moves q) (choice_after q end) (low end) hall q.width some,
+    );
     one_wagon = λ b' d e. one_better q.n (house_moves q) (choice_after q end) (low end) hall q.width some b' d (ap (λ (t : Bool). cond t false true) e);
     all_wagons = λ b' d. all_better q.n (house_moves q) (choice_after q end) (low end) hall q.width some b'
         (λ i l e. d.differ i l (grind arith)) (λ i l e. d.stay i l (grind arith));
@@ -200,21 +199,3 @@ module _ {most capacity limit : ℕ} (q : BlockCall) (hall : Hall most capacity 
     long = long_after q.n (house_moves q) (choice_after q end) (low end) hall q.width some;
     bytes = (low_after q.n (house_moves q) (choice_after q end) (low end) hall q.width some).low;
   }
-
--- ---- the code
-
--- the states of a search, cut from their array
-pub moving_made : (n : ℕ) (h : Table) (c : ℕ → ℤ) (W : ℕ) (moves : ℕ → Bool) (b states b' : List ℕ) (r : ℤ) → states ≡ held n moves b
-    → (r ≡ fall_held n h c W states b) × (b' ≡ searched_held n h c W states b) → (r ≡ fall_from n h c W moves b) × (b' ≡ searched_from n h c W moves b)
-moving_made n h c W moves b states b' r e p = subst (λ (s : List ℕ). (r ≡ fall_held n h c W s b) × (b' ≡ searched_held n h c W s b)) e p
-
--- the blocks from the first choice, and then the house
-pub clear_made : (q : BlockCall) (b₁ b₂ b₃ : List ℕ) (falls falls' : List ℤ) → b₁ ≡ first_choice q
-    → b₂ ≡ choice_from q.n q.table q.costs q.width (moved q) b₁ (length q.sizes)
-    → falls' ≡ over (tabulate (block_fall q.n q.table q.costs q.width (moved q) b₁) (length q.sizes)) falls
-    → b₃ ≡ searched_from q.n q.table q.costs q.width (house_moves q) b₂ → (b₃ ≡ last_choice q) × (falls' ≡ over (falls_of q) falls)
-clear_made q b₁ b₂ b₃ falls falls' e f g k = (
-  k ∙ ap (λ (x : List ℕ). searched_from q.n q.table q.costs q.width (house_moves q) x)
-      (f ∙ ap (λ (x : List ℕ). choice_from q.n q.table q.costs q.width (moved q) x (length q.sizes)) e),
-  g ∙ ap (λ (x : List ℕ). over (tabulate (block_fall q.n q.table q.costs q.width (moved q) x) (length q.sizes)) falls) e,
-)

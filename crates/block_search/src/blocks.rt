@@ -58,6 +58,7 @@ impl<'a> Moving<'a> {
     }
 
     // The states of n wagons.
+    #[tactic(auto, unfolding(crate::specs::Blocks::held, laws::specs::Lists::tabulate))]
     fn hold(self, n: usize, b: &[u8], states: &mut [u8])
         requires { (n ≤ length b.now) × (n ≤ length states.old) }
         ensures { states.new ≡ over (held n (moved_by self.entry.pinned.now self.entry.block) b.now) states.old }
@@ -86,6 +87,7 @@ fn search_moving(
 }
 
 // Each block in turn, from b, which takes the choice after the last.
+#[tactic(auto, unfolding(crate::specs::Blocks::choice_from, laws::specs::Lists::tabulate, laws::specs::Sum::total, laws::specs::Turns::up_to))]
 fn search_blocks(
     hall: JudgedHall,
     pinned: &[u16],

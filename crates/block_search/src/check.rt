@@ -65,6 +65,7 @@ impl<'a> LongRequest<'a> {
     }
 
     // Whether a block has a wagon out of range or twice.
+    #[tactic(auto, unfolding(crate::specs::Numbers::bad_block, laws::specs::Lists::any_below, laws::specs::Sum::total))]
     fn bad_block(self, blocks: WholeBlocks) -> bool
         ensures { result ≡ bad_block self.entry.n blocks.entry.lent.sizes.now blocks.entry.lent.wagons.now }
     {

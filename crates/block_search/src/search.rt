@@ -21,6 +21,7 @@ use tables::judged::JudgedHall;
 use tables::objective::{obj_rounded, qubo_binary_from_sign_solution};
 
 // The bytes of the free wagons of b, then the anchor's, which is +.
+#[tactic(auto, unfolding(laws::specs::Lists::tabulate))]
 fn start_signs(free: &[u16], b: &[u8], signs: &mut [u8])
     requires { Within (length b.now) free.now × (length signs.old ≡ suc (length free.now)) }
     ensures { signs.new ≡ start_signs free.now b.now }

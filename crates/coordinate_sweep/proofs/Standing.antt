@@ -1,4 +1,4 @@
--- Rows left as they were: of a pair, of the rows up to one, and never more than there are. Assumes nothing.
+-- Rows left as they were, of the rows up to one: after one row more and after two, and never more than there are. Assumes nothing.
 use mathlib.Core.Path.{◌≡◌, refl, ◌∙◌}
 use mathlib.Core.Bool.{Bool, true, false, cond}
 use mathlib.Core.List.{List}
@@ -14,21 +14,9 @@ use Rattle.factor.specs.Norms.{squared_norm}
 use Rattle.coordinate_sweep.specs.Sweep.{wrote, update_row, gradient_at, row_to, row_by, swept_row, sweep_to, norm_at, stands, standing_to, meets_next}
 use Rattle.coordinate_sweep.proofs.TwoRows.{gradient_at_away, length_updated, sweep_one}
 
--- ---- of one row, and of two
-
 one_at_most : (b : Bool) → cond b 0 1 ≤ 1
 one_at_most true = omega arith
 one_at_most false = omega arith
-
-pub left_few : {n : ℕ} (b : Bool) → n ≡ cond b 0 1 → n ≤ 1
-left_few b e = rw e (one_at_most b)
-
-pub both_left : {p q : ℕ} {f s : Bool} (a b x y : Float) → a ≡ x → b ≡ y → f ≡ wrote a → s ≡ wrote b → p ≡ cond f 0 1 → q ≡ cond s 0 1
-    → p + q ≡ stands x + stands y
-both_left a b x y ea eb ef es ep eq = rw (ep, eq, ef, es, ea, eb) refl
-
-pub none_left : (a b x y : Float) → a ≡ x → b ≡ y → wrote a ≡ true → wrote b ≡ true → 0 ≡ stands x + stands y
-none_left a b x y ea eb wa wb = rw (← ea, ← eb, wa, wb) refl
 
 module _ (cols : List ℕ) (values : List Float) (starts : List ℕ) (rank : ℕ) (beta : Float) where
   -- a row that doesn't see the one before it has the norm that it had before that was made anew
@@ -38,8 +26,6 @@ module _ (cols : List ℕ) (values : List Float) (starts : List ℕ) (rank : ℕ
   norm_away xs i l none =
       rw (gradient_at_away cols values starts xs (update_row beta (gradient_at cols values starts rank xs i) (sqrt_of (squared_norm (gradient_at cols values starts rank xs i))) (row_of rank xs i)) rank i l
       (length_updated _ _ _ (row_of rank xs i) ∙ length_row_of rank i xs l) none) refl
-
-  -- ---- of the rows up to one
 
   pub standing_one : (factor : List Float) (i : ℕ) (xs : List Float) → xs ≡ sweep_to cols values starts rank beta factor i
       → standing_to cols values starts rank beta factor (i + 1) ≡ standing_to cols values starts rank beta factor i + stands (norm_at cols values starts rank xs i)
@@ -62,6 +48,3 @@ module _ (cols : List ℕ) (values : List Float) (starts : List ℕ) (rank : ℕ
   standing_few factor zero = omega arith
   standing_few factor (suc i) =
       omega (arith, standing_few factor i, one_at_most (wrote (norm_at cols values starts rank (sweep_to cols values starts rank beta factor i) i)))
-
-  pub standing_within : (factor : List Float) (i k : ℕ) → k ≡ standing_to cols values starts rank beta factor i → k ≤ i
-  standing_within factor i k e = rw e (standing_few factor i)

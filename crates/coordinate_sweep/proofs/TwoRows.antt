@@ -16,16 +16,16 @@ use lib.ListN.{length, get_or, take, drop, length-append, take-append-drop, get_
 use lib.Seq.{take_at, drop_at, drop-drop, get_or-take, get_or-drop, get_or-append-add, length-take-le}
 use borrow.Author.Tests.{eq-eqb}
 use lib.Ieee
+use Rattle.std.proofs.lemmas.Bool.{cases_lt}
 use Rattle.laws.specs.Turns.{up_to}
 use Rattle.laws.specs.Rows.{row_of, set_row}
 use Rattle.laws.specs.Lists.{any_below}
 use Rattle.laws.proofs.Any.{below_false}
 use Rattle.laws.proofs.MapFirst.{length_map_first}
-use Rattle.laws.proofs.Made.{tabulate_ext, below_or_not}
+use Rattle.laws.proofs.Made.{tabulate_ext}
 use Rattle.laws.proofs.Parts.{row_within, length_row_of}
 use Rattle.ieee.specs.Floats.{◌/ᶠ◌, zero64, one64}
 use Rattle.ieee.specs.Sqrt.{sqrt_of}
-use Rattle.factor.specs.Shapes.{Shaped}
 use Rattle.factor.specs.Norms.{squared_norm}
 use Rattle.factor.specs.Vectors.{scaled}
 use Rattle.factor.specs.Columns.{sum_to_column}
@@ -82,7 +82,7 @@ module _ {A : Type 0} (rank : ℕ) where
 
   pub get_d_other : (i k j : ℕ) (xs u : List A) (d : A) → i * rank + rank ≤ length xs → length u ≡ rank → (k ≡ i → ⊥) → j < rank
       → get_or (set_row rank xs i u) (k * rank + j) d ≡ get_or xs (k * rank + j) d
-  get_d_other i k j xs u d l n h m = go (below_or_not k i)
+  get_d_other i k j xs u d l n h m = go (cases_lt k i)
     where
       behind : i < k → get_or (set_row rank xs i u) (k * rank + j) d ≡ get_or xs (k * rank + j) d
       behind b =
@@ -92,9 +92,6 @@ module _ {A : Type 0} (rank : ℕ) where
       go : (k < i) ⊎ (i ≤ k) → get_or (set_row rank xs i u) (k * rank + j) d ≡ get_or xs (k * rank + j) d
       go (inl b) = get_d_before i xs u (k * rank + j) d (omega arith) (omega (arith, row_within k i rank b))
       go (inr b) = behind (omega arith)
-
-pub first_within : (i rank n : ℕ) → (i + 1) * rank + rank ≤ n → i * rank + rank ≤ n
-first_within i rank n h = let s : (i + 1) * rank ≡ i * rank + rank = rw add-one (suc-mul i rank) in omega arith
 
 -- both rows moved by f and g, then each made by m of itself: each row by itself, one after the other
 pub pair_moved : (rank i : ℕ) (f g : List Float → List Float) (m : List Float → List Float → List Float) (xs ys zs : List Float)
@@ -194,13 +191,6 @@ pair_moves rank i g h a b beta xs zs ea eb w e =
     ∙ row_moved rank _ (i + 1) h b beta w.1 w.2
     ∙ ap (λ (t : List Float). row_to rank t (i + 1) (update_row beta h b)) (row_moved rank xs i g a beta w.0 w.2))
 
-pub pair_updates : (rank i : ℕ) (g h : List Float) (a b beta : Float) (xs ys zs : List Float)
-    → a ≡ sqrt_of (squared_norm g) → b ≡ sqrt_of (squared_norm h)
-    → ys ≡ row_to rank xs i (update_row beta g a) → zs ≡ row_to rank ys (i + 1) (update_row beta h b)
-    → zs ≡ row_by beta h rank (row_by beta g rank xs i) (i + 1)
-unfolding row_by
-pair_updates rank i g h a b beta xs ys zs ea eb ey ez = rw (← ea, ← eb, ← ey) ez
-
 length_picked : (s t : Bool) (beta : Float) (g : List Float) (inv : Float) (r : List Float) → length (pick_row s t g inv beta r) ≡ length r
 unfolding exact_row
 length_picked false t beta g inv r = refl
@@ -235,9 +225,3 @@ pub sweep_two : (cols : List ℕ) (values : List Float) (starts : List ℕ) (ran
 sweep_two cols values starts rank beta factor i xs ys e h =
     let s : i + 2 ≡ i + 1 + 1 = omega arith in
     rw s (sweep_one cols values starts rank beta factor (i + 1) _ ys (sweep_one cols values starts rank beta factor i xs _ e refl) h)
-
--- what a sweep asks stays so while the factor keeps its length
-pub shaped_still : (cols : List ℕ) (values : List Float) (starts : List ℕ) (before now : List Float) (m rank : ℕ)
-    → Shaped cols values starts before m rank → length now ≡ length before → Shaped cols values starts now m rank
-shaped_still cols values starts before now m rank s e =
-    record { paired = s.paired; started = s.started; rising = s.rising; ended = s.ended; columns = s.columns; whole = e ∙ s.whole }

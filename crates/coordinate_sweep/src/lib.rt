@@ -71,6 +71,7 @@ fn normalize(row: &mut [f64])
 }
 
 // The row by its gradient g, of norm `norm`; a gradient too small leaves it. Whether it was written.
+#[tactic(auto, unfolding(crate::specs::Sweep::update_row))]
 fn update_row(row: &mut [f64], g: &[f64], norm: f64, beta: f64) -> bool
     requires { length row.old ≡ length g.now }
     ensures value { result ≡ wrote norm }
@@ -100,6 +101,7 @@ fn update_at(factor: &mut [f64], g: &[f64], i: usize, norm: f64, beta: f64) -> b
 }
 
 // The gradient of row i.
+#[tactic(auto, unfolding(crate::specs::Sweep::gradient_at))]
 fn gradient_at(table: Prepared, factor: &[f64], i: usize, g: &mut [f64])
     requires { RowFits table.cols.now table.values.now table.starts.now factor.now (length g.old) i }
     ensures { g.new ≡ gradient_at table.entry.cols.now table.entry.values.now table.entry.starts.now (length g.old) factor.now i }
@@ -108,6 +110,7 @@ fn gradient_at(table: Prepared, factor: &[f64], i: usize, g: &mut [f64])
 }
 
 // The gradients of rows i and i + 1. `i < 65536` here and in `sweep_pair`: see the head of pairs.rt.
+#[tactic(auto, unfolding(crate::specs::Sweep::gradient_at))]
 fn gradients_at(table: Prepared, factor: &[f64], i: usize, g: &mut [f64], h: &mut [f64])
     requires row_fits { RowFits table.cols.now table.values.now table.starts.now factor.now (length g.old) i }
     requires row_fits_2 { RowFits table.cols.now table.values.now table.starts.now factor.now (length g.old) (i + 1) }
@@ -124,6 +127,7 @@ fn gradients_at(table: Prepared, factor: &[f64], i: usize, g: &mut [f64], h: &mu
 }
 
 // Row i of the factor anew; g is left at its gradient. Whether the row was written.
+#[tactic(auto, unfolding(crate::specs::Sweep::swept_row, crate::specs::Sweep::row_by))]
 fn sweep_row(table: Prepared, factor: &mut [f64], g: &mut [f64], i: usize, beta: f64) -> bool
     requires { RowFits table.cols.now table.values.now table.starts.now factor.old (length g.old) i }
     ensures value { result ≡ wrote (sqrt_of (squared_norm (gradient_at table.entry.cols.now table.entry.values.now table.entry.starts.now (length g.old) factor.old i))) }
@@ -137,6 +141,7 @@ fn sweep_row(table: Prepared, factor: &mut [f64], g: &mut [f64], i: usize, beta:
 
 // Rows i and i + 1 of the factor anew, where no entry of the second lies in column i; g and h are left at their gradients. How many of the two
 // were left.
+#[tactic(auto, using(crate::proofs::TwoRows::rows_swept, crate::proofs::Standing::norm_away))]
 fn sweep_pair(
     table: Prepared,
     factor: &mut [f64],
@@ -159,6 +164,7 @@ fn sweep_pair(
 }
 
 // Row i anew, and row i + 1 with it where that can be.
+#[tactic(auto, using(crate::proofs::TwoRows::sweep_one, crate::proofs::TwoRows::sweep_two, crate::proofs::Standing::standing_one, crate::proofs::Standing::standing_two, factor::proofs::Shaping::shaped_row))]
 fn sweep_on(
     table: Prepared,
     m: usize,
@@ -186,6 +192,7 @@ fn sweep_on(
 }
 
 // One sweep over the m rows, the diagonal left out; how many rows it left as they were. The row g is left cleared; what is left in h is free.
+#[tactic(auto, using(crate::proofs::Standing::standing_few), unfolding(crate::specs::Sweep::sweep_to, crate::specs::Sweep::standing_to, laws::specs::Turns::up_to))]
 pub fn coordinate_sweep(
     table: Prepared,
     m: usize,

@@ -76,6 +76,7 @@ fn moves(a: f64, b: f64, beta: f64) -> bool
 }
 
 // Rows i and i + 1 by their gradients g and h; how many of the two were left.
+#[tactic(auto, using(crate::proofs::TwoRows::pair_moves), unfolding(crate::specs::Sweep::row_by))]
 pub fn renew_pair(factor: &mut [f64], g: &[f64], h: &[f64], i: usize, beta: f64) -> usize
     requires { ((i + 1) * length g.now + length g.now ≤ length factor.old) × (length h.now ≡ length g.now) × (i < 65536) }
     ensures factor_after { factor.new ≡ row_by beta h.now (length g.now) (row_by beta g.now (length g.now) factor.old i) (i + 1) }
@@ -101,6 +102,7 @@ fn found_by(found: bool, column: u16, i: u16) -> bool
 
 // Whether one of the columns is i. All are looked at, in vectors: `contains` and `any` leave at the first hit and look at one by one, which took
 // 2.2 µs a sweep of 128 rows of 35 entries in the place of 1.1 (the two loops in C, clang -O2), and a sweep may take no more than it did.
+#[tactic(auto, using(laws::proofs::Any::below_next), unfolding(laws::specs::Lists::any_below))]
 fn meets(cols: &[u16], i: u16) -> bool
     ensures { result ≡ any_below (length cols.now) (λ e. eqb (get_or cols.now e 0) i) }
 {
@@ -113,6 +115,7 @@ fn meets(cols: &[u16], i: u16) -> bool
 
 // Whether there is a row i + 1 none of whose entries lies in column i. `i as u16` after the test: tried as `u16::try_from(i)`, which proves with no answer, but takes 1.014 of
 // the instructions of a sweep at rank 4 (1.0004 at rank 17), and a sweep may take no more than it did.
+#[tactic(auto, unfolding(crate::specs::Sweep::meets_next))]
 pub fn next_apart(cols: &[u16], starts: &[usize], m: usize, i: usize) -> bool
     requires { (m < length starts.now) × ((k : ℕ) → k < m → get_or starts.now k 0 ≤ get_or starts.now (k + 1) 0) × ((k : ℕ) → k < m → get_or starts.now (k + 1) 0 ≤ length cols.now) × (i < m) }
     ensures { result ≡ true → (i + 1 < m) × (i < 65536) × (meets_next cols.now starts.now i ≡ false) }

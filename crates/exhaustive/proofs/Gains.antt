@@ -12,7 +12,7 @@ use lib.Dec.{eqb}
 use lib.IntN.{ℤ, pos, nat_abs, ◌+ℤ◌, ◌*ℤ◌, *ℤ_comm, *ℤ-zero, zero-*ℤ, +ℤ_idr}
 use Rattle.laws.specs.Sum.{sum, sum₂, total, only}
 use Rattle.std.proofs.lemmas.Int.{unsigned_abs-mul}
-use Rattle.laws.proofs.Integer.{parts, differences, ring, abs_add, times_one}
+use Rattle.laws.proofs.Integer.{parts, differences, ring, mul_add, abs_add, times_one}
 use Rattle.laws.proofs.Sums.{sum_ext, sum_add, sum_zero, sum_only, sum_bounded, sum₂_ext, sum₂_add, sum₂_swap, sum₂_zero}
 use Rattle.limits.specs.Limits.{most_magnitude, most_sign_magnitude}
 use Rattle.tables.specs.Table.{Table, Symmetric, InRange, magnitude_of, value_at}
@@ -50,11 +50,8 @@ module _ (n : ℕ) (H : ℕ → ℕ → ℤ) (c : ℕ → ℤ) where
     -- the sum of a row's values that are chosen
     along : (q : ℕ → ℤ) → sum n (λ i. q i *ℤ b' i) ≡ sum n (λ i. q i *ℤ b i) +ℤ q j
     along q =
-        sum_ext n _ _ (λ i l. ap (λ z. q i *ℤ z) (set i l) ∙ apart (q i) (b i) (only j i (pos 1)) ∙ ap (λ z. q i *ℤ b i +ℤ z) (only_right j i (q i)))
+        sum_ext n _ _ (λ i l. ap (λ z. q i *ℤ z) (set i l) ∙ mul_add (q i) (b i) (only j i (pos 1)) ∙ ap (λ z. q i *ℤ b i +ℤ z) (only_right j i (q i)))
         ∙ sum_add n (λ i. q i *ℤ b i) (λ i. only j i (q i)) ∙ ap (λ z. sum n (λ i. q i *ℤ b i) +ℤ z) (sum_only n j q h)
-      where
-        apart : (p y z : ℤ) → p *ℤ (y +ℤ z) ≡ p *ℤ y +ℤ p *ℤ z
-        apart p y z = rw (parts p, parts y, parts z) (simp differences (omega ring))
 
     pub set_gain : (i : ℕ) → gain b' i ≡ gain b i +ℤ pos 8 *ℤ H i j
     unfolding gain

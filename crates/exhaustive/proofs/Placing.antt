@@ -45,9 +45,6 @@ module _ (rows cols : List ℕ) (values : List ℤ) (k : ℕ) (grid : List ℤ) 
     at = λ i j l m. go i j l m (ℕ_discrete i a) (ℕ_discrete j b) ∙ sym (sum_more k (share (table_of 0 rows cols values) i j));
   }
     where
-      t : Table
-      t = table_of 0 rows cols values
-
       other : (i j : ℕ) → i < 16 → j < 16 → ((i * 16 + j ≡ a * 16 + b) → ⊥) → only (elem rows k) i (only (elem cols k) j (elem_z values k)) ≡ pos 0
           → elem_z (set grid (a * 16 + b) (elem_z grid (a * 16 + b) +ℤ v)) (i * 16 + j) ≡ sum k (share (table_of 0 rows cols values) i j) +ℤ only (elem rows k) i (only (elem cols k) j (elem_z values k))
       other i j l m d z =

@@ -10,6 +10,7 @@ use lib.Pow.{pow-add, pow_mono}
 use lib.IntN.{ℤ, pos, neg_ℤ, nat_abs, ◌+ℤ◌, ◌*ℤ◌}
 use lib.Signed.{lt_z}
 use Rattle.laws.specs.Lists.{elem_z}
+use Rattle.laws.proofs.Any.{cond_same}
 use mir.Syntax.{w64}
 use mir.Val.{SFits}
 use mir.Facts.{to_z-of_z}
@@ -28,17 +29,13 @@ use Rattle.exhaustive.proofs.Gains.{gain_of, zero_cost, zero_gain, digit_shifts,
 
 -- ---- the best so far
 
-same : {A : Type 0} (t : Bool) (x : A) → cond t x x ≡ x
-same true x = refl
-same false x = refl
-
 -- one more choice
 pub best_next : (f : ℕ → ℤ) (k : ℕ) (least : ℤ) (number : ℕ) → Best f k least number
     → Best f (k + 1) (cond (lt_z (f k) least) (f k) least) (cond (lt_z (f k) least) k number)
 unfolding first_least
 best_next f zero least number b = record {
-  least_is = ap (λ z. cond (lt_z (f 0) least) (f 0) z) b.least_is ∙ same (lt_z (f 0) least) (f 0);
-  number_is = ap (λ z. cond (lt_z (f 0) least) 0 z) b.number_is ∙ same (lt_z (f 0) least) 0;
+  least_is = ap (λ z. cond (lt_z (f 0) least) (f 0) z) b.least_is ∙ cond_same (lt_z (f 0) least) (f 0);
+  number_is = ap (λ z. cond (lt_z (f 0) least) 0 z) b.number_is ∙ cond_same (lt_z (f 0) least) 0;
 }
 best_next f (suc k) least number b =
     let back : suc k - 1 ≡ k = omega arith in
@@ -74,9 +71,6 @@ difference x y g e a b = rw is (omega (arith, abs_add y (neg_ℤ x), abs_neg x))
 pub double : (d : ℕ) → (d ≡ 0 → ⊥) → 2 ^ d ≡ 2 * 2 ^ (d - 1)
 double zero z = absurd (z refl)
 double (suc d) z = let e : suc d - 1 ≡ d = omega arith in rw e (pow-succ' 2 d)
-
-pub second_half : (turn p : ℕ) → turn * (2 * p) + p ≡ (turn * 2 + 1) * p
-second_half turn p = omega arith
 
 module _ {d : ℕ} {cost : ℤ} {fields grid : List ℤ} {visited : ℕ} {least : ℤ} {number : ℕ} where
   pub field_small : Standing d cost fields grid visited least number → (j : ℕ) → j < d → nat_abs (elem_z fields j) ≤ 2 ^ 43
@@ -170,7 +164,7 @@ module _ {d : ℕ} {cost : ℤ} {fields grid : List ℤ} {visited : ℕ} {least 
       g = s.g;
       turn = s.turn * 2 + 1;
       few = omega (arith, s.few);
-      visited_is = w.visited_on ∙ ap (λ (x : ℕ). x + 2 ^ (d - 1)) (s.visited_is ∙ ap (λ (x : ℕ). s.turn * x) (double d z)) ∙ second_half s.turn (2 ^ (d - 1));
+      visited_is = omega (arith, w.visited_on, s.visited_is ∙ ap (λ (x : ℕ). s.turn * x) (double d z));
       within = omega (arith, s.within, double d z, w.visited_on);
       cost_is = e ∙ top_cost ∙ ap s.f (sym w.visited_on);
       fields_are = λ j h.
@@ -221,9 +215,6 @@ in_grid few hall = record {
 pub costs_held : {n : ℕ} {h : Table} (c : List ℤ) → Hall most_wagons most_entries most_magnitude n h (elem_z c) → (j : ℕ) → j < n → nat_abs (elem_z c j) ≤ most_magnitude
 costs_held {n} c hall j l = omega (arith, hall.magnitude, total_at n j (λ i. nat_abs (elem_z c i)) l)
 
-pub all_below : {n : ℕ} → n ≤ 16 → 2 ^ n ≤ 65536
-all_below few = pow_mono few
-
 module _ {n : ℕ} {h : Table} (c : List ℤ) {grid : List ℤ} (hall : Hall most_wagons most_entries most_magnitude n h (elem_z c)) (few : n ≤ 16) (laid : LaidOut h grid) where
   pub grid_values : Small grid
   grid_values = record { small = λ i j k l. rw (laid.value_is i j k l) (omega (arith, value_small h i j, hall.magnitude)) }
@@ -236,7 +227,7 @@ module _ {n : ℕ} {h : Table} (c : List ℤ) {grid : List ℤ} (hall : Hall mos
     turn = 0;
     few = few;
     visited_is = sym (zero-mul (2 ^ n));
-    within = omega (arith, all_below few);
+    within = omega (arith, pow_mono few);
     cost_is = sym (zero_cost n h (elem_z c));
     fields_are = λ j l.
         start.start_is j l ∙ ap (λ z. pos 4 *ℤ z +ℤ pos 8 *ℤ elem_z c j) (laid.value_is j j (omega arith) (omega arith)) ∙ sym (zero_gain n h (elem_z c) j);

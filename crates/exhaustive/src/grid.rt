@@ -45,6 +45,7 @@ fn start_field(j: usize, grid: &[i64; PLACES], c: &[i64]) -> i64
 }
 
 // The same of each digit.
+#[tactic(auto, unfolding(laws::specs::Rows::map_first))]
 pub fn start_fields(n: usize, grid: &[i64; PLACES], c: &[i64], fields: &mut [i64; MOST_WALKED])
     requires { (n ≤ most_walked) × (n ≤ length c.now) × Small grid.now × ((j : ℕ) → j < n → nat_abs (elem_z c.now j) ≤ most_magnitude)
         × (most_walked ≡ length fields.old) }
@@ -65,6 +66,7 @@ fn raised_field(i: usize, j: usize, fields: &[i64; MOST_WALKED], grid: &[i64; PL
 }
 
 // The same of each digit below j.
+#[tactic(auto, unfolding(laws::specs::Rows::map_first))]
 pub fn raise(
     j: usize,
     fields: &[i64; MOST_WALKED],

@@ -77,6 +77,7 @@ fn walk(d: usize, cost: i64, fields: &[i64; MOST_WALKED], grid: &[i64; PLACES], 
 }
 
 // The binary digits of k, the lowest first. A remainder by 2 fits the `as u8`.
+#[tactic(auto, unfolding(laws::specs::Lists::tabulate))]
 fn put_digits(n: usize, k: u64, b: &mut [u8])
     requires { n ≤ length b.old }
     ensures { b.new ≡ over (digits_of n k) b.old }

@@ -11,11 +11,11 @@ use borrow.Author.Tests.{ltb-false, le-ltb}
 use lib.Dec.{ltb}
 use lib.IntN.{ℤ}
 use lib.Ieee.{Float}
-use lib.ListN.{length, take, drop, replicate, length-append, length-replicate, length-drop, take-append-drop}
+use lib.ListN.{length, take, drop, replicate, length-append, length-replicate, take-append-drop}
 use lib.Seq.{take_at, drop_at, drop-drop}
 use Rattle.laws.specs.Rows.{map_first}
 use Rattle.laws.specs.Lists.{over, fill}
-use Rattle.laws.proofs.MapFirst.{get_d_map_first}
+use Rattle.laws.proofs.MapFirst.{get_d_map_first, fill_again}
 use Rattle.laws.proofs.Refusal.{clear, first_head, first_rest, first_here, first_skip, first_end}
 use Rattle.limits.specs.Limits.{most_runs}
 use Rattle.run_record.specs.declared.Run.{Run}
@@ -66,12 +66,8 @@ record_read f count rest i l =
     begins (drop (run_words * i) (joined (λ j. words_of (f j)) count ++ rest)) (f i)
     (ap₂ (λ (m k : ℕ). take m (drop k (joined (λ j. words_of (f j)) count ++ rest))) (sym (length_words (f i))) (sym (length_records f i)) ∙ joined_part (λ j. words_of (f j)) count rest i l)
 
-over_long : (a xs : List ℕ) → length a ≤ length xs → length (over a xs) ≡ length xs
-over_long a xs l = length-append a (drop (length a) xs) ∙ rw (length-drop (length a) xs) (omega (arith, l))
-
 -- a loop that writes record after record: one more
-module _ (f : ℕ → Run) (i : ℕ) (words₀ words : List ℕ) (d : ℕ) (w : words ≡ over (joined (λ j. words_of (f j)) i) words₀) (room : run_words * i + run_words ≤ length words)
-    (e : d ≡ run_words) where
+module _ (f : ℕ → Run) (i : ℕ) (words₀ words : List ℕ) (d : ℕ) (w : words ≡ over (joined (λ j. words_of (f j)) i) words₀) (e : d ≡ run_words) where
   abbrev front : List ℕ
   front = joined (λ j. words_of (f j)) i
 
@@ -89,9 +85,6 @@ module _ (f : ℕ → Run) (i : ℕ) (words₀ words : List ℕ) (d : ℕ) (w : 
       ∙ ap (λ (k : ℕ). (front ++ words_of (f i)) ++ drop k words₀) (sym both_long)
       ∙ ap (λ (k : ℕ). over (joined (λ j. words_of (f j)) k) words₀) (sym (add-one i))
 
-  put_long : length words ≡ length words₀ → length (take (run_words * i) words ++ (words_of (f i) ++ drop d (drop (run_words * i) words))) ≡ length words₀
-  put_long same = let all = length_records f (i + 1) in ap length put_turn ∙ over_long (joined (λ j. words_of (f j)) (i + 1)) words₀ (omega (arith, all, room, same))
-
 held_turn : (f : ℕ → Run) (i : ℕ) → ((j : ℕ) → j < i → run_in (words_of (f j)) ≡ f j) → run_in (words_of (f i)) ≡ f i → (j : ℕ) → j < i + 1 → run_in (words_of (f j)) ≡ f j
 held_turn f i before mine j l = let h : j ≤ i = omega arith in by (eq-or-lt_of_le h)
   where
@@ -101,32 +94,23 @@ held_turn f i before mine j l = let h : j ≤ i = omega arith in by (eq-or-lt_of
 
 -- the first i records are written
 pub record Put (runs : List Run) (words₀ words : List ℕ) (i : ℕ) : Type 0 where
-  pub long : length words ≡ length words₀
   pub is : words ≡ over (joined (λ j. words_of (run_at runs j)) i) words₀
   pub held : (j : ℕ) → j < i → run_in (words_of (run_at runs j)) ≡ run_at runs j
 
 pub put_none : (runs : List Run) (words : List ℕ) → Put runs words words 0
 unfolding joined
-put_none runs words = record { long = refl; is = refl; held = λ j l. absurd (omega (arith, l)) }
+put_none runs words = record { is = refl; held = λ j l. absurd (omega (arith, l)) }
 
-pub put_next : {runs : List Run} {words₀ words new : List ℕ} {d : ℕ} (i : ℕ) → Put runs words₀ words i → run_words * i + run_words ≤ length words → d ≡ run_words
-    → new ≡ words_of (run_at runs i) → run_in new ≡ run_at runs i → Put runs words₀ (take (run_words * i) words ++ (new ++ drop d (drop (run_words * i) words))) (i + 1)
-put_next {runs} {words₀} {words} {new} {d} i p room e n back =
+pub put_next : {runs : List Run} {words₀ words new : List ℕ} {d : ℕ} (i : ℕ) → Put runs words₀ words i → d ≡ run_words → new ≡ words_of (run_at runs i) → run_in new ≡ run_at runs i → Put runs words₀ (take (run_words * i) words ++ (new ++ drop d (drop (run_words * i) words))) (i + 1)
+put_next {runs} {words₀} {words} {new} {d} i p e n back =
     rw n (record {
-      long = put_long (run_at runs) i words₀ words d p.is room e p.long;
-      is = put_turn (run_at runs) i words₀ words d p.is room e;
+      is = put_turn (run_at runs) i words₀ words d p.is e;
       held = held_turn (run_at runs) i p.held (rw n at back);
     })
 
 -- ---- lists filled from the front
 
 module _ {A : Type 0} where
-  fill_again : (f g : ℕ → A) (n : ℕ) (xs : List A) → fill f n (fill g n xs) ≡ fill f n xs
-  unfolding map_first
-  fill_again f g zero xs = refl
-  fill_again f g (suc n) [] = refl
-  fill_again f g (suc n) (x ∷ xs) = ap (λ (ys : List A). f 0 ∷ ys) (fill_again (λ j. f (suc j)) (λ j. g (suc j)) n xs)
-
   fill_ext : (f g : ℕ → A) (n : ℕ) (xs : List A) → ((i : ℕ) → i < n → f i ≡ g i) → fill f n xs ≡ fill g n xs
   unfolding map_first
   fill_ext f g zero xs e = refl
@@ -142,15 +126,6 @@ module _ (sweeps count : ℕ) (words sizes rows cols : List ℕ) (values c : Lis
 
   abbrev early : ℕ
   early = early_number sweeps count (length words) (length sizes)
-
-  pub turn_left : {runs' : List Run} {factors' : List Float} (number : ℕ) → (number ≡ 0 → ⊥) → early ≡ 0
-      → Turns sweeps count (runs_in count words) tables factors number runs' factors' → TurnsWords sweeps count words sizes rows cols values c factors number words factors'
-  turn_left zero n ok e = absurd (n refl)
-  turn_left {factors' = factors'} (suc k) n ok e =
-      record {
-        early = λ m. absurd (m ok);
-        turns = λ _. (subst (λ (runs : List Run). Turns sweeps count (runs_in count words) tables factors (suc k) runs factors') (e.refused n).0 e, refl);
-      }
 
   module _ {after : List Run} {factors' : List Float} {words' : List ℕ} (ok : early ≡ 0) (says : Turns sweeps count (runs_in count words) tables factors 0 after factors')
       (written : words' ≡ over (joined (λ i. words_of (run_at after i)) count) words) (held : (i : ℕ) → i < count → run_in (words_of (run_at after i)) ≡ run_at after i) where

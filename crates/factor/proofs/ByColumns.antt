@@ -1,7 +1,6 @@
 -- The sums over a row of the table, one per column.
 --     entry_tabulate                 an entry's share to sums that are made by index
 --     block_start_lem, block_next    a block of columns before the first entry, and after one more
---     column_next                    a column after one more entry
 --     sums_columns                   all the sums, column by column
 --     product_sums                   the product's row is such sums
 -- Assumes nothing.
@@ -42,12 +41,6 @@ module _ (op : Float → Float → Float) (out : ℕ → Bool) (cols : List ℕ)
       (entry_tabulate op (out (get_or cols n 0)) (at values n) factor (get_or cols n 0 * rank + offset) width
       (λ j. sum_to_column op out cols values factor rank (offset + j) n)
       ∙ tabulate_ext _ _ width (λ j h. rw (add_assoc (get_or cols n 0 * rank) offset j)))
-
-  pub column_next : (j n : ℕ) (sum : Float) → sum ≡ sum_to_column op out cols values factor rank j n
-      → with_entry op (out (get_or cols n 0)) (at values n) (at factor (get_or cols n 0 * rank + j)) sum
-      ≡ sum_to_column op out cols values factor rank j (n + 1)
-  unfolding sum_to_column
-  column_next j n sum e = rw (e, add-one n)
 
   sums_to_columns : (n : ℕ) → up_to (sums_turn op out cols values factor rank) n (replicate rank zero64)
       ≡ tabulate (λ j. sum_to_column op out cols values factor rank j n) rank

@@ -2,26 +2,20 @@
 -- Assumes nothing.
 use mathlib.Core.Path.{◌≡◌, sym, ap, ◌∙◌}
 use mathlib.Core.List.{List, ◌++◌}
-use Prim.Native.Nat.{ℕ, zero, suc, ◌+◌, ◌-◌, ◌*◌, ◌≤◌, ◌<◌}
+use Prim.Native.Nat.{ℕ, zero, suc, ◌+◌, ◌*◌, ◌<◌}
 use native.Mathlib.Nat.{zero-mul, suc-mul}
 use native.Mathlib.Numerals.{add-one}
 use native.Mathlib.Omega.{arith}
 use lib.ListN.{length, get_or, drop, replicate, length-append, length-replicate}
 use lib.Ieee.{Float}
-use Rattle.laws.specs.Rows.{part, set_row}
+use Rattle.laws.specs.Rows.{set_row}
 use Rattle.laws.proofs.UpTo.{up_to_keeps}
 use Rattle.laws.proofs.MapFirst.{length_map_first}
-use Rattle.laws.proofs.Parts.{length_part, get_d_part, row_within, set_row_next}
+use Rattle.laws.proofs.Parts.{row_within, set_row_next}
 use Rattle.ieee.specs.Floats.{zero64}
 use Rattle.factor.specs.Vectors.{add_scaled}
 use Rattle.factor.specs.Multiply.{product_turn, product_row, product_at, product_of}
-use Rattle.factor.specs.Shapes.{ColumnsWithin, RowFits, Shaped}
-
-pub columns_part : (lo hi : ℕ) (cols : List ℕ) (rank : ℕ) (factor : List Float) → hi ≤ length cols
-    → ColumnsWithin cols rank factor → ColumnsWithin (part lo hi cols) rank factor
-columns_part lo hi cols rank factor h all e l =
-    let k : e < hi - lo = omega (arith, length_part lo hi cols h) in
-    rw (get_d_part lo hi cols e 0) (all (lo + e) (omega arith))
+use Rattle.factor.specs.Shapes.{RowFits, Shaped}
 
 -- what a sweep asks holds at each row, also once rows are rewritten
 pub shaped_row : (cols : List ℕ) (values : List Float) (starts : List ℕ) (before now : List Float) (m rank i : ℕ)
@@ -36,6 +30,12 @@ shaped_row cols values starts before now m rank i s e h =
       within = λ k l. omega (arith, row_within (get_or cols k 0) m rank (s.columns k l));
       whole = omega (arith, row_within i m rank h);
     }
+
+-- a factor of the same length is of the same shape
+pub reshaped : {cols : List ℕ} {values : List Float} {starts : List ℕ} {factor factor' : List Float} {m rank : ℕ} → Shaped cols values starts factor m rank → length factor' ≡ length factor
+    → Shaped cols values starts factor' m rank
+reshaped s l =
+    record { paired = s.paired; started = s.started; rising = s.rising; ended = s.ended; columns = s.columns; whole = l ∙ s.whole }
 
 -- the rows of a product have the rank's length
 pub length_product_row : (cols : List ℕ) (values factor : List Float) (rank : ℕ) → length (product_row cols values factor rank) ≡ rank

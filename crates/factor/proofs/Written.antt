@@ -4,12 +4,12 @@
 --     sums_put          a block's sums, copied to where they lie in a row
 --     front_made        a list whose first elements are made by index
 --     block_next_put    the turn of a loop over blocks
---     whole_block_fits, next_block    blocks of `width` elements among n
+--     next_block        where the next block of `width` elements starts
 -- Assumes nothing.
 use mathlib.Core.Path.{◌≡◌, sym, ap, subst, ◌∙◌}
 use mathlib.Core.List.{List, ◌++◌, append_assoc}
-use Prim.Native.Nat.{ℕ, ◌+◌, ◌-◌, ◌*◌, ◌/◌, ◌≤◌, ◌<◌}
-use native.Mathlib.Nat.{add_assoc, suc-mul, div-mul-le_self}
+use Prim.Native.Nat.{ℕ, ◌+◌, ◌-◌, ◌*◌, ◌≤◌}
+use native.Mathlib.Nat.{add_assoc, suc-mul}
 use native.Mathlib.Numerals.{add-one}
 use native.Mathlib.Omega.{arith}
 use lib.Ieee.{Float, nan}
@@ -19,7 +19,6 @@ use Rattle.laws.specs.Rows.{map_first}
 use Rattle.laws.specs.Lists.{tabulate, over}
 use Rattle.laws.proofs.MapFirst.{map_first_copy}
 use Rattle.laws.proofs.Made.{length_tabulate, tabulate_add, tabulate_ext, map_first_tabulate}
-use Rattle.laws.proofs.Parts.{row_within}
 use Rattle.ieee.specs.Floats.{◌*ᶠ◌, at}
 use Rattle.factor.specs.Columns.{put_block}
 
@@ -78,10 +77,6 @@ block_next_put f n offset width g ys h k e =
     let q : (n - offset) + (offset + width - n) ≡ width = omega arith in
     subst (λ (w : ℕ). put_block w offset (tabulate (λ j. f (offset + j)) w) ys ≡ over (tabulate f (offset + w)) g) q
     (block_put f offset (n - offset) (offset + width - n) g ys (rw p e))
-
--- blocks of `width` elements: as many as lie whole among n
-pub whole_block_fits : (n b width : ℕ) → b < n / width → b * width + width ≤ n
-whole_block_fits n b width h = omega (arith, row_within b (n / width) width h, div-mul-le_self n width)
 
 pub next_block : (first b width : ℕ) → first + (b + 1) * width ≡ first + b * width + width
 next_block first b width = rw (add-one b, suc-mul b width) (omega arith)

@@ -13,6 +13,7 @@ use super::table::Row;
 use super::term::Term;
 
 // The N sums with weight times source.
+#[tactic(auto, unfolding(laws::specs::Rows::map_first))]
 fn add<T: Term, const N: usize>(term: T, sums: &mut [f64; N], weight: f64, source: &[f64])
     requires { length source.now ≡ N }
     ensures { sums.new ≡ block_entry (T.joins term) false N weight source.now sums.old }
@@ -42,6 +43,7 @@ pub fn add_entry<T: Term, const N: usize>(
 }
 
 // The N sums, copied.
+#[tactic(auto, unfolding(laws::specs::Rows::map_first))]
 pub fn copy<const N: usize>(out: &mut [f64], sums: &[f64; N])
     requires { length out.old ≡ N }
     ensures { out.new ≡ map_first (λ j old. at sums.now j) N out.old }
@@ -54,6 +56,7 @@ pub fn copy<const N: usize>(out: &mut [f64], sums: &[f64; N])
 }
 
 // The sums of N columns from `offset` on. Inlined, so that the compiler sees the rank where the caller names it.
+#[tactic(auto, using(crate::proofs::ByColumns::block_start_lem, crate::proofs::ByColumns::block_next))]
 #[inline(always)]
 pub fn block<T: Term, const N: usize>(
     term: T,

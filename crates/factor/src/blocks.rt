@@ -55,6 +55,7 @@ fn put_rest<T: Term>(term: T, row: Row, factor: &[f64], first: usize, g: &mut [f
 }
 
 // All columns, for a rank of at least 4.
+#[tactic(auto, unfolding(laws::specs::Lists::tabulate))]
 fn put_all<T: Term>(term: T, row: Row, factor: &[f64], g: &mut [f64])
     requires in_bounds { 4 ≤ length g.old }
     requires columns_within { ColumnsWithin row.cols.now (length g.old) factor.now }
@@ -66,6 +67,7 @@ fn put_all<T: Term>(term: T, row: Row, factor: &[f64], g: &mut [f64])
 }
 
 // The sums, at any rank.
+#[tactic(auto, using(crate::proofs::ByColumns::sums_columns))]
 pub fn put_sums<T: Term>(term: T, row: Row, factor: &[f64], g: &mut [f64])
     requires { ColumnsWithin row.cols.now (length g.old) factor.now }
     ensures { g.new ≡ sums_of (T.joins term) (T.leaves term) row.entry.cols.now row.entry.values.now factor.now (length g.old) }

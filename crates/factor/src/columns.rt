@@ -18,6 +18,7 @@ fn with_entry<T: Term>(term: T, sum: f64, k: usize, weight: f64, x: f64) -> f64
 }
 
 // The sum of column j.
+#[tactic(auto, unfolding(crate::specs::Columns::sum_to_column))]
 pub fn column<T: Term>(term: T, row: Row, factor: &[f64], rank: usize, j: usize) -> f64
     requires j_lt_rank { j < rank }
     requires columns_within { ColumnsWithin row.cols.now rank factor.now }
@@ -33,6 +34,7 @@ pub fn column<T: Term>(term: T, row: Row, factor: &[f64], rank: usize, j: usize)
 }
 
 // All columns, one by one: for ranks below the least block's width.
+#[tactic(auto, using(laws::proofs::Made::tabulate_all, crate::proofs::ByColumns::sums_columns), unfolding(laws::specs::Lists::tabulate))]
 pub(crate) fn put_columns<T: Term>(term: T, row: Row, factor: &[f64], g: &mut [f64])
     requires { ColumnsWithin row.cols.now (length g.old) factor.now }
     ensures { g.new ≡ sums_of (T.joins term) (T.leaves term) row.entry.cols.now row.entry.values.now factor.now (length g.old) }

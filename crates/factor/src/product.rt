@@ -12,6 +12,7 @@ use super::table::{Prepared, Row};
 use super::term::Product;
 
 // One row of the matrix times the factor.
+#[tactic(auto, using(crate::proofs::ByColumns::product_sums))]
 pub fn multiply_row(row: Row, factor: &[f64], out: &mut [f64])
     requires { ColumnsWithin row.cols.now (length out.old) factor.now }
     ensures { out.new ≡ product_row row.entry.cols.now row.entry.values.now factor.now (length out.old) }
@@ -32,6 +33,7 @@ fn multiply_at(table: Prepared, factor: &[f64], rank: usize, i: usize, out: &mut
 }
 
 // The matrix times the factor.
+#[tactic(auto, using(crate::proofs::Shaping::product_next), unfolding(crate::specs::Multiply::product_of))]
 pub fn multiply(table: Prepared, factor: &[f64], rank: usize, m: usize, out: &mut [f64])
     requires shaped { Shaped table.cols.now table.values.now table.starts.now factor.now m rank }
     requires out_len { length out.old ≡ m * rank }

@@ -60,14 +60,6 @@ pub fn clear(g: &mut [f64])
     g.fill(0.0);
 }
 
-// The elements of `source`, copied. What `copy_from_slice` ensures is no equation, and callers' answers, which rewrite by one, would each open it (tried).
-pub fn copy(out: &mut [f64], source: &[f64])
-    requires { length out.old ≡ length source.now }
-    ensures { out.new ≡ source.now }
-{
-    out.copy_from_slice(source);
-}
-
 // `weight` times `source` added to `acc`.
 pub fn add_scaled(acc: &mut [f64], weight: f64, source: &[f64])
     requires { length acc.old ≡ length source.now }
@@ -139,6 +131,7 @@ fn normalize_row(factor: &mut [f64], rank: usize, i: usize)
 }
 
 // Every one of m rows divided by its norm.
+#[tactic(auto, unfolding(laws::specs::Turns::up_to, crate::specs::Vectors::projected))]
 pub fn project(factor: &mut [f64], rank: usize, m: usize)
     requires { m * rank ≤ length factor.old }
     ensures { factor.new ≡ projected rank m factor.old }

@@ -4,6 +4,7 @@ ghost use Rattle.std.specs.Prelude.{◌≡◌, ◌+◌, ◌*◌, ◌≤◌, leng
 ghost use Rattle.factor.specs.Norms.{dot_of, sum_of, quads_of, add_squares_to, squared_norm};
 
 // The dot product, left to right from 0.0.
+#[tactic(auto, unfolding(crate::specs::Norms::dot_to, crate::specs::Norms::dot_of))]
 pub fn dot(a: &[f64], b: &[f64]) -> f64
     requires { length a.now ≡ length b.now }
     ensures { result ≡ dot_of a.now b.now }
@@ -26,6 +27,7 @@ pub struct Four {
 
 // The dot products of `a` with four others at once, each left to right from 0.0: the four sums wait for each other's turn, not for their own. `dot` is no
 // case of it, since one sum alone is what most callers need.
+#[tactic(auto, unfolding(crate::specs::Norms::dot_to, crate::specs::Norms::dot_of))]
 pub fn dot_four(a: &[f64], b: &[f64], c: &[f64], d: &[f64], e: &[f64]) -> Four
     requires { (length a.now ≡ length b.now) × (length a.now ≡ length c.now) × (length a.now ≡ length d.now) × (length a.now ≡ length e.now) }
     ensures { (result.first ≡ dot_of a.now b.now) × (result.second ≡ dot_of a.now c.now)
@@ -51,6 +53,7 @@ pub fn dot_four(a: &[f64], b: &[f64], c: &[f64], d: &[f64], e: &[f64]) -> Four
 }
 
 // The sum of the elements, left to right from 0.0.
+#[tactic(auto, unfolding(crate::specs::Norms::sum_to, crate::specs::Norms::sum_of))]
 pub fn sum(a: &[f64]) -> f64
     ensures { result ≡ sum_of a.now }
 {
@@ -63,6 +66,7 @@ pub fn sum(a: &[f64]) -> f64
 
 // Four running sums of squares, over `quads` times four elements, joined. `quads` is given, since the caller starts what is left by it: counted here, it would be
 // counted twice.
+#[tactic(auto, unfolding(crate::specs::Norms::lane_to))]
 fn sum_quads(values: &[f64], quads: usize) -> f64
     requires { 4 * quads ≤ length values.now }
     ensures { result ≡ quads_of values.now quads }
@@ -86,6 +90,7 @@ fn sum_quads(values: &[f64], quads: usize) -> f64
 
 // The squares of `count` elements from `start` on, added to `sum` in order. With `&values[start..]`, which proves with a lemma, a sweep (transcribed to Rust,
 // callgrind) took 1.0049 of the instructions at rank 4, 1.0026 there with momentum, and a sweep may take no more than it did.
+#[tactic(auto, unfolding(crate::specs::Norms::add_squares_to))]
 fn add_squares(values: &[f64], start: usize, count: usize, sum: f64) -> f64
     requires { start + count ≤ length values.now }
     ensures { result ≡ add_squares_to values.now start sum count }

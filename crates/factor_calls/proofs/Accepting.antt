@@ -6,17 +6,15 @@ use mathlib.Core.List.{List, [], ◌∷◌}
 use Prim.Native.Nat.{ℕ, zero, suc, ◌*◌, ◌≤◌}
 use native.Mathlib.Omega.{arith}
 use borrow.Author.Tests.{ltb-false, eq-eqb, ne_eqb}
-use lib.Dec.{ltb, eqb}
+use lib.Dec.{eqb}
 use lib.ListN.{length}
 use lib.IntN.{ℤ}
-use lib.Ieee.{Float}
+use Rattle.std.proofs.lemmas.Bool.{and_right}
 use Rattle.laws.specs.Refusal.{◌if◌, first, any_of, short}
 use Rattle.laws.proofs.Refusal.{clear, first_head, first_rest}
-use Rattle.laws.proofs.Any.{any_head, any_rest, any_not, any_none, any_skip, any_last, and_right}
+use Rattle.laws.proofs.Any.{any_head, any_rest, any_not, any_none, any_skip, any_last}
 use Rattle.limits.specs.Limits.{most_signs, most_sign_entries, most_sign_magnitude, most_rank, most_draws}
-use Rattle.tables.specs.Table.{Table, Lent, table_of}
-use Rattle.rounding.specs.Rounding.{least_draw, rounded_sol}
-use Rattle.rounding.proofs.Least.{length_signs_of}
+use Rattle.tables.specs.Table.{Lent, table_of}
 use Rattle.tables.specs.Check.{Accepted, short_table}
 use Rattle.tables.proofs.Checks.{long_enough, table_lent, table_accepted}
 use Rattle.run_limits.specs.Rank.{rank_meant}
@@ -25,28 +23,6 @@ use Rattle.run_limits.proofs.Counts.{draws_some, draws_few}
 use Rattle.table_calls.specs.Numbers.{bad_signs, sign_table_number}
 use Rattle.table_calls.proofs.Accepting.{signs_passes, signs_parts}
 use Rattle.factor_calls.specs.Numbers.{bad_rank, factor_refused, factor_short, draws_refused, draws_short, rounded_short, rounded_number, dual_short, dual_number, bad_given_rank, given_factor_short, divided_short, divided_number, given_rank}
-
--- a draw's signs are m
-pub length_rounded_sol : (factor : List Float) (rank m : ℕ) (draws : List Float) (t : Table) (count : ℕ) → length (rounded_sol factor rank m draws t count) ≡ m
-unfolding rounded_sol
-length_rounded_sol factor rank m draws t count = length_signs_of factor rank m draws (least_draw factor rank m draws t count)
-
--- a length that rests on a refused number isn't tested, and any other is
-pub factor_untested : (m rank lent : ℕ) → factor_refused m rank ≡ true → false ≡ factor_short m rank lent
-unfolding factor_short short
-factor_untested m rank lent e = simp e
-
-pub factor_tested : (m rank lent : ℕ) {r : ℕ} → factor_refused m rank ≡ false → r ≡ rank_meant m rank → ltb lent (m * r) ≡ factor_short m rank lent
-unfolding factor_short short
-factor_tested m rank lent e q = rw q (simp e)
-
-pub draws_untested : (m rank k lent : ℕ) → draws_refused m rank k ≡ true → false ≡ draws_short m rank k lent
-unfolding draws_short short
-draws_untested m rank k lent e = simp e
-
-pub draws_tested : (m rank k lent : ℕ) {r : ℕ} → draws_refused m rank k ≡ false → r ≡ rank_meant m rank → ltb lent (k * r) ≡ draws_short m rank k lent
-unfolding draws_short short
-draws_tested m rank k lent e q = rw q (simp e)
 
 -- what the draws' length rests on, where it isn't refused
 pub draws_good : (m rank k : ℕ) → draws_refused m rank k ≡ false → (rank ≡ 0 → m ≤ most_signs) × (rank ≤ most_rank) × (k ≤ most_draws)

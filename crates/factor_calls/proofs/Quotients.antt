@@ -10,7 +10,7 @@ use mathlib.Core.Bool.{Bool, true, false, cond, ◌||◌, beq}
 use mathlib.Core.List.{List}
 use mathlib.Core.Logic.{◌⊎◌, inl, inr}
 use Prim.Native.Nat.{ℕ, zero, suc, ◌+◌, ◌*◌, ◌-◌, ◌/◌, ◌^◌, ◌≤◌, ◌<◌}
-use native.Mathlib.Nat.{lt_irrefl, mul-one, one-mul, zero-mul, mul-zero, mul-pos, mul_right_comm, eq_of_mul-eq-mul_right, lt_of_mul-lt-mul_right, mul-lt-mul_of_pos_right}
+use native.Mathlib.Nat.{lt_irrefl, mul-one, one-mul, zero-mul, mul-zero, mul-pos, mul_right_comm, eq_of_mul-eq-mul_right}
 use native.Mathlib.Decide.{ℕ_discrete}
 use native.Mathlib.Omega.{arith}
 use lib.Dec.{T, eqb, eqb→eq, lit<}
@@ -28,7 +28,7 @@ use Rattle.laws.proofs.MapFirst.{length_map_first}
 use Rattle.laws.proofs.Parts.{length_row_of}
 use Rattle.laws.proofs.Made.{tabulate_ext}
 use Rattle.ieee.specs.Floats.{at, zero64, one64, eighth_of, ◌/ᶠ◌, ◌*ᶠ◌, ◌+ᶠ◌}
-use Rattle.ieee.proofs.Nearest.{parts, exact}
+use Rattle.ieee.proofs.Nearest.{parts, exact, units_under}
 use Rattle.ieee.proofs.Eighths.{like}
 use Rattle.tables.specs.Table.{Table}
 use Rattle.factor.specs.Norms.{dot_to, dot_of}
@@ -87,12 +87,6 @@ round_nothing s d p =
     same_value (round binary64 s 0 d) (fin s 0 (pos 0)) s 0 d p (round-fits binary64 s 0 d) (zero_fits s)
     (round_exact binary64 s 0 d 0 0 p (lit< tt) (pow_pos 2098) (zero-mul (2 ^ 1074) ∙ sym (zero-mul d))) (refl, zero-mul d ∙ sym (zero-mul 1))
 
-under : (m j : ℕ) (e : ℤ) → m * up e < 2 ^ 1024 * down e → m * up e * 2 ^ 1074 ≡ m * 2 ^ j * down e → m * 2 ^ j < 2 ^ 2098
-under m j e h is =
-    lt_of_mul-lt-mul_right (down e)
-    (subst (λ (y : ℕ). y < 2 ^ 1024 * 2 ^ 1074 * down e) is
-    (subst (λ (y : ℕ). m * up e * 2 ^ 1074 < y) (mul_right_comm (2 ^ 1024) (down e) (2 ^ 1074)) (mul-lt-mul_of_pos_right h (pow_pos 1074))))
-
 -- a double's own fraction rounds to the double
 round_own : (s : Bool) (m : ℕ) (e : ℤ) → T (fits binary64 (fin s m e)) → round binary64 s (m * up e) (down e) ≡ fin s m e
 round_own s zero e h =
@@ -102,7 +96,7 @@ round_own s (suc m) e h =
     let p = parts s m e h in
     let x = exact (suc m) e p.places in
     same_value (round binary64 s (suc m * up e) (down e)) (fin s (suc m) e) s (suc m * up e) (down e) (down_pos e) (round-fits binary64 s (suc m * up e) (down e)) h
-    (round_exact binary64 s (suc m * up e) (down e) (suc m) x.j (down_pos e) p.digits (under (suc m) x.j e p.finite x.is) x.is) (refl, refl)
+    (round_exact binary64 s (suc m * up e) (down e) (suc m) x.j (down_pos e) p.digits (units_under (suc m * up e) (suc m * 2 ^ x.j) e p.finite x.is) x.is) (refl, refl)
 
 pub by_one : (x : Float) → T (fits binary64 x) → x /ᶠ one64 ≡ x
 unfolding div of_bits
@@ -122,8 +116,9 @@ dot_fits a b (suc n) = add-fits binary64 (dot_to a b n) (at a n *ᶠ at b n)
 pub divided_unit : (t : Table) (rank : ℕ) (factor : List Float) (i : ℕ) → self_product rank factor i ≡ one64 → divided_at t rank factor i ≡ numerator t rank factor i
 unfolding divided_at numerator dot_of
 divided_unit t rank factor i e =
-    ap (λ (x : Float). dot_to (whole_row t rank factor i) (row_of rank factor i) (length (whole_row t rank factor i)) /ᶠ x) e
-    ∙ by_one (dot_to (whole_row t rank factor i) (row_of rank factor i) (length (whole_row t rank factor i))) (dot_fits (whole_row t rank factor i) (row_of rank factor i) (length (whole_row t rank factor i)))
+    let w = whole_row t rank factor i in
+    let r = row_of rank factor i in
+    ap (λ (x : Float). dot_to w r (length w) /ᶠ x) e ∙ by_one (dot_to w r (length w)) (dot_fits w r (length w))
 
 pub units_undivided : (t : Table) (m rank : ℕ) (factor : List Float) → ((i : ℕ) → i < m → self_product rank factor i ≡ one64) → divided_multipliers t m rank factor ≡ whole_multipliers t m rank factor
 unfolding divided_multipliers whole_multipliers
@@ -203,9 +198,11 @@ pub divided_zero : (t : Table) (rank : ℕ) (factor : List Float) (i : ℕ) → 
     → ((j : ℕ) → j < rank → eq (at (row_of rank factor i) j) zero64 ≡ true) → divided_at t rank factor i ≡ nan
 unfolding divided_at numerator self_product dot_of
 divided_zero t rank factor i h z =
-    nought_over (dot_to (whole_row t rank factor i) (row_of rank factor i) (length (whole_row t rank factor i))) (dot_to (row_of rank factor i) (row_of rank factor i) (length (row_of rank factor i)))
-    (nought_to (whole_row t rank factor i) (row_of rank factor i) (length (whole_row t rank factor i)) (λ j l. z j (rw (length_whole_row t rank factor i) at l)))
-    (nought_to (row_of rank factor i) (row_of rank factor i) (length (row_of rank factor i)) (λ j l. z j (rw (length_row_of rank i factor h) at l)))
+    let w = whole_row t rank factor i in
+    let r = row_of rank factor i in
+    nought_over (dot_to w r (length w)) (dot_to r r (length r))
+    (nought_to w r (length w) (λ j l. z j (rw (length_whole_row t rank factor i) at l)))
+    (nought_to r r (length r) (λ j l. z j (rw (length_row_of rank i factor h) at l)))
 
 -- ---- a row with a NaN
 

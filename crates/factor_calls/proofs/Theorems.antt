@@ -14,12 +14,11 @@ use native.Mathlib.Omega.{arith}
 use lib.IntN.{ℤ}
 use lib.Ieee.{Float, nan, eq}
 use lib.ListN.{length, drop, get_or-append}
-use lib.Seq.{drop_at}
 use Rattle.std.proofs.lemmas.Int.{by_lt_z}
 use Rattle.laws.specs.Lists.{over, tabulate}
 use Rattle.laws.specs.Rows.{row_of}
 use Rattle.laws.proofs.Made.{length_tabulate, get_d_tabulate}
-use Rattle.laws.proofs.Parts.{row_within}
+use Rattle.laws.proofs.Parts.{row_within, over_tail}
 use Rattle.ieee.specs.Floats.{at, zero64, one64, ◌/ᶠ◌}
 use Rattle.tables.specs.Table.{table_of}
 use Rattle.run_limits.specs.Rank.{rank_meant}
@@ -45,12 +44,13 @@ module _ (m count : ℕ) (rows cols : List ℕ) (values : List ℤ) (rank : ℕ)
   rounds_first_of_least w ok =
       let f = draw_objective factor (rank_meant m rank) m draws (table_of count rows cols values) in
       let some : 1 ≤ k = (rounded_accepted m count rows cols values rank (length factor) k (length draws) (length out) ok).some in
-      let within : least_draw factor (rank_meant m rank) m draws (table_of count rows cols values) k ≤ k - 1 = least_within f (k - 1) in
+      let d : ℕ = least_draw factor (rank_meant m rank) m draws (table_of count rows cols values) k in
+      let within : d ≤ k - 1 = least_within f (k - 1) in
       record {
-        draw = least_draw factor (rank_meant m rank) m draws (table_of count rows cols values) k;
+        draw = d;
         given = omega arith;
-        lent = w.signs_are ∙ sym (accepted_is _ (λ _. out) (over (signs_of factor (rank_meant m rank) m draws (least_draw factor (rank_meant m rank) m draws (table_of count rows cols values) k)) out) refl ok);
-        answers = w.answers ∙ sym (accepted_is _ Err (Ok (f (least_draw factor (rank_meant m rank) m draws (table_of count rows cols values) k))) refl ok);
+        lent = w.signs_are ∙ sym (accepted_is _ (λ _. out) (over (signs_of factor (rank_meant m rank) m draws d) out) refl ok);
+        answers = w.answers ∙ sym (accepted_is _ Err (Ok (f d)) refl ok);
         none_lower = λ j h. least_least f (k - 1) j (omega arith);
         before_higher = λ j h. by_lt_z _ _ (λ l. l) (λ l. absurd (least_first f (k - 1) j h l));
       }
@@ -67,9 +67,7 @@ module _ {number : ℕ} (f : ℕ → Float) (m : ℕ) (out : List Float) {answer
       ∙ get_d_tabulate f m i nan h
 
   made_tail : drop m out' ≡ drop m out
-  made_tail =
-      ap (λ (xs : List Float). drop m xs) wrote ∙ drop_at (tabulate f m) (drop (length (tabulate f m)) out) m (length_tabulate f m)
-      ∙ ap (λ (k : ℕ). drop k out) (length_tabulate f m)
+  made_tail = over_tail (tabulate f m) out out' m (length_tabulate f m) wrote
 
 -- an accepted call of `dual_variables`
 module _ (m count : ℕ) (rows cols : List ℕ) (values : List ℤ) (rank : ℕ) (factor out : List Float) {answer : ℕ} {out' : List Float}
@@ -77,11 +75,11 @@ module _ (m count : ℕ) (rows cols : List ℕ) (values : List ℤ) (rank : ℕ)
     (ok : dual_number m count rows cols values rank (length factor) (length out) ≡ 0) where
   pub multiplied_at : (i : ℕ) → i < m → at out' i ≡ numerator (table_of count rows cols values) (rank_meant m rank) factor i
   unfolding whole_multipliers
-  multiplied_at = made_at (numerator (table_of count rows cols values) (rank_meant m rank) factor) m out w ok
+  multiplied_at = made_at _ m out w ok
 
   pub tail_stays : drop m out' ≡ drop m out
   unfolding whole_multipliers
-  tail_stays = made_tail (numerator (table_of count rows cols values) (rank_meant m rank) factor) m out w ok
+  tail_stays = made_tail _ m out w ok
 
 -- an accepted call of `dual_variables_divided`
 module _ (m count : ℕ) (rows cols : List ℕ) (values : List ℤ) (rank : ℕ) (factor out : List Float) {answer : ℕ} {out' : List Float}
@@ -89,11 +87,11 @@ module _ (m count : ℕ) (rows cols : List ℕ) (values : List ℤ) (rank : ℕ)
     (ok : divided_number m count rows cols values rank (length factor) (length out) ≡ 0) where
   pub divided_at_lem : (i : ℕ) → i < m → at out' i ≡ numerator (table_of count rows cols values) rank factor i /ᶠ self_product rank factor i
   unfolding divided_multipliers divided_at
-  divided_at_lem = made_at (divided_at (table_of count rows cols values) rank factor) m out w ok
+  divided_at_lem = made_at _ m out w ok
 
   pub divided_tail : drop m out' ≡ drop m out
   unfolding divided_multipliers
-  divided_tail = made_tail (divided_at (table_of count rows cols values) rank factor) m out w ok
+  divided_tail = made_tail _ m out w ok
 
   within : (i : ℕ) → i < m → i * rank + rank ≤ length factor
   within i h =
@@ -104,13 +102,13 @@ module _ (m count : ℕ) (rows cols : List ℕ) (values : List ℤ) (rank : ℕ)
   -- a row of zeros, of either sign, and a row with a NaN in it
   pub divided_zero_at : (i : ℕ) → i < m → ((j : ℕ) → j < rank → eq (at (row_of rank factor i) j) zero64 ≡ true) → at out' i ≡ nan
   unfolding divided_multipliers
-  divided_zero_at i h z = made_at (divided_at (table_of count rows cols values) rank factor) m out w ok i h ∙ divided_zero (table_of count rows cols values) rank factor i (within i h) z
+  divided_zero_at i h z = made_at _ m out w ok i h ∙ divided_zero (table_of count rows cols values) rank factor i (within i h) z
 
   pub divided_nan_at : (i j : ℕ) → i < m → j < rank → at (row_of rank factor i) j ≡ nan → at out' i ≡ nan
   unfolding divided_multipliers
-  divided_nan_at i j h l e = made_at (divided_at (table_of count rows cols values) rank factor) m out w ok i h ∙ divided_nan (table_of count rows cols values) rank factor i j (within i h) l e
+  divided_nan_at i j h l e = made_at _ m out w ok i h ∙ divided_nan (table_of count rows cols values) rank factor i j (within i h) l e
 
   -- a row whose product with itself is 1.0
   pub divided_unit_at : (i : ℕ) → i < m → self_product rank factor i ≡ one64 → at out' i ≡ numerator (table_of count rows cols values) rank factor i
   unfolding divided_multipliers
-  divided_unit_at i h e = made_at (divided_at (table_of count rows cols values) rank factor) m out w ok i h ∙ divided_unit (table_of count rows cols values) rank factor i e
+  divided_unit_at i h e = made_at _ m out w ok i h ∙ divided_unit (table_of count rows cols values) rank factor i e

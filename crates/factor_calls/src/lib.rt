@@ -29,6 +29,7 @@ use tables::lent::LentTable;
 use whole::whole_multipliers;
 
 // The rounding of accepted arguments, with room for a draw's direction and its signs.
+#[tactic(auto, using(tables::proofs::Checks::table_accepted))]
 fn round(qv: Qv, draws: Draws, out: &mut [u8]) -> i64
     requires { (draws.count * qv.rank ≤ length draws.numbers.now) × (1 ≤ draws.count) × (qv.m ≤ length out.old) }
     ensures value { let q = qv.entry in result ≡ rounded_objective q.factor.now q.rank q.m draws.entry.numbers.now (listed q.table) draws.entry.count }
@@ -87,6 +88,7 @@ fn multiply(divided: bool, qv: Qv, out: &mut [f64])
 // 002's `dual_variables(Q, V)`: the multipliers of the factor's rows, as many as the table's size, over the whole table, the diagonal in it and
 // divided by nothing, in the first places of `out`. A rank of 0 means the default rank of the table's size. The result field of a run is
 // another value: `maxcut_oracle::objective::dual_variables`.
+#[tactic(auto, using(crate::proofs::Accepting::dual_accepted))]
 pub fn dual_variables(
     table: LentTable,
     rank: usize,
@@ -112,6 +114,7 @@ pub fn dual_variables(
 // Equation 8 of arXiv 0807.4423 with its denominator: what `dual_variables` gives, each row's divided by the row's product with itself, in the
 // first places of `out`. The rank is given: 0 is refused. A row of zeros, of NaN, or too small or too
 // large to be squared gives what the division gives.
+#[tactic(auto, using(crate::proofs::Accepting::divided_accepted))]
 pub fn dual_variables_divided(
     table: LentTable,
     rank: usize,

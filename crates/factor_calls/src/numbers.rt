@@ -27,6 +27,7 @@ fn bad_rank(rank: usize) -> bool
 }
 
 // 31 of a factor of m rows.
+#[tactic(auto, unfolding(crate::specs::Numbers::factor_short, crate::specs::Numbers::factor_refused, laws::specs::Refusal::any_of, laws::specs::Refusal::short))]
 fn factor_short(m: usize, rank: usize, lent: usize) -> bool
     ensures { result ≡ factor_short m rank lent }
 {
@@ -48,6 +49,7 @@ fn draws_refused(m: usize, rank: usize, k: usize) -> bool
 }
 
 // 31 of the draws.
+#[tactic(auto, unfolding(crate::specs::Numbers::draws_short, laws::specs::Refusal::short))]
 fn draws_short(m: usize, rank: usize, draws: Draws) -> bool
     ensures { result ≡ draws_short m rank draws.entry.count (length draws.entry.numbers.now) }
 {

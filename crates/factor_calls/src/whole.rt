@@ -47,6 +47,7 @@ fn whole_row(qv: Qv, i: usize, from: usize, sums: &mut [f64]) -> usize
 }
 
 // A row's sums times the row, divided by the row's product with itself: both products in one pass.
+#[tactic(auto, unfolding(factor::specs::Norms::dot_to))]
 fn quotient(sums: &[f64], v: &[f64]) -> f64
     requires { length sums.now ≡ length v.now }
     ensures { result ≡ dot_of sums.now v.now /ᶠ dot_of v.now v.now }

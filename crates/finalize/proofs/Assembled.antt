@@ -1,6 +1,5 @@
 -- What the functions of a finish leave, put together. Assumes nothing.
 --     chooses         the rounding, the search and the decoding
---     works           all figures of a sign table
 --     finalizes       they are those of (H, c)
 use Prim.Native.Nat.{ℕ, zero, suc, ◌+◌, ◌*◌, ◌≤◌, ◌<◌}
 use native.Mathlib.Numerals.{add-one}
@@ -20,9 +19,8 @@ use Rattle.laws.specs.Rows.{row_of}
 use Rattle.laws.proofs.MapFirst.{fill_none, fill_more}
 use Rattle.laws.proofs.Made.{tabulate_next}
 use Rattle.limits.specs.Limits.{most_signs, most_sign_entries, most_sign_magnitude, most_words, most_width, search_workspace}
-use Rattle.tables.specs.Table.{Table, floor_of}
+use Rattle.tables.specs.Table.{Table}
 use Rattle.tables.specs.Check.{Accepted}
-use Rattle.tables.specs.Bound.{entrywise}
 use Rattle.tables.specs.Cost.{decoded_byte}
 use Rattle.sign_table.specs.SignTable.{sign_table}
 use Rattle.ieee.specs.Floats.{zero64}
@@ -36,8 +34,6 @@ use Rattle.sign_search.specs.Clauses.{Found-by, Sound, LevelRoom}
 use Rattle.sign_search.proofs.Lawful.{objective_fits}
 use Rattle.sign_search.proofs.Theorems.{accepted_mirrors}
 use Rattle.sign_search.proofs.TurnLaws.{rising_climbs}
-use Rattle.prepared_table.specs.Work.{diagonal_sum}
-use Rattle.maxcut_oracle.specs.Table.{dual_variables}
 use Rattle.finalize.specs.Finalize.{choice_of, floor_eighths, float_bound, diagonal_total, multipliers_of, rounded_signs, rounded_cost, search_result, searched_choice, searched_cost, searched_rounds}
 use Rattle.finalize.specs.Clauses.{Fits, Chooses, Works, Finalizes}
 
@@ -86,21 +82,7 @@ module _ {m : ℕ} {t : Table} (ok : Accepted most_signs most_sign_entries most_
   pub objective_held : (x : List ℕ) {z : ℤ} → z ≡ objective_in t x → to_z w64 (of_z w64 z) ≡ z
   objective_held x e = to_z-of_z {w = w64} (rw e (objective_fits (accepted_mirrors ok) ok.magnitude x))
 
--- ---- the figures of a sign table, and of (H, c)
-
-module _ {t : Table} {n rank width draw_count : ℕ} {draws factor : List Float} {b b' : List ℕ} {multipliers multipliers' : List Float}
-    {diagonal bound : Float} {floor rounded cost : ℤ} {rounds : ℕ} where
-  pub works : Chooses t n rank width draw_count draws factor b b' rounded cost rounds
-      → diagonal ≡ diagonal_sum t (n + 1) → bound ≡ entrywise t → floor ≡ floor_of t → multipliers' ≡ over (dual_variables t (n + 1) rank factor) multipliers
-      → Works t n rank width draw_count draws factor b b' multipliers multipliers' diagonal bound floor rounded cost rounds
-  works ch d u f m =
-      record {
-        chooses = ch;
-        diagonal_is = d ∙ ap (diagonal_sum t) (add-one n);
-        bound_is = u;
-        floor_is = f;
-        multipliers_are = m ∙ ap (λ (k : ℕ). over (dual_variables t k rank factor) multipliers) (add-one n);
-      }
+-- ---- the figures of (H, c) are those of its sign table
 
 module _ (n : ℕ) (h : Table) (c : ℕ → ℤ) (rank width draw_count : ℕ) (draws factor : List Float) {b b' : List ℕ} {multipliers multipliers' : List Float}
     {diagonal bound : Float} {floor rounded cost : ℤ} {rounds : ℕ} where

@@ -65,7 +65,7 @@ module _ (n : ℕ) (signs : List ℕ) where
   unfolding choice_of
   length_choice = length_tabulate (decoded_byte n signs) n
 
-  -- the choice at the front of a slice, and alone
+  -- the choice at the front of a slice
   pub choice_byte : (xs : List ℕ) (i : ℕ) → i < n → elem (over (choice_of n signs) xs) i ≡ decoded_byte n signs i
   unfolding choice_of
   choice_byte xs i h = get_or-append (tabulate (decoded_byte n signs) n) _ 0 i (rw (length_tabulate (decoded_byte n signs) n) h) ∙ get_d_tabulate (decoded_byte n signs) n i 0 h
@@ -73,7 +73,8 @@ module _ (n : ℕ) (signs : List ℕ) where
   pub choice_at_lem : (xs : List ℕ) (i : ℕ) → i < n → choice_at (over (choice_of n signs) xs) i ≡ decoded n signs i
   choice_at_lem xs i h = ap bit (choice_byte xs i h) ∙ (decoded_byte_lem n signs i).1
 
-  alone_at_lem : (i : ℕ) → i < n → choice_at (choice_of n signs) i ≡ decoded n signs i
+  -- and alone
+  pub alone_at_lem : (i : ℕ) → i < n → choice_at (choice_of n signs) i ≡ decoded n signs i
   unfolding choice_of
   alone_at_lem i h = ap bit (get_d_tabulate (decoded_byte n signs) n i 0 h) ∙ (decoded_byte_lem n signs i).1
 

@@ -45,6 +45,7 @@ fn search_from(
 }
 
 // The rounded choice of the factor's n + 1 rows, and the search from it on their sign table; b takes the choice found.
+#[tactic(auto, using(tables::proofs::Checks::table_accepted))]
 pub fn choose(finish: Finish, b: &mut [u8], workspace: &mut [u64]) -> Chosen
     requires { (finish.n ≤ length b.old) × (search_workspace ≤ length workspace.old) }
     ensures { let f = finish.entry in Chooses (listed f.table) f.n f.rank f.width f.draws.count f.draws.numbers.now

@@ -40,6 +40,7 @@ pub struct Figures {
 }
 
 // The finish on the sign table of n wagons, from a factor of n + 1 rows.
+#[tactic(auto, using(tables::proofs::Checks::table_accepted))]
 fn finalize_signs(
     finish: Finish,
     b: &mut [u8],

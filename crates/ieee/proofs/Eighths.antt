@@ -9,7 +9,7 @@ use lib.Ieee.Fits.{down_pos, round_is}
 use lib.Ieee.Exact.{HasValue, round_exact}
 use lib.Ieee.Back.{round_whole}
 use lib.Ieee.Scale.{round_same}
-use Rattle.laws.proofs.Made.{below_or_not}
+use Rattle.std.proofs.lemmas.Bool.{cases_lt}
 use Rattle.ieee.proofs.Fractions.{over_left, over_right}
 use Rattle.ieee.specs.Eighths.{negative, WorthEighths}
 use Rattle.ieee.specs.Floats.{◌+ᶠ◌, eight64, eighth_of}
@@ -71,10 +71,10 @@ module _ {a b c n k d : ℕ} (p : Same a c n d) (q : Same b c k d) where
   lt_same h = lt_of_mul-lt-mul_right d (subst (λ (x : ℕ). x < b * d) (sym p.cross) (subst (λ (x : ℕ). n * c < x) (sym q.cross) (mul-lt-mul_of_pos_right h p.above)))
 
   le_same : b ≤ a → k ≤ n
-  le_same h = ⊎_elim (λ w. absurd (not-le_of_lt (lt_same w) h)) (λ w. w) (below_or_not n k)
+  le_same h = ⊎_elim (λ w. absurd (not-le_of_lt (lt_same w) h)) (λ w. w) (cases_lt n k)
 
   same_ltb : ltb a b ≡ ltb n k
-  same_ltb = ⊎_elim (λ h. lt-ltb a b h ∙ sym (lt-ltb n k (same_lt h))) (λ h. le-ltb a b h ∙ sym (le-ltb n k (le_same h))) (below_or_not a b)
+  same_ltb = ⊎_elim (λ h. lt-ltb a b h ∙ sym (lt-ltb n k (same_lt h))) (λ h. le-ltb a b h ∙ sym (le-ltb n k (le_same h))) (cases_lt a b)
 
   same_sub : (s : Bool) → round binary64 s (b - a) c ≡ round binary64 s (k - n) d
   same_sub s =
@@ -129,14 +129,14 @@ sub_below p q h = rw (lt-ltb p q h) (ap (eighths true) (omega arith))
 sums : (a b : ℤ) → sum binary64 (negative a) (nat_abs a) (negative b) (nat_abs b) 8 ≡ eighths (negative (a +ℤ b)) (nat_abs (a +ℤ b))
 unfolding sum
 sums (pos n) (pos k) = refl
-sums (pos n) (negsuc k) = ⊎_elim (λ h. rw (sub_below n (suc k) h, lt-ltb n (suc k) h)) (λ h. rw (sub_above n (suc k) h, le-ltb n (suc k) h)) (below_or_not n (suc k))
+sums (pos n) (negsuc k) = ⊎_elim (λ h. rw (sub_below n (suc k) h, lt-ltb n (suc k) h)) (λ h. rw (sub_above n (suc k) h, le-ltb n (suc k) h)) (cases_lt n (suc k))
 sums (negsuc n) (pos k) = ⊎_elim
     (λ h. rw (sub_above k (suc n) (omega arith), lt-ltb (suc n) k h))
     (λ h. ⊎_elim
     (λ l. rw (sub_below k (suc n) l, le-ltb (suc n) k h, lt-ltb k (suc n) l))
     (λ l. rw (sub_above k (suc n) l, le-ltb (suc n) k h, le-ltb k (suc n) l) (let none : suc n - k ≡ k - suc n = omega arith in ap (eighths false) none))
-    (below_or_not k (suc n)))
-    (below_or_not (suc n) k)
+    (cases_lt k (suc n)))
+    (cases_lt (suc n) k)
 sums (negsuc n) (negsuc k) = let all : suc n + suc k ≡ suc (suc (n + k)) = omega arith in ap (eighths true) all
 
 pub eighth_add : (a b : ℤ) → nat_abs a ≤ 2 ^ 53 → nat_abs b ≤ 2 ^ 53 → nat_abs (a +ℤ b) ≤ 2 ^ 53 → eighth_of a +ᶠ eighth_of b ≡ eighth_of (a +ℤ b)

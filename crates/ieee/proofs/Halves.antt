@@ -1,6 +1,6 @@
 -- The root of m * 2 ^ 52 to the nearest whole number, r: what shows it, by the parts a and b of r, and the root of m * 2 ^ 54 whose half it is. Assumes nothing.
-use Rattle.std.proofs.Common.{◌≡◌, ℕ, suc, ◌+◌, ◌-◌, ◌*◌, ◌/◌, ◌%◌, ◌^◌, ◌<◌, ◌≤◌, sym, ap, ◌∙◌, ⊎_elim, mul-le-mul, arith}
-use Rattle.laws.proofs.Made.{below_or_not}
+use Rattle.std.proofs.Common.{◌≡◌, ℕ, suc, ◌+◌, ◌-◌, ◌*◌, ◌/◌, ◌^◌, ◌<◌, ◌≤◌, sym, ap, ◌∙◌, ⊎_elim, arith}
+use Rattle.std.proofs.lemmas.Bool.{cases_lt}
 use Rattle.ieee.specs.Sqrt.{Root, NearRoot}
 use Rattle.ieee.proofs.Squares.{square_suc, square_even, square_split}
 
@@ -12,25 +12,13 @@ near {m} {r} a b e under room more less =
     let square : r * r ≡ a * a * (2 ^ 26 * 2 ^ 26) + 2 * (a * b * 2 ^ 26) + b * b = ap (λ (x : ℕ). x * x) (sym e) ∙ square_split (2 ^ 26) a b in
     omega arith
 
--- what the parts come to
-pub record Parts (a b : ℕ) : Type 0 where
-  pub squared : a * a ≤ 2 ^ 27 * 2 ^ 27
-  pub product : a * b ≤ 2 ^ 27 * 2 ^ 26
-  pub last : b * b ≤ 2 ^ 26 * 2 ^ 26
-
-pub parts : (r : ℕ) → r < 2 ^ 53 → Parts (r / 2 ^ 26) (r % 2 ^ 26)
-parts r h =
-    let a : r / 2 ^ 26 ≤ 2 ^ 27 = omega arith in
-    let b : r % 2 ^ 26 ≤ 2 ^ 26 = omega arith in
-    record { squared = mul-le-mul a a; product = mul-le-mul a b; last = mul-le-mul b b }
-
 pub record Halved (m r : ℕ) : Type 0 where
   pub q : ℕ
   pub root : Root (m * 2 ^ 54) q
   pub half : (q + 1) / 2 ≡ r
 
 pub halved : {m r : ℕ} → 0 < r → NearRoot m r → Halved m r
-halved {m} {r} pos n = ⊎_elim up down (below_or_not (m * 2 ^ 52) (r * r))
+halved {m} {r} pos n = ⊎_elim up down (cases_lt (m * 2 ^ 52) (r * r))
   where
     down : r * r ≤ m * 2 ^ 52 → Halved m r
     down h = record { q = 2 * r; root = omega (arith, n.under, square_even r (2 * r) (omega arith), square_suc (2 * r)); half = omega arith }

@@ -2,14 +2,15 @@
 --     nearest_unique        two of them have one magnitude
 --     sqrt_is_the_nearest   any of them is `sqrt_of`'s result
 -- Assumes nothing.
-use Rattle.std.proofs.Common.{◌≡◌, ℕ, zero, suc, ◌+◌, ◌-◌, ◌*◌, ◌%◌, ◌^◌, ◌<◌, true, false, T, ◌⊎◌, ℤ, pos, negsuc, sym, refl, ap, ◌∙◌, subst, inl, inr, ⊎_elim, mul_assoc, eq-zero-or-pos, mul-one, mul_left_comm, arith, pow-add}
+use Rattle.std.proofs.Common.{◌≡◌, ℕ, zero, suc, ◌+◌, ◌*◌, ◌%◌, ◌^◌, true, false, T, ℤ, pos, negsuc, sym, refl, ap, ◌∙◌, subst, ⊎_elim, mul-one, mul_left_comm, arith}
 use native.Mathlib.Nat.{pow-succ'}
-use native.Mathlib.Decide.{ℕ_discrete}
 use lib.Ieee.{Float, nan, inf, fin, binary64, up, down, fits}
 use lib.Ieee.Positive.{positive, positive-finite}
+use Rattle.std.proofs.lemmas.Bool.{cases_lt}
 use Rattle.ieee.specs.Scale.{radicand}
 use Rattle.ieee.specs.Sqrt.{sqrt_of}
 use Rattle.ieee.specs.Nearest.{units_of, Nearer, NearestRoot}
+use Rattle.ieee.proofs.Powers.{split}
 use Rattle.ieee.proofs.Nearest.{exact, parts, in_units_lem, sqrt_nearest}
 
 -- ---- two doubles nearest to one root have one magnitude
@@ -18,18 +19,10 @@ turned_sum : (a b : ℕ) → (a + b) * (a + b) ≡ (b + a) * (b + a)
 turned_sum a b = let e : a + b ≡ b + a = omega arith in ap (λ (x : ℕ). x * x) e
 
 both_nearer : (n a b : ℕ) → Nearer n a b → Nearer n b a → a ≡ b
-both_nearer n a b p q = go (ℕ_discrete a b)
-  where
-    apart : (a < b) ⊎ (b < a) → a ≡ b
-    apart (inl h) = absurd (omega (arith, p.than_above h, q.than_below h, turned_sum a b))
-    apart (inr h) = absurd (omega (arith, p.than_below h, q.than_above h, turned_sum a b))
-
-    either : (a ≡ b → ⊥) → (a < b) ⊎ (b < a)
-    either d = ⊎_elim (λ e. inr (omega (arith, e, d))) (λ h. inl (omega (arith, h))) (eq-zero-or-pos (b - a))
-
-    go : Dec (a ≡ b) → a ≡ b
-    go (yes e) = e
-    go (no d) = apart (either d)
+both_nearer n a b p q = ⊎_elim
+    (λ h. absurd (omega (arith, p.than_above h, q.than_below h, turned_sum a b)))
+    (λ u. ⊎_elim (λ h. absurd (omega (arith, p.than_below h, q.than_above h, turned_sum a b))) (λ l. omega (arith, u, l)) (cases_lt b a))
+    (cases_lt a b)
 
 pub nearest_unique : (x r s : Float) → NearestRoot x r → NearestRoot x s → units_of r ≡ units_of s
 nearest_unique x r s p q =
@@ -54,16 +47,13 @@ odd_parts m n (suc a) (suc b) o p h =
     let r = odd_parts m n a b o p (omega (arith, both)) in
     (r.0, ap suc r.1)
 
-split : (m a b : ℕ) → m * 2 ^ (a + b) ≡ m * 2 ^ a * 2 ^ b
-split m a b = ap (λ (x : ℕ). m * x) (pow-add 2 a b) ∙ sym (mul_assoc m (2 ^ a) (2 ^ b))
-
 -- the exponent from the places of an odd m in units
 of_pos : (m i j : ℕ) → m % 2 ≡ 1 → m * 2 ^ i * 2 ^ 1074 ≡ m * 2 ^ j * 1 → i + 1074 ≡ j
-of_pos m i j o h = (odd_parts m m (i + 1074) j o o (split m i 1074 ∙ h ∙ mul-one (m * 2 ^ j))).1
+of_pos m i j o h = (odd_parts m m (i + 1074) j o o (split m i 1074 (i + 1074) refl ∙ h ∙ mul-one (m * 2 ^ j))).1
 
 of_negsuc : (m i j : ℕ) → m % 2 ≡ 1 → m * 1 * 2 ^ 1074 ≡ m * 2 ^ j * 2 ^ suc i → 1074 ≡ j + suc i
 of_negsuc m i j o h =
-    (odd_parts m m 1074 (j + suc i) o o (ap (λ (x : ℕ). x * 2 ^ 1074) (sym (mul-one m)) ∙ h ∙ sym (split m j (suc i)))).1
+    (odd_parts m m 1074 (j + suc i) o o (ap (λ (x : ℕ). x * 2 ^ 1074) (sym (mul-one m)) ∙ h ∙ sym (split m j (suc i) (j + suc i) refl))).1
 
 exponents : (m : ℕ) (e g : ℤ) (j : ℕ) → m % 2 ≡ 1 → m * up e * 2 ^ 1074 ≡ m * 2 ^ j * down e → m * up g * 2 ^ 1074 ≡ m * 2 ^ j * down g → e ≡ g
 exponents m (pos i) (pos k) j o p q = ap pos (omega (arith, of_pos m i j o p, of_pos m k j o q))

@@ -9,16 +9,17 @@ ghost use Rattle.ieee.specs.Floats.{zero64};
 ghost use Rattle.run_limits.specs.Start.{start_count, signs_in, draws_in};
 ghost use Rattle.initialize.specs.Initialize.{start_rows, sign_by, with_signs, start_signs, start_drawn, start_by, start_within};
 
-use factor::rows::{clear, copy, multiply_by, project};
+use factor::rows::{clear, multiply_by, project};
 use run_limits::StartNumbers;
 
 // Starts 0 and 1: the numbers' rows, projected.
+#[tactic(auto, unfolding(crate::specs::Initialize::start_rows))]
 pub fn start_rows(numbers: &[f64], rank: usize, m: usize, factor: &mut [f64])
     requires { (m * rank ≤ length numbers.now) × (length factor.old ≡ m * rank) }
     ensures { factor.new ≡ start_rows rank m numbers.now }
 {
     let size = m * rank;
-    copy(factor, &numbers[..size]);
+    factor.copy_from_slice(&numbers[..size]);
     project(factor, rank, m);
 }
 
@@ -33,6 +34,7 @@ fn sign(x: f64) -> f64
 }
 
 // The signs in the first column.
+#[tactic(auto, unfolding(crate::specs::Initialize::with_signs, laws::specs::Turns::up_to))]
 fn set_signs(signs: &[f64], rank: usize, m: usize, factor: &mut [f64])
     requires { (m ≤ length signs.now) × (length factor.old ≡ m * rank) × (1 ≤ rank) }
     ensures { factor.new ≡ with_signs rank m signs.now factor.old }
@@ -80,6 +82,7 @@ fn start_by(start: StartNumbers, numbers: &[f64], rank: usize, m: usize, factor:
 }
 
 // The factor of a start in the first m rows of `factor`; a longer slice keeps its tail.
+#[tactic(auto, unfolding(crate::specs::Initialize::start_within))]
 pub fn prepare_initial_factor(
     start: StartNumbers,
     numbers: &[f64],

@@ -9,18 +9,15 @@ use mathlib.Core.Path.{◌≡◌, refl, sym, ap, ap₂, ◌∙◌}
 use mathlib.Core.Bool.{Bool, true, false, cond}
 use mathlib.Core.List.{List, [], ◌++◌, append_assoc}
 use native.Mathlib.Omega.{arith}
-use lib.Dec.{T}
 use lib.ListN.{length, get_or, length-append}
 use lib.IntN.{ℤ, pos}
-use lib.Ieee.{Float, nan, binary64, fits}
-use mir.Syntax.{w64}
-use mir.Val.{SFits}
+use lib.Ieee.{Float, nan}
 use Rattle.ieee.specs.Floats.{double_of, bits_of, signed_of, bits_of_signed}
 use Rattle.job_reader.specs.Bytes.{big_endian, signed_at, double_at}
 use Rattle.job_reader.specs.Encode.{bytes_of}
 use Rattle.job_reader.proofs.Encode.{length_bytes_of, read_front, read_bytes, read_signed, read_double}
 use Rattle.job_record.specs.Versions.{versions}
-use Rattle.job_record.specs.Fields.{version, wagons, entry_count, row, column, value, pins_place, pin_at, pin_count_by, free_by, settings_by}
+use Rattle.job_record.specs.Fields.{version, wagons, entry_count, row, column, value, pins_place, pin_at, rule_number_at, pin_count_by, free_by, settings_by}
 use Rattle.job_record.specs.Values.{JobValues, pin_count, free_wagons, settings_place, draws_by, draws_place, job_by, job_of, job_cost, job_pin_wagon, job_pin_store, job_start, job_draw}
 use Rattle.job_encoding.specs.Encode.{Entry, Pin, Values, each, entry_bytes, signed_bytes, double_bytes, pin_bytes, pins_bytes, settings_bytes, body_bytes, head_bytes, job_bytes}
 use Rattle.job_encoding.specs.Allowed.{no_entry, entry_of, cost_in, no_pin, pin_of, free_in, Typed}
@@ -115,29 +112,9 @@ module _ (v : Values) where
       ap (λ (q : ℕ). big_endian s q w) e ∙ at_start (length v.start_numbers * 8 + p) w
       ∙ read_behind (each double_bytes v.start_numbers) drawing (length v.start_numbers * 8) p w (length_each double_bytes 8 double_size v.start_numbers)
 
-head_version : (rest version n count : ℕ) (body : List ℕ) → version < 2 ^ 8 → big_endian (head_bytes rest version n count ++ body) 4 1 ≡ version
-unfolding head_bytes bytes_of big_endian
-head_version rest version n _ body h = read_bytes 1 version h
-
 head_n : (rest version n count : ℕ) (body : List ℕ) → n < 2 ^ 8 → big_endian (head_bytes rest version n count ++ body) 5 1 ≡ n
 unfolding head_bytes bytes_of big_endian
 head_n rest version n _ body h = read_bytes 1 n h
-
-head_count : (rest version n count : ℕ) (body : List ℕ) → count < 2 ^ 16 → big_endian (head_bytes rest version n count ++ body) 6 2 ≡ count
-unfolding head_bytes bytes_of big_endian
-head_count rest version n count body h = read_bytes 2 count h
-
-entry_row : (e : Entry) → e.row < 2 ^ 8 → big_endian (entry_bytes e) 0 1 ≡ e.row
-unfolding entry_bytes bytes_of big_endian
-entry_row e h = read_bytes 1 e.row h
-
-entry_column : (e : Entry) → e.column < 2 ^ 8 → big_endian (entry_bytes e) 1 1 ≡ e.column
-unfolding entry_bytes bytes_of big_endian
-entry_column e h = read_bytes 1 e.column h
-
-entry_value : (e : Entry) → SFits w64 e.value → signed_of (big_endian (entry_bytes e) 2 8) ≡ e.value
-unfolding entry_bytes bytes_of big_endian
-entry_value e h = read_signed e.value h
 
 pin_wagon_lem : (p : Pin) → p.wagon < 2 ^ 8 → big_endian (pin_bytes p) 0 1 ≡ p.wagon
 unfolding pin_bytes bytes_of big_endian
@@ -147,26 +124,18 @@ pin_store_lem : (p : Pin) → p.store < 2 ^ 8 → big_endian (pin_bytes p) 1 1 �
 unfolding pin_bytes bytes_of big_endian
 pin_store_lem p h = read_bytes 1 p.store h
 
-signed_value : (z : ℤ) → SFits w64 z → signed_of (big_endian (signed_bytes z) 0 8) ≡ z
-unfolding signed_bytes
-signed_value z h = read_signed z h
-
-double_value : (x : Float) → T (fits binary64 x) → double_of (big_endian (double_bytes x) 0 8) ≡ x
-unfolding double_bytes
-double_value x h = read_double x h
-
 module _ (v : Values) (held : Typed v) where
   pub version_back : version (job_bytes v) ≡ v.version
-  unfolding job_bytes
-  version_back = head_version _ _ _ _ (body_bytes v) held.version
+  unfolding job_bytes head_bytes bytes_of big_endian
+  version_back = read_bytes 1 v.version held.version
 
   pub wagons_back : wagons (job_bytes v) ≡ length v.c
   unfolding job_bytes
   wagons_back = head_n _ _ _ _ (body_bytes v) held.n
 
   pub count_back : entry_count (job_bytes v) ≡ length v.entries
-  unfolding job_bytes
-  count_back = head_count _ _ _ _ (body_bytes v) held.count
+  unfolding job_bytes head_bytes bytes_of big_endian
+  count_back = read_bytes 2 (length v.entries) held.count
 
   entry_at : (k p w : ℕ) → k < length v.entries → p + w ≤ 10 → big_endian (job_bytes v) (8 + k * 10 + p) w ≡ big_endian (entry_bytes (entry_of v k)) p w
   entry_at k p w l h =
@@ -174,23 +143,27 @@ module _ (v : Values) (held : Typed v) where
       ap (λ (q : ℕ). big_endian (job_bytes v) q w) e ∙ at_entries v (k * 10 + p) w ∙ read_each entry_bytes 10 entry_size v.entries (costing v) no_entry k p w l h
 
   pub row_back : (k : ℕ) → k < length v.entries → row (job_bytes v) k ≡ (entry_of v k).row
+  unfolding entry_bytes bytes_of big_endian
   row_back k l =
       let e : 8 + k * 10 ≡ 8 + k * 10 + 0 = omega arith in
-      ap (λ (q : ℕ). big_endian (job_bytes v) q 1) e ∙ entry_at k 0 1 l (omega arith) ∙ entry_row _ (held.rows k l)
+      ap (λ (q : ℕ). big_endian (job_bytes v) q 1) e ∙ entry_at k 0 1 l (omega arith) ∙ read_bytes 1 _ (held.rows k l)
 
   pub column_back : (k : ℕ) → k < length v.entries → column (job_bytes v) k ≡ (entry_of v k).column
-  column_back k l = entry_at k 1 1 l (omega arith) ∙ entry_column _ (held.columns k l)
+  unfolding entry_bytes bytes_of big_endian
+  column_back k l = entry_at k 1 1 l (omega arith) ∙ read_bytes 1 _ (held.columns k l)
 
   pub value_back : (k : ℕ) → k < length v.entries → value (job_bytes v) k ≡ (entry_of v k).value
-  value_back k l = ap signed_of (entry_at k 2 8 l (omega arith)) ∙ entry_value _ (held.values k l)
+  unfolding entry_bytes bytes_of big_endian
+  value_back k l = ap signed_of (entry_at k 2 8 l (omega arith)) ∙ read_signed _ (held.values k l)
 
   pub cost_back : (i : ℕ) → i < length v.c → job_cost (job_bytes v) i ≡ cost_in v i
+  unfolding signed_bytes
   cost_back i l =
       let e : i * 8 ≡ i * 8 + 0 = omega arith in
       ap (λ (q : ℕ). signed_at (job_bytes v) (8 + q * 10 + i * 8)) count_back
       ∙ ap (λ (q : ℕ). signed_at (job_bytes v) (8 + length v.entries * 10 + q)) e
       ∙ ap signed_of (at_costs v (i * 8 + 0) 8 ∙ read_each signed_bytes 8 signed_size v.c (pinning v) (pos 0) i 0 8 l (omega arith))
-      ∙ signed_value _ (held.costs i l)
+      ∙ read_signed _ (held.costs i l)
 
 -- ---- the pins
 
@@ -239,16 +212,10 @@ module _ (v : Values) (held : Typed v) where
       go true e = refl
       go false e = absurd (omega (arith, held.pinned e))
 
-  wagon_back : (k : ℕ) → k < length v.pins → job_pin_wagon (job_bytes v) k ≡ (pin_of v k).wagon
-  wagon_back k l =
-      let e : pin_at (pins_place (job_bytes v) + 1) k ≡ pin_at (pins_place (job_bytes v) + 1) k + 0 = omega arith in
-      ap (λ (q : ℕ). big_endian (job_bytes v) q 1) e ∙ pin_at_lem (carried k l) k 0 l (omega arith) ∙ pin_wagon_lem _ (held.wagons k l)
-
-  store_back : (k : ℕ) → k < length v.pins → job_pin_store (job_bytes v) k ≡ (pin_of v k).store
-  store_back k l = pin_at_lem (carried k l) k 1 l (omega arith) ∙ pin_store_lem _ (held.stores k l)
-
   pub pin_back : (k : ℕ) → k < length v.pins → (job_pin_wagon (job_bytes v) k ≡ (pin_of v k).wagon) × (job_pin_store (job_bytes v) k ≡ (pin_of v k).store)
-  pin_back k l = (wagon_back k l, store_back k l)
+  pin_back k l =
+      let e : pin_at (pins_place (job_bytes v) + 1) k ≡ pin_at (pins_place (job_bytes v) + 1) k + 0 = omega arith in
+      (ap (λ (q : ℕ). big_endian (job_bytes v) q 1) e ∙ pin_at_lem (carried k l) k 0 l (omega arith) ∙ pin_wagon_lem _ (held.wagons k l), pin_at_lem (carried k l) k 1 l (omega arith) ∙ pin_store_lem _ (held.stores k l))
 
   pub pin_count_back : pin_count (job_bytes v) ≡ length v.pins
   unfolding pin_count_by
@@ -263,43 +230,6 @@ module _ (v : Values) (held : Typed v) where
   free_back = ap₂ (λ (n p : ℕ). n - p) (wagons_back v held) pin_count_back
 
 -- ---- the settings
-
-module _ (v : Values) where
-  set_rank : v.rank < 2 ^ 8 → big_endian (settings_bytes v) 0 1 ≡ v.rank
-  unfolding settings_bytes bytes_of big_endian
-  set_rank h = read_bytes 1 v.rank h
-
-  pub set_rule : v.rule < 2 ^ 8 → big_endian (settings_bytes v) 1 1 ≡ v.rule
-  unfolding settings_bytes bytes_of big_endian
-  set_rule h = read_bytes 1 v.rule h
-
-  pub set_number : T (fits binary64 v.rule_number) → double_of (big_endian (settings_bytes v) 2 8) ≡ v.rule_number
-  unfolding settings_bytes bytes_of big_endian
-  set_number h = read_double v.rule_number h
-
-  set_most : v.most < 2 ^ 32 → big_endian (settings_bytes v) 10 4 ≡ v.most
-  unfolding settings_bytes bytes_of big_endian
-  set_most h = read_bytes 4 v.most h
-
-  set_minimum : v.minimum < 2 ^ 32 → big_endian (settings_bytes v) 14 4 ≡ v.minimum
-  unfolding settings_bytes bytes_of big_endian
-  set_minimum h = read_bytes 4 v.minimum h
-
-  set_objective : T (fits binary64 v.objective_tolerance) → double_of (big_endian (settings_bytes v) 18 8) ≡ v.objective_tolerance
-  unfolding settings_bytes bytes_of big_endian
-  set_objective h = read_double v.objective_tolerance h
-
-  set_stationarity : T (fits binary64 v.stationarity_tolerance) → double_of (big_endian (settings_bytes v) 26 8) ≡ v.stationarity_tolerance
-  unfolding settings_bytes bytes_of big_endian
-  set_stationarity h = read_double v.stationarity_tolerance h
-
-  pub set_width : v.width < 2 ^ 8 → big_endian (settings_bytes v) 34 1 ≡ v.width
-  unfolding settings_bytes bytes_of big_endian
-  set_width h = read_bytes 1 v.width h
-
-  set_start : v.start < 2 ^ 8 → big_endian (settings_bytes v) 35 1 ≡ v.start
-  unfolding settings_bytes bytes_of big_endian
-  set_start h = read_bytes 1 v.start h
 
 same : {n n' count count' pins pins' free free' rank rank' rule rule' most most' minimum minimum' width width' start start' draws draws' : ℕ} {number number' objective objective' stationarity stationarity' : Float}
     → n ≡ n' → count ≡ count' → pins ≡ pins' → free ≡ free' → rank ≡ rank' → rule ≡ rule' → number ≡ number' → most ≡ most' → minimum ≡ minimum' → objective ≡ objective' → stationarity ≡ stationarity' → width ≡ width' → start ≡ start' → draws ≡ draws'
@@ -316,20 +246,38 @@ module _ (v : Values) (held : Typed v) where
       go true e = omega (arith, pins_at v held, pin_count_back v held, some_size v e)
       go false e = omega (arith, pins_at v held, no_size v e)
 
-  pub setting_at : (p w : ℕ) → p + w ≤ 36 → big_endian (job_bytes v) (settings_place (job_bytes v) + p) w ≡ big_endian (settings_bytes v) p w
+  setting_at : (p w : ℕ) → p + w ≤ 36 → big_endian (job_bytes v) (settings_place (job_bytes v) + p) w ≡ big_endian (settings_bytes v) p w
   setting_at p w h =
       ap (λ (q : ℕ). big_endian (job_bytes v) (q + p) w) settings_at ∙ at_settings v p w ∙ read_front (settings_bytes v) (starting v) p w (omega (arith, settings_size v))
 
   pub rank_is : big_endian (job_bytes v) (settings_place (job_bytes v)) 1 ≡ v.rank
+  unfolding settings_bytes bytes_of big_endian
   rank_is =
       let e : settings_place (job_bytes v) ≡ settings_place (job_bytes v) + 0 = omega arith in
-      ap (λ (q : ℕ). big_endian (job_bytes v) q 1) e ∙ setting_at 0 1 (omega arith) ∙ set_rank v held.rank
+      ap (λ (q : ℕ). big_endian (job_bytes v) q 1) e ∙ setting_at 0 1 (omega arith) ∙ read_bytes 1 v.rank held.rank
+
+  set_most : big_endian (settings_bytes v) 10 4 ≡ v.most
+  unfolding settings_bytes bytes_of big_endian
+  set_most = read_bytes 4 v.most held.most
 
   pub most_is : big_endian (job_bytes v) (settings_place (job_bytes v) + 10) 4 ≡ v.most
-  most_is = setting_at 10 4 (omega arith) ∙ set_most v held.most
+  most_is = setting_at 10 4 (omega arith) ∙ set_most
 
   pub start_is : big_endian (job_bytes v) (settings_place (job_bytes v) + 35) 1 ≡ v.start
-  start_is = setting_at 35 1 (omega arith) ∙ set_start v held.start
+  unfolding settings_bytes bytes_of big_endian
+  start_is = setting_at 35 1 (omega arith) ∙ read_bytes 1 v.start held.start
+
+  pub rule_is : big_endian (job_bytes v) (settings_place (job_bytes v) + 1) 1 ≡ v.rule
+  unfolding settings_bytes bytes_of big_endian
+  rule_is = setting_at 1 1 (omega arith) ∙ read_bytes 1 v.rule held.rule
+
+  pub number_is : rule_number_at (job_bytes v) (settings_place (job_bytes v)) ≡ v.rule_number
+  unfolding settings_bytes bytes_of big_endian
+  number_is = ap double_of (setting_at 2 8 (omega arith)) ∙ read_double v.rule_number held.rule_number
+
+  pub width_is : big_endian (job_bytes v) (settings_place (job_bytes v) + 34) 1 ≡ v.width
+  unfolding settings_bytes bytes_of big_endian
+  width_is = setting_at 34 1 (omega arith) ∙ read_bytes 1 v.width held.width
 
   pub draws_at : draws_place (job_bytes v) ≡ settings_from v + 36 + length v.start_numbers * 8
   unfolding draws_by
@@ -358,20 +306,22 @@ module _ (v : Values) (held : Typed v) where
         start = v.start;
         draw_count = v.draw_count;
       }
-  unfolding job_by
+  unfolding job_by settings_bytes bytes_of big_endian
   job_back =
-      same (wagons_back v held) (count_back v held) (pin_count_back v held) (free_back v held) rank_is (setting_at 1 1 (omega arith) ∙ set_rule v held.rule) (ap double_of (setting_at 2 8 (omega arith)) ∙ set_number v held.rule_number) most_is
-      (setting_at 14 4 (omega arith) ∙ set_minimum v held.minimum) (ap double_of (setting_at 18 8 (omega arith)) ∙ set_objective v held.objective)
-      (ap double_of (setting_at 26 8 (omega arith)) ∙ set_stationarity v held.stationarity) (setting_at 34 1 (omega arith) ∙ set_width v held.width) start_is drawn_is
+      same (wagons_back v held) (count_back v held) (pin_count_back v held) (free_back v held) rank_is rule_is number_is most_is
+      (setting_at 14 4 (omega arith) ∙ read_bytes 4 v.minimum held.minimum) (ap double_of (setting_at 18 8 (omega arith)) ∙ read_double v.objective_tolerance held.objective)
+      (ap double_of (setting_at 26 8 (omega arith)) ∙ read_double v.stationarity_tolerance held.stationarity) width_is start_is drawn_is
 
   pub start_back : (i : ℕ) → i < length v.start_numbers → job_start (job_bytes v) i ≡ get_or v.start_numbers i nan
+  unfolding double_bytes
   start_back i l =
       let e : settings_place (job_bytes v) + 36 + i * 8 ≡ settings_from v + 36 + (i * 8 + 0) = omega (arith, settings_at) in
       ap (λ (q : ℕ). double_at (job_bytes v) q) e
       ∙ ap double_of (at_start v (i * 8 + 0) 8 ∙ read_each double_bytes 8 double_size v.start_numbers (drawing v) nan i 0 8 l (omega arith))
-      ∙ double_value _ (held.numbers i l)
+      ∙ read_double _ (held.numbers i l)
 
   pub draw_back : (i : ℕ) → i < length v.draws → job_draw (job_bytes v) i ≡ get_or v.draws i nan
+  unfolding double_bytes
   draw_back i l =
       let e : draws_place (job_bytes v) + 2 + i * 8 ≡ settings_from v + 36 + length v.start_numbers * 8 + (2 + (i * 8 + 0)) = omega (arith, draws_at) in
       ap (λ (q : ℕ). double_at (job_bytes v) q) e
@@ -379,4 +329,4 @@ module _ (v : Values) (held : Typed v) where
       ∙ read_behind (bytes_of 2 v.draw_count) (each double_bytes v.draws) 2 (i * 8 + 0) 8 (length_bytes_of 2 v.draw_count)
       ∙ sym (read_front (each double_bytes v.draws) [] (i * 8 + 0) 8 (omega (arith, length_each double_bytes 8 double_size v.draws)))
       ∙ read_each double_bytes 8 double_size v.draws [] nan i 0 8 l (omega arith))
-      ∙ double_value _ (held.draws i l)
+      ∙ read_double _ (held.draws i l)

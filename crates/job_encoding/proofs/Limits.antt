@@ -15,8 +15,7 @@ use lib.Ieee.{nan, binary64, fits}
 use mir.Syntax.{w64}
 use Rattle.std.proofs.lemmas.Int.{fits_signed_from_abs}
 use Rattle.laws.proofs.Sums.{total_at}
-use Rattle.laws.proofs.Any.{and_true}
-use Rattle.laws.proofs.Made.{below_or_not}
+use Rattle.std.proofs.lemmas.Bool.{cases_lt, and_parts}
 use Rattle.limits.specs.Limits.{most_entries, most_magnitude, most_rank, most_width, most_draws, last_rule, last_start, most_bytes}
 use Rattle.tables.specs.Check.{Hall}
 use Rattle.run_limits.specs.Start.{start_length}
@@ -32,7 +31,7 @@ use Rattle.job_encoding.proofs.Accepted.{accepted_back}
 
 known_byte : (v : ℕ) → known versions v ≡ true → v < 2 ^ 8
 unfolding versions
-known_byte v e = let low : v ≤ versions.last = leb-true v versions.last (and_true (leb 1 v) (leb v versions.last) e).1 in omega (arith, low)
+known_byte v e = omega (arith, leb-true v versions.last (and_parts (leb 1 v) (leb v versions.last) e).1)
 
 -- a known version, as many wagons as it allows, entries in range, in order and mirrored, and their magnitude; pins where the version carries them,
 -- each of a wagon, no wagon twice, stores 0 and 1; rank, rule, momentum in range; most and minimum of 4 bytes, W, start, 1 with
@@ -55,11 +54,11 @@ module _ (v : Values)
     (starts : (i : ℕ) → i < length v.start_numbers → T (fits binary64 (get_or v.start_numbers i nan)))
     (drawn : (i : ℕ) → i < length v.draws → T (fits binary64 (get_or v.draws i nan))) where
   wagon_byte : length v.c < 2 ^ 8
-  wagon_byte = omega (arith, hall.wagons, most_wagons_lem v.version)
+  wagon_byte = omega (arith, most_wagons_lem v.version)
 
   -- no more pins than wagons
   pins_few : length v.pins ≤ length v.c
-  pins_few = pigeonhole (λ k w. (pin_of v k).wagon ≡ w) (length v.pins) (length v.c) (λ k l. ((pin_of v k).wagon, within k l, refl)) (λ i j w a b e f. same i j a b (e ∙ sym f) (below_or_not i j) (below_or_not j i))
+  pins_few = pigeonhole (λ k w. (pin_of v k).wagon ≡ w) (length v.pins) (length v.c) (λ k l. ((pin_of v k).wagon, within k l, refl)) (λ i j w a b e f. same i j a b (e ∙ sym f) (cases_lt i j) (cases_lt j i))
     where
       same : (i j : ℕ) → i < length v.pins → j < length v.pins → (pin_of v i).wagon ≡ (pin_of v j).wagon → (i < j) ⊎ (j ≤ i) → (j < i) ⊎ (i ≤ j) → i ≡ j
       same i j a b e (inl x) y = absurd (once i j x b e)
@@ -71,11 +70,11 @@ module _ (v : Values)
       record {
         version = known_byte v.version version;
         n = wagon_byte;
-        count = omega (arith, hall.entries);
+        count = omega arith;
         rows = λ k l. omega (arith, hall.in_range.rows_in k l, wagon_byte);
         columns = λ k l. omega (arith, hall.in_range.cols_in k l, wagon_byte);
-        values = λ k l. fits_signed_from_abs w64 (entry_of v k).value (omega (arith, total_at (length v.entries) k (λ j. nat_abs (entry_of v j).value) l, hall.magnitude));
-        costs = λ i l. fits_signed_from_abs w64 (cost_in v i) (omega (arith, total_at (length v.c) i (λ j. nat_abs (cost_in v j)) l, hall.magnitude));
+        values = λ k l. fits_signed_from_abs w64 (entry_of v k).value (omega (arith, total_at (length v.entries) k (λ j. nat_abs (entry_of v j).value) l));
+        costs = λ i l. fits_signed_from_abs w64 (cost_in v i) (omega (arith, total_at (length v.c) i (λ j. nat_abs (cost_in v j)) l));
         pins = omega (arith, pins_few, wagon_byte);
         pinned = pinned;
         wagons = λ k l. omega (arith, within k l, wagon_byte);

@@ -46,14 +46,14 @@ module _ (v : Values) (one : Typed (in_version 1 v)) (two : Typed (in_version 2 
   no_pins_alike =
       record {
         job = job_back second two ∙ sym (job_back first one);
-        rows = λ k l. let m : k < length v.entries = omega (arith, l, count_back second two) in row_back second two k m ∙ sym (row_back first one k m);
-        columns = λ k l. let m : k < length v.entries = omega (arith, l, count_back second two) in column_back second two k m ∙ sym (column_back first one k m);
-        values = λ k l. let m : k < length v.entries = omega (arith, l, count_back second two) in value_back second two k m ∙ sym (value_back first one k m);
-        costs = λ i l. let m : i < length v.c = omega (arith, l, wagons_back second two) in cost_back second two i m ∙ sym (cost_back first one i m);
+        rows = λ k l. let m : k < length v.entries = omega (arith, count_back second two) in row_back second two k m ∙ sym (row_back first one k m);
+        columns = λ k l. let m : k < length v.entries = omega (arith, count_back second two) in column_back second two k m ∙ sym (column_back first one k m);
+        values = λ k l. let m : k < length v.entries = omega (arith, count_back second two) in value_back second two k m ∙ sym (value_back first one k m);
+        costs = λ i l. let m : i < length v.c = omega (arith, wagons_back second two) in cost_back second two i m ∙ sym (cost_back first one i m);
         states = states_none second two none ∙ sym (states_none first one none);
         rank = rank_back second two ∙ sym (rank_back first one);
         start_count = start_count_back second two ∙ sym (start_count_back first one);
-        start = λ i l. let m : i < length v.start_numbers = omega (arith, l, start_count_back second two) in start_back second two i m ∙ sym (start_back first one i m);
+        start = λ i l. let m : i < length v.start_numbers = omega (arith, start_count_back second two) in start_back second two i m ∙ sym (start_back first one i m);
         drawn = drawn_back second two ok-two ∙ sym (drawn_back first one ok-one);
-        draw = λ i l. let m : i < length v.draws = omega (arith, l, drawn_back second two ok-two) in draw_back second two i m ∙ sym (draw_back first one i m);
+        draw = λ i l. let m : i < length v.draws = omega (arith, drawn_back second two ok-two) in draw_back second two i m ∙ sym (draw_back first one i m);
       }

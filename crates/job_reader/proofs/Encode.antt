@@ -47,7 +47,7 @@ read_bytes (suc n) v h =
     let high : big_endian (bytes_of n (v / 256) ++ (v % 256 ∷ [])) 0 n ≡ v / 256 =
     read_front (bytes_of n (v / 256)) (v % 256 ∷ []) 0 n (omega (arith, length_bytes_of n (v / 256))) ∙ read_bytes n (v / 256) fits in
     let low : get_or (bytes_of n (v / 256) ++ (v % 256 ∷ [])) (0 + n) 0 ≡ v % 256 = rw e (get_or_at (bytes_of n (v / 256)) (v % 256) [] 0 n (length_bytes_of n (v / 256))) in
-    omega (arith, high, low)
+    omega arith
 
 -- a signed number and a double that their bytes hold
 pub read_signed : (z : ℤ) → SFits w64 z → signed_of (big_endian (bytes_of 8 (bits_of_signed z)) 0 8) ≡ z

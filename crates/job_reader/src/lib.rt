@@ -16,6 +16,7 @@ pub struct JobReader<'a> {
 }
 
 // The big-endian number of the `width` bytes from `at`. No `from_be_bytes`: that takes eight bytes, and a field has one, two, four or eight.
+#[tactic(auto, unfolding(crate::specs::Bytes::big_endian))]
 pub fn big_endian(bytes: &[u8], at: usize, width: usize) -> u64
     requires { (width ≤ 8) × (at + width ≤ length bytes.now) }
     ensures { (result ≡ big_endian bytes.now at width) × (result < 256 ^ width) }

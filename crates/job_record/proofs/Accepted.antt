@@ -16,7 +16,7 @@ use Rattle.limits.specs.Limits.{most_wagons, most_entries, most_start, most_byte
 use Rattle.job_record.specs.Versions.{versions}
 use Rattle.job_record.specs.Fields.{version, wagons, entry_count, entry_at, costs_end, pins_place, pin_at, free_state, pin_count_by, free_by, settings_by, rank_at, most_at, start_at}
 use Rattle.job_record.specs.Number.{pin_number, pins_numbers, pins_numbers_by, job_number}
-use Rattle.std.specs.Prelude.{Option, Some}
+use Rattle.std.specs.Prelude.{Option}
 use Rattle.job_reader.specs.Bytes.{big_endian, field_at, value_of}
 use Rattle.job_record.specs.declared.reading.HeadValues.{HeadValues}
 use Rattle.job_record.specs.Reading.{SettingsValues, HeadThere, settings_from, settings_values}
@@ -53,7 +53,7 @@ module _ (s : List ℕ) (e : first (pins_numbers_by versions s) ≡ 0) where
   unfolding free_by settings_by
   pins_passed =
       let left = free_left s (wagons s) (pins_place s + 1) (pin_count s) each_pin in
-      record { each = each_pin; few = omega (arith, left); behind = behind (versions.pinned (version s)); reach = reach (versions.pinned (version s)) }
+      record { each = each_pin; few = omega arith; behind = behind (versions.pinned (version s)); reach = reach (versions.pinned (version s)) }
     where
       behind : (t : Bool) → pins_place s ≤ cond t (pin_at (pins_place s + 1) (pin_count s)) (pins_place s)
       behind true = omega arith
@@ -74,11 +74,7 @@ module _ (s : List ℕ) {head : HeadValues} (there : HeadThere s head) where
   pub version_pinned : {b t : Bool} → b ≡ versions.pinned head.version → not b ≡ t → versions.pinned (version s) ≡ not t
   version_pinned {b} e is = version_is e (sym (not-not b) ∙ ap not is)
 
--- the numbers of the pins, by the version
-pub version_none : (s : List ℕ) → versions.pinned (version s) ≡ false → 0 ≡ first (pins_numbers_by versions s)
-unfolding pins_numbers_by first
-version_none s t = rw t
-
+-- the numbers of the pins of a version with pins
 pub version_some : (s : List ℕ) → versions.pinned (version s) ≡ true → first (pins_numbers s (wagons s) (pins_place s)) ≡ first (pins_numbers_by versions s)
 unfolding pins_numbers_by
 version_some s t = rw t
@@ -102,16 +98,18 @@ module _ (s : List ℕ) (e : first (pins_numbers_by versions s) ≡ 0) (t : vers
   unfolding pin_count_by
   count_is = rw t
 
-  pub settings_are : pins_place s + 1 + pin_count s * 2 ≡ settings_place s
+  settings_are : pins_place s + 1 + pin_count s * 2 ≡ settings_place s
   unfolding settings_by
   settings_are = rw t
 
-  module _ {at : ℕ} {read : Option ℕ} (place : at ≡ pins_place s) (is : read ≡ field_at s at 1) where
-    whole : read ≡ Some (big_endian s at 1)
-    whole = field_there s at 1 is (omega (arith, count_there))
-
-    pub read_count : value_of read ≡ pin_count s
-    read_count = ap value_of whole ∙ ap (λ (p : ℕ). big_endian s p 1) place ∙ count_is
+-- the same of what the calls gave
+pub pins_read : (s : List ℕ) {head : HeadValues} → HeadThere s head → first (pins_numbers_by versions s) ≡ 0 → {b : Bool} {at pins : ℕ} {read : Option ℕ}
+    → b ≡ versions.pinned head.version → not b ≡ false → at ≡ costs_end head.n head.count → read ≡ field_at s at 1 → pins ≡ value_of read
+    → (pins ≡ pin_count s) × (at + 1 + pins * 2 ≡ settings_place s) × (pins ≤ head.n)
+pins_read s there e {at = at} v carries a r q =
+    let t = version_pinned s there v carries in let place = costs_place s there a in
+    let count = q ∙ ap value_of (field_there s at 1 r (omega (arith, count_there s e t))) ∙ ap (λ (p : ℕ). big_endian s p 1) place ∙ count_is s e t in
+    (count, omega (arith, settings_are s e t), omega (arith, (pins_passed s e).few))
 
 -- ---- an accepted record
 
@@ -148,35 +146,34 @@ fields s e =
 
 -- at most as many wagons are free as there are
 pub free_few : (s : List ℕ) → job_number s ≡ 0 → free_wagons s ≤ most_wagons
-free_few s e = let f = fields s e in omega (arith, f.pins.few, f.few)
+free_few s e = omega (arith, fields s e)
 
 -- its states: a byte a wagon, and so many of them free as are left
 pub states_length : (s : List ℕ) → length (job_states s) ≡ wagons s
 unfolding job_states
-states_length s = length_states s (wagons s) (pins_place s + 1) (pin_count s)
+states_length s = length_states s _ _ _
 
 pub states_free : (s : List ℕ) → job_number s ≡ 0 → length (kept (λ i. ltb 1 (elem (job_states s) i)) (λ i. i) (wagons s)) ≡ free_wagons s
 unfolding job_states
 states_free s e =
     let p = (fields s e).pins in
-    let k = free_kept s (wagons s) (pins_place s + 1) (pin_count s) p.each in
-    omega (arith, k, p.few)
+    omega (arith, free_kept _ _ _ _ p.each)
 
 -- its pins: each of a wagon, in a store, no wagon twice; a pinned wagon's state is its store, every other wagon is free
 module _ (s : List ℕ) (e : job_number s ≡ 0) where
   pub pin_accepted : (k : ℕ) → k < pin_count s → Pin s (wagons s) (pins_place s + 1) k
-  pin_accepted k l = accepted s (wagons s) (pins_place s + 1) k (each (pin_number s (wagons s) (pins_place s + 1)) (pin_count s) (fields s e).pins.each k l)
+  pin_accepted k l = accepted _ _ _ _ (each _ _ (fields s e).pins.each k l)
 
   pub pins_apart : (i j : ℕ) → i < j → j < pin_count s → job_pin_wagon s i ≡ job_pin_wagon s j → ⊥
-  pins_apart i j a b q = apart s (wagons s) (pins_place s + 1) (pin_count s) (fields s e).pins.each i j a b q
+  pins_apart = apart _ _ _ _ (fields s e).pins.each
 
   pub state_pinned : (k : ℕ) → k < pin_count s → elem (job_states s) (job_pin_wagon s k) ≡ job_pin_store s k
   unfolding job_states
-  state_pinned k l = pin_held s (wagons s) (pins_place s + 1) (pin_count s) (fields s e).pins.each k l
+  state_pinned = pin_held _ _ _ _ (fields s e).pins.each
 
   pub state_free : (w : ℕ) → w < wagons s → ((k : ℕ) → k < pin_count s → job_pin_wagon s k ≡ w → ⊥) → elem (job_states s) w ≡ free_state
   unfolding job_states
-  state_free w h d = other_free s (wagons s) (pins_place s + 1) (pin_count s) (fields s e).pins.each w h d
+  state_free = other_free _ _ _ _ (fields s e).pins.each
 
 -- its states, as they were read
 pub states_none : (s : List ℕ) → versions.pinned (version s) ≡ false → job_states s ≡ replicate (wagons s) free_state
@@ -202,7 +199,7 @@ start_fits s e =
     start_low (start_at s (settings_place s)) (free_wagons s + 1) (job_rank s) (most_at s (settings_place s)) (omega (arith, free_few s e)) (meant_low (free_wagons s + 1) (rank_at s (settings_place s)) (omega (arith, free_few s e)) f.settings.rank)
 
 pub drawn_fits : (s : List ℕ) → job_number s ≡ 0 → job_drawn s ≤ most_drawn
-drawn_fits s e = let f = fields s e in omega (arith, f.draws_end, f.small)
+drawn_fits s e = omega (arith, fields s e)
 
 -- its settings, as they were read
 pub settings_held : (s : List ℕ) → job_number s ≡ 0 → (v : SettingsValues) → v ≡ settings_values (settings_from s (settings_place s)) → SettingsThere s (settings_place s) v
@@ -211,5 +208,5 @@ settings_held s z v e = settings_values_are s (settings_place s) refl e (fields 
 -- its draw count, as it was read
 pub drawn_held : (s : List ℕ) → job_number s ≡ 0 → {at : ℕ} {drawn : Option ℕ} → at ≡ draws_place s → drawn ≡ field_at s at 2 → value_of drawn ≡ big_endian s (draws_place s) 2
 drawn_held s z {at} e f =
-    let there = field_there s at 2 f (omega (arith, e, (fields s z).draws.there)) in
+    let there = field_there s at 2 f (omega (arith, (fields s z).draws.there)) in
     ap value_of there ∙ ap (λ (p : ℕ). big_endian s p 2) e

@@ -15,7 +15,7 @@ use borrow.Author.Tests.{le-leb, lt-leb, le-ltb, leb-true, ne_eqb, eqb-true, not
 use Rattle.std.proofs.lemmas.Bool.Decides.{nat_tests}
 use lib.Dec.{eqb, leb, ltb}
 use Rattle.laws.specs.Refusal.{or_else, first}
-use Rattle.laws.proofs.Any.{and_true}
+use Rattle.std.proofs.lemmas.Bool.{and_parts}
 use Rattle.laws.proofs.Refusal.{clear, both, first_head, first_rest}
 use Rattle.limits.specs.Limits.{most_entries}
 use Rattle.job_reader.specs.Bytes.{big_endian}
@@ -24,7 +24,7 @@ use Rattle.job_record.specs.Fields.{version, wagons, entry_count, pins_place, do
 use Rattle.job_record.specs.Number.{bounded_number, frame_number, version_number, head_numbers, entries_numbers, costs_numbers, pins_numbers_by, run_numbers, number_by}
 use Rattle.job_record.specs.Values.{free_wagons, settings_place, draws_by, draws_place, states_of, job_states, job_by}
 use Rattle.job_record.specs.Base.{base_number, base_settings, base_draws, AsBefore, AsTwo}
-use Rattle.job_record.proofs.Whole.{parts}
+use Rattle.job_record.proofs.Whole.{parts, stops}
 use Rattle.job_record.proofs.Accepted.{unpinned, states_none}
 
 -- ---- the table with version 1 alone
@@ -44,11 +44,6 @@ pub record Alike (f g : Format) (v : ℕ) : Type 0 where
   pub same_known : known f v ≡ known g v
   pub same_most : known g v ≡ true → f.most v ≡ g.most v
   pub same_pinned : known g v ≡ true → f.pinned v ≡ g.pinned v
-
-stops : (a b c : ℕ) → (a ≡ 0 → b ≡ c) → or_else a b ≡ or_else a c
-unfolding or_else
-stops zero b c h = h refl
-stops (suc a) b c h = refl
 
 -- a version that isn't refused, and a head, has a known version
 version_known : (format : Format) (s : List ℕ) → version_number format s ≡ 0 → known format (version s) ≡ true
@@ -132,7 +127,7 @@ two_one v d =
     }
 
 two_low : (v : ℕ) → known two_versions v ≡ true → v ≤ 2
-two_low v e = leb-true v 2 (and_true (leb 1 v) (leb v 2) e).1
+two_low v e = leb-true v 2 (and_parts (leb 1 v) (leb v 2) e).1
 
 three_two : (v : ℕ) → (v ≡ 3 → ⊥) → Alike three_versions two_versions v
 three_two v d =
@@ -190,7 +185,7 @@ as_before s e =
     let draws = draws_are s (sym u.1) (sym u.2) in
     let rank = ap₂ (rank_of s) (sym u.1) (sym u.2) in
     record {
-      number = (as_two s (λ f. omega (arith, e, f))).number ∙ not_two s (λ f. omega (arith, e, f)) ∙ one_version_lem s;
+      number = (as_two s (λ f. omega arith)).number ∙ not_two s (λ f. omega arith) ∙ one_version_lem s;
       pins = sym u.0;
       free = sym u.1;
       states = states_none s (unpinned_one s e);

@@ -7,23 +7,28 @@ use mathlib.Core.Logic.{◌⊎◌, inl, inr}
 use native.Mathlib.Omega.{arith}
 use native.Mathlib.Nat.{eq-or-lt_of_le}
 use borrow.Author.Tests.{lt-ltb, le-ltb}
+use lib.Dec.{ltb}
 use lib.ListN.{length}
 use lib.IntN.{ℤ, pos, nat_abs}
 use Rattle.laws.specs.Refusal.{◌if◌, first, or_else, first_of}
 use Rattle.laws.specs.Sum.{total}
 use Rattle.laws.specs.Lists.{elem, elem_z, fill}
-use Rattle.laws.proofs.Refusal.{stop, pass}
+use Rattle.laws.proofs.Refusal.{pass}
 use Rattle.laws.proofs.Following.{answers, moves_on, answers_if, moves_on_if, answers_last, passes_last, first_of_if, first_of_ext, first_of_stops}
+use Rattle.limits.specs.Limits.{most_magnitude}
 use Rattle.tables.specs.Table.{table_of}
 use Rattle.tables.specs.Check.{bad_entry, bad_order, unmirrored, Placed, hall_magnitude}
 use Rattle.tables.proofs.Checks.{order_placed}
-use Rattle.job_record.specs.Fields.{wagons, entry_count, entry_at, row, column, value, entries, signed_from}
+use Rattle.job_record.specs.Fields.{wagons, entry_count, entry_at, costs_end, row, column, value, entries, signed_from}
 use Rattle.job_record.specs.Number.{ends_before, entry_number, entries_numbers, costs_numbers, job_table_number}
 use Rattle.job_record.specs.Values.{job_cost, Entered, Stored}
-use Rattle.laws.proofs.Totals.{total_ext}
-use Rattle.job_record.proofs.Same.{filled, order_same, mirror_same}
+use Rattle.job_record.proofs.Same.{filled, order_same, mirror_same, magnitude_same}
 
-module _ (s : List ℕ) (n count whole : ℕ) (few : whole ≤ count) (there : entry_at whole ≤ length s) (cut : whole < count → length s < entry_at whole + 10) where
+-- 11 is none
+eleven : ◌≡◌ {A = ℕ} 11 0 → ⊥
+eleven e = omega arith
+
+module _ (s : List ℕ) (n count whole : ℕ) (w : (whole ≤ count) × (entry_at whole ≤ length s) × (whole < count → length s < entry_at whole + 10)) where
   judged : (k : ℕ) → k < whole → entry_number s n k ≡ 14 if bad_entry n (row s) (column s) k
   unfolding entry_number
   judged k l = sym (moves_on_if 11 (ends_before s (entry_at k + 10)) (14 if bad_entry n (row s) (column s) k ∷ []) (le-ltb (length s) (entry_at k + 10) (omega arith)) (answers_last _ refl))
@@ -34,43 +39,37 @@ module _ (s : List ℕ) (n count whole : ℕ) (few : whole ≤ count) (there : e
 
   cut_one : whole < count → 11 ≡ entry_number s n whole
   unfolding entry_number
-  cut_one l = answers_if 10 (ends_before s (entry_at whole + 10)) _ (lt-ltb _ _ (cut l))
+  cut_one l = answers_if 10 (ends_before s (entry_at whole + 10)) _ (lt-ltb _ _ (w.2 l))
 
   bad_one : bad_order n (row s) (column s) whole ≡ true → 14 ≡ first_of (entry_number s n) count
   unfolding or_else
-  bad_one bad = go (eq-or-lt_of_le few)
+  bad_one bad = go (eq-or-lt_of_le w.0)
     where
       go : (whole ≡ count) ⊎ (whole < count) → 14 ≡ first_of (entry_number s n) count
       go (inl e) = rw (← e, whole_ones, bad)
       go (inr l) = rw (first_of_stops (entry_number s n) whole count l (λ z. eleven (cut_one l ∙ z)), whole_ones, bad)
-        where
-          eleven : ◌≡◌ {A = ℕ} 11 0 → ⊥
-          eleven e = omega arith
 
   cut_after : bad_order n (row s) (column s) whole ≡ false → whole < count → 11 ≡ first_of (entry_number s n) count
   unfolding or_else
   cut_after ok l = rw (first_of_stops (entry_number s n) whole count l (λ z. eleven (cut_one l ∙ z)), whole_ones, ok) (cut_one l)
-    where
-      eleven : ◌≡◌ {A = ℕ} 11 0 → ⊥
-      eleven e = omega arith
 
   none : bad_order n (row s) (column s) whole ≡ false → count ≤ whole → 0 ≡ first_of (entry_number s n) count
   none ok l = let e : count ≡ whole = omega arith in rw (e, whole_ones, ok)
 
   module _ {rows cols : List ℕ} {values : List ℤ} (rows₀ cols₀ : List ℕ) (values₀ : List ℤ)
-      (r : rows ≡ fill (row s) whole rows₀) (k : cols ≡ fill (column s) whole cols₀) (v : values ≡ fill (value s) whole values₀)
-      (fr : whole ≤ length rows₀) (fk : whole ≤ length cols₀) (fv : whole ≤ length values₀) where
+      (room : (8 ≤ length s) × (count ≤ length rows₀) × (count ≤ length cols₀) × (count ≤ length values₀))
+      (r : rows ≡ fill (row s) whole rows₀) (k : cols ≡ fill (column s) whole cols₀) (v : values ≡ fill (value s) whole values₀) where
     rows_are : (i : ℕ) → i < whole → elem rows i ≡ row s i
-    rows_are i l = rw r (filled (row s) rows₀ 0 whole fr i l)
+    rows_are i l = rw r (filled (row s) rows₀ 0 whole (omega arith) i l)
 
     cols_are : (i : ℕ) → i < whole → elem cols i ≡ column s i
-    cols_are i l = rw k (filled (column s) cols₀ 0 whole fk i l)
+    cols_are i l = rw k (filled (column s) cols₀ 0 whole (omega arith) i l)
 
     values_in : (i : ℕ) → i < whole → elem_z values i ≡ value s i
-    values_in i l = rw v (filled (value s) values₀ (pos 0) whole fv i l)
+    values_in i l = rw v (filled (value s) values₀ (pos 0) whole (omega arith) i l)
 
     order_is : bad_order n (elem rows) (elem cols) whole ≡ bad_order n (row s) (column s) whole
-    order_is = order_same _ _ _ _ (value s) (value s) whole rows_are cols_are n
+    order_is = order_same _ _ _ _ whole rows_are cols_are n
 
     module _ {bad : Bool} (judgement : bad ≡ bad_order n (elem rows) (elem cols) whole) where
       pub refused_14 : bad ≡ true → (14 ≡ first (entries_numbers s n count)) × (◌≡◌ {A = ℕ} 14 0 → Entered s count rows₀ cols₀ values₀ rows cols values)
@@ -93,7 +92,7 @@ module _ (s : List ℕ) (n count whole : ℕ) (few : whole ≤ count) (there : e
           placed h = order_placed n (table_of count rows cols values) (omega arith) (rw (← same) (sym judgement ∙ passed))
 
           mirrors_are : unmirrored (table_of count rows cols values) ≡ unmirrored (entries s count)
-          mirrors_are = rw (← same) (mirror_same _ _ _ _ _ _ whole rows_are cols_are values_in)
+          mirrors_are = rw (← same) (mirror_same _ _ _ _ whole rows_are cols_are values_in)
 
           pub refused_15 : {u : Bool} → u ≡ unmirrored (table_of count rows cols values) → u ≡ true
               → (15 ≡ first (entries_numbers s n count)) × (◌≡◌ {A = ℕ} 15 0 → Entered s count rows₀ cols₀ values₀ rows cols values)
@@ -113,18 +112,17 @@ values_are s count {values₀ = values₀} e room i l = rw e.in_values (filled (
 -- c and the magnitude
 module _ (s : List ℕ) (n count : ℕ) {c : List ℤ} (c₀ values : List ℤ) (k : c ≡ fill (signed_from s (entry_at count)) n c₀) (fk : n ≤ length c₀)
     (v : (i : ℕ) → i < count → elem_z values i ≡ value s i) where
-  pub magnitude_is : total count (λ i. nat_abs (elem_z values i)) + 2 * total n (λ i. nat_abs (elem_z c i)) ≡ hall_magnitude n (entries s count) (signed_from s (entry_at count))
-  magnitude_is =
-      rw (
-        total_ext count (λ i. nat_abs (elem_z values i)) (λ i. nat_abs (value s i)) (λ i l. ap nat_abs (v i l)),
-        total_ext n (λ i. nat_abs (elem_z c i)) (λ i. nat_abs (signed_from s (entry_at count) i)) (λ i l. rw (k, filled (signed_from s (entry_at count)) c₀ (pos 0) n fk i l)),
-      )
+  magnitude_is : total count (λ i. nat_abs (elem_z values i)) + 2 * total n (λ i. nat_abs (elem_z c i)) ≡ hall_magnitude n (entries s count) (signed_from s (entry_at count))
+  magnitude_is = magnitude_same n count v (λ i l. ap (λ (l : List ℤ). elem_z l i) k ∙ filled (signed_from s (entry_at count)) c₀ (pos 0) n fk i l)
+
+  -- the number of c that is there, by the test's result
+  pub costs_judged : costs_end n count ≤ length s → {b t : Bool} → b ≡ ltb most_magnitude (total count (λ i. nat_abs (elem_z values i)) + 2 * total n (λ i. nat_abs (elem_z c i))) → b ≡ t
+      → 16 if t ≡ first (costs_numbers s n count)
+  unfolding costs_numbers
+  costs_judged there q e = moves_on_if 11 _ _ (le-ltb _ _ there) (answers_last _ (ap (λ (b : Bool). 16 if b) (sym e ∙ q ∙ ap (ltb most_magnitude) magnitude_is)))
 
 -- H and c of a head that is there
 module _ (s : List ℕ) {n count : ℕ} (is-n : n ≡ wagons s) (is-count : count ≡ entry_count s) where
-  pub table_refused : {x : ℕ} → x ≡ first (entries_numbers s n count) → (x ≡ 0 → ⊥) → x ≡ job_table_number s
-  table_refused e some = rw (← is-n, ← is-count) (stop _ _ e some)
-
   pub table_passed : {x y : ℕ} → x ≡ first (entries_numbers s n count) → x ≡ 0 → y ≡ first (costs_numbers s n count) → y ≡ job_table_number s
   table_passed e z f = rw (← is-n, ← is-count) (pass _ _ e z f)
 

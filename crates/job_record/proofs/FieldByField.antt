@@ -27,7 +27,8 @@ use Rattle.job_record.specs.Fields.{version, rank_at, rule_at, rule_number_at, m
 use Rattle.job_record.specs.Number.{ends_before, bounded_number, frame_number, version_number, momentum_number, head_numbers, settings_numbers}
 use Rattle.job_record.specs.Reading.{SettingsFields, SettingsValues, HeadThere, head_of, settings_from, head_values, settings_values, is_short, field_number, frame_judged, head_judged, rule_judged, start_judged, settings_judged}
 use Rattle.job_record.proofs.Bounded.{bounded_passed}
-use Rattle.job_record.proofs.Whole.{or_join}
+use Rattle.job_record.proofs.Sections.{Settings, settings}
+use Rattle.job_record.proofs.Whole.{or_join, stops}
 
 -- ---- places
 
@@ -89,12 +90,8 @@ module _ (s : List ℕ) (at w : ℕ) {f : Option ℕ} (e : f ≡ field_at s at w
 
 -- two lists that agree as far as numbers are 0
 pub follow : (a a' : ℕ) (l l' : List ℕ) → a ≡ a' → (a' ≡ 0 → first l ≡ first l') → first (a ∷ l) ≡ first (a' ∷ l')
-unfolding first or_else
-follow a a' l l' e h = rw e (go a' h)
-  where
-    go : (b : ℕ) → (b ≡ 0 → first l ≡ first l') → or_else b (first l) ≡ or_else b (first l')
-    go zero h = h refl
-    go (suc b) h = refl
+unfolding first
+follow a a' l l' e h = rw e (stops a' (first l) (first l') h)
 
 end_at : (a a' : ℕ) → a ≡ a' → first (a ∷ []) ≡ first (a' ∷ [])
 end_at a a' e = rw e
@@ -106,16 +103,12 @@ version_there s e = ltb-false _ _ (clear _ 10 (first_head _ _ e))
 frame_there : (s : List ℕ) → first (11 if ends_before s 4 ∷ framed s ∷ []) ≡ 0 → 4 ≤ length s
 frame_there s e = ltb-false _ _ (clear _ 10 (first_head _ _ e))
 
-version_judged : (s : List ℕ) → field_number (field_at s 4 1) (λ v. not (known versions v)) 12 ≡ version_number versions s
-unfolding version_number
-version_judged s = field_judged s 4 1 (λ v. not (known versions v)) 12
-
 -- n, by the version
 wagons_judged : (s : List ℕ) → 5 ≤ length s
     → field_number (taken s 0 (4 ∷ 1 ∷ []) 1) (ltb (versions.most (value_of (taken s 0 (4 ∷ []) 1)))) 13 ≡ bounded_number s 5 1 (versions.most (version s)) 13
 wagons_judged s h =
     ap (λ (f : Option ℕ). field_number (taken s 0 (4 ∷ 1 ∷ []) 1) (ltb (versions.most (value_of f))) 13) (there s 0 (4 ∷ []) 1 h)
-    ∙ ap (λ (f : Option ℕ). field_number f (ltb (versions.most (version s))) 13) (reached s 0 (4 ∷ 1 ∷ []) 1 h) ∙ field_bounded s 5 1 (versions.most (version s)) 13
+    ∙ field_limit s 5 1 (reached s 0 (4 ∷ 1 ∷ []) 1 h) (versions.most (version s)) 13 refl
 
 head_numbers_lem : (s : List ℕ) → first (head_numbers versions s)
     ≡ first (11 if ltb most_bytes (length s)
@@ -129,13 +122,13 @@ head_numbers_lem s =
     sym (or_join (11 if ltb most_bytes (length s)) (first (11 if ends_before s 4 ∷ framed s ∷ [])) (first (version_number versions s ∷ bounded_number s 5 1 (versions.most (version s)) 13 ∷ bounded_number s 6 2 most_entries 13 ∷ [])))
 
 pub head_judged_lem : (s : List ℕ) → first (head_judged (length s) (head_of s)) ≡ first (head_numbers versions s)
-unfolding head_of
+unfolding head_of version_number
 head_judged_lem s =
     follow _ _ _ _ refl (λ _.
     follow _ _ _ _ (frame_judged_lem s) (λ z₁.
-    follow _ _ _ _ (ap (λ (f : Option ℕ). field_number f (λ v. not (known versions v)) 12) (reached s 0 (4 ∷ []) 1 (frame_there s z₁)) ∙ version_judged s) (λ z₂.
+    follow _ _ _ _ (ap (λ (f : Option ℕ). field_number f (λ v. not (known versions v)) 12) (reached s 0 (4 ∷ []) 1 (frame_there s z₁)) ∙ field_judged s 4 1 (λ v. not (known versions v)) 12) (λ z₂.
     follow _ _ _ _ (wagons_judged s (version_there s z₂)) (λ z₃.
-    end_at _ _ (ap (λ (f : Option ℕ). field_number f (ltb most_entries) 13) (reached s 0 (4 ∷ 1 ∷ 1 ∷ []) 2 (bounded_passed s 5 1 (versions.most (version s)) 12 z₃).0) ∙ field_bounded s 6 2 most_entries 13)))))
+    end_at _ _ (field_limit s 6 2 (reached s 0 (4 ∷ 1 ∷ 1 ∷ []) 2 (bounded_passed s 5 1 (versions.most (version s)) 12 z₃).0) most_entries 13 refl)))))
     ∙ sym (head_numbers_lem s)
 
 or_step : (a : Bool) {b c : Bool} → (a ≡ true → true ≡ c) → (a ≡ false → b ≡ c) → (a || b) ≡ c
@@ -151,13 +144,13 @@ module _ (s : List ℕ) (at : ℕ) where
       → (is_short (taken s at (1 ∷ 1 ∷ 8 ∷ []) 4) || (is_short (taken s at (1 ∷ 1 ∷ 8 ∷ 4 ∷ []) 4) || (is_short (taken s at (1 ∷ 1 ∷ 8 ∷ 4 ∷ 4 ∷ []) 8) || is_short (taken s at (1 ∷ 1 ∷ 8 ∷ 4 ∷ 4 ∷ 8 ∷ []) 8)))) ≡ ends_before s (at + 34)
   limits_judged h₁ =
       let e₁ = taken_short (1 ∷ 1 ∷ 8 ∷ []) 4 h₁ in
-      or_step _ (λ t. let l = ltb-true (length s) (at + 10 + 4) (sym e₁ ∙ t) in sym (lt-ltb (length s) (at + 34) (omega (arith, l)))) (λ f₁. let h₂ = ltb-false (length s) (at + 10 + 4) (sym e₁ ∙ f₁) in
-      let e₂ = taken_short (1 ∷ 1 ∷ 8 ∷ 4 ∷ []) 4 (omega (arith, h₂)) in
-      or_step _ (λ t. let l = ltb-true (length s) (at + 14 + 4) (sym e₂ ∙ t) in sym (lt-ltb (length s) (at + 34) (omega (arith, l)))) (λ f₂. let h₃ = ltb-false (length s) (at + 14 + 4) (sym e₂ ∙ f₂) in
-      let e₃ = taken_short (1 ∷ 1 ∷ 8 ∷ 4 ∷ 4 ∷ []) 8 (omega (arith, h₃)) in
-      or_step _ (λ t. let l = ltb-true (length s) (at + 18 + 8) (sym e₃ ∙ t) in sym (lt-ltb (length s) (at + 34) (omega (arith, l)))) (λ f₃. let h₄ = ltb-false (length s) (at + 18 + 8) (sym e₃ ∙ f₃) in
+      or_step _ (λ t. let l = ltb-true (length s) (at + 10 + 4) (sym e₁ ∙ t) in sym (lt-ltb (length s) (at + 34) (omega arith))) (λ f₁. let h₂ = ltb-false (length s) (at + 10 + 4) (sym e₁ ∙ f₁) in
+      let e₂ = taken_short (1 ∷ 1 ∷ 8 ∷ 4 ∷ []) 4 (omega arith) in
+      or_step _ (λ t. let l = ltb-true (length s) (at + 14 + 4) (sym e₂ ∙ t) in sym (lt-ltb (length s) (at + 34) (omega arith))) (λ f₂. let h₃ = ltb-false (length s) (at + 14 + 4) (sym e₂ ∙ f₂) in
+      let e₃ = taken_short (1 ∷ 1 ∷ 8 ∷ 4 ∷ 4 ∷ []) 8 (omega arith) in
+      or_step _ (λ t. let l = ltb-true (length s) (at + 18 + 8) (sym e₃ ∙ t) in sym (lt-ltb (length s) (at + 34) (omega arith))) (λ f₃. let h₄ = ltb-false (length s) (at + 18 + 8) (sym e₃ ∙ f₃) in
       let sum : at + 26 + 8 ≡ at + 34 = omega arith in
-      taken_short (1 ∷ 1 ∷ 8 ∷ 4 ∷ 4 ∷ 8 ∷ []) 8 (omega (arith, h₄)) ∙ ap (ends_before s) sum)))
+      taken_short (1 ∷ 1 ∷ 8 ∷ 4 ∷ 4 ∷ 8 ∷ []) 8 (omega arith) ∙ ap (ends_before s) sum)))
 
   rule_judged_lem : at + 2 ≤ length s → field_number (taken s at (1 ∷ 1 ∷ []) 8) (λ bits. eqb (value_of (taken s at (1 ∷ []) 1)) 4 && not (is_momentum (double_of bits))) 18 ≡ momentum_number s at
   unfolding momentum_number
@@ -176,13 +169,13 @@ module _ (s : List ℕ) (at : ℕ) where
   unfolding settings_from settings_numbers
   settings_judged_lem =
       follow _ _ _ _ (field_bounded s at 1 most_rank 17) (λ z₁. let h₁ = (bounded_passed s at 1 most_rank 16 z₁).0 in
-      follow _ _ _ _ (ap (λ (f : Option ℕ). field_number f (ltb last_rule) 18) (reached s at (1 ∷ []) 1 h₁) ∙ field_bounded s (at + 1) 1 last_rule 18) (λ z₂. let h₂ = (bounded_passed s (at + 1) 1 last_rule 17 z₂).0 in
-      follow _ _ _ _ (rule_judged_lem (omega (arith, h₂))) (λ z₃. let h₃ = momentum_there z₃ in
+      follow _ _ _ _ (field_limit s (at + 1) 1 (reached s at (1 ∷ []) 1 h₁) last_rule 18 refl) (λ z₂. let h₂ = (bounded_passed s (at + 1) 1 last_rule 17 z₂).0 in
+      follow _ _ _ _ (rule_judged_lem (omega arith)) (λ z₃. let h₃ = momentum_there z₃ in
       follow _ _ _ _ (ap (λ (b : Bool). 11 if b) (limits_judged h₃)) (λ z₄. let h₄ = ltb-false (length s) (at + 34) (clear _ 10 z₄) in
-      follow _ _ _ _ (ap (λ (f : Option ℕ). field_number f (ltb most_width) 19) (reached s at (1 ∷ 1 ∷ 8 ∷ 4 ∷ 4 ∷ 8 ∷ 8 ∷ []) 1 h₄) ∙ field_bounded s (at + 34) 1 most_width 19) (λ z₅. let h₅ = (bounded_passed s (at + 34) 1 most_width 18 z₅).0 in
-      follow _ _ _ _ (ap (λ (f : Option ℕ). field_number f (ltb last_start) 19) (reached s at (1 ∷ 1 ∷ 8 ∷ 4 ∷ 4 ∷ 8 ∷ 8 ∷ 1 ∷ []) 1 (omega (arith, h₅))) ∙ field_bounded s (at + 35) 1 last_start 19) (λ z₆. let h₆ = (bounded_passed s (at + 35) 1 last_start 18 z₆).0 in
-      end_at _ _ (ap (λ (f : Option ℕ). 17 if (eqb (value_of f) 1 && eqb (value_of (taken s at [] 1)) 0)) (there s at (1 ∷ 1 ∷ 8 ∷ 4 ∷ 4 ∷ 8 ∷ 8 ∷ 1 ∷ []) 1 (omega (arith, h₆)))
-      ∙ ap (λ (f : Option ℕ). 17 if (eqb (start_at s at) 1 && eqb (value_of f) 0)) (there s at [] 1 (omega (arith, h₁)) ∙ first_place))))))))
+      follow _ _ _ _ (field_limit s (at + 34) 1 (reached s at (1 ∷ 1 ∷ 8 ∷ 4 ∷ 4 ∷ 8 ∷ 8 ∷ []) 1 h₄) most_width 19 refl) (λ z₅. let h₅ = (bounded_passed s (at + 34) 1 most_width 18 z₅).0 in
+      follow _ _ _ _ (field_limit s (at + 35) 1 (reached s at (1 ∷ 1 ∷ 8 ∷ 4 ∷ 4 ∷ 8 ∷ 8 ∷ 1 ∷ []) 1 (omega arith)) last_start 19 refl) (λ z₆. let h₆ = (bounded_passed s (at + 35) 1 last_start 18 z₆).0 in
+      end_at _ _ (ap (λ (f : Option ℕ). 17 if (eqb (value_of f) 1 && eqb (value_of (taken s at [] 1)) 0)) (there s at (1 ∷ 1 ∷ 8 ∷ 4 ∷ 4 ∷ 8 ∷ 8 ∷ 1 ∷ []) 1 (omega arith))
+      ∙ ap (λ (f : Option ℕ). 17 if (eqb (start_at s at) 1 && eqb (value_of f) 0)) (there s at [] 1 (omega arith) ∙ first_place))))))))
     where
       first_place : Some (big_endian s (at + 0) 1) ≡ Some (rank_at s at)
       first_place = let e : at + 0 ≡ at = omega arith in rw e
@@ -248,6 +241,10 @@ module _ (s : List ℕ) (at : ℕ) {f : SettingsFields} (e : f ≡ settings_from
 
   pub settings_values_are : {v : SettingsValues} → v ≡ settings_values f → at + 36 ≤ length s → SettingsThere s at v
   settings_values_are {v} q h = subst (SettingsThere s at) (sym (q ∙ ap settings_values e)) (settings_there s at h)
+
+  -- what settings that are not refused hold, and their values
+  pub settings_read : {v : SettingsValues} → 0 ≡ first (settings_judged f) → v ≡ settings_values f → Settings s at × SettingsThere s at v
+  settings_read ok q = let h = settings s at (sym (settings_number_is ok)) in (h, settings_values_are q h.there)
 
 -- a number of so many bytes
 pub number_below : (s : List ℕ) (at w : ℕ) → ((i : ℕ) → get_or s i 0 < 256) → big_endian s at w < 256 ^ w

@@ -1,16 +1,15 @@
 -- An accepted job's H and c pass the tables' own checks, in the record and in the slices that they were read into.
 --     hall           the first number of the record's H and c is 0
 --     hall_stored    and so is that of the slices that hold them
-use Prim.Native.Nat.{ℕ, ◌+◌, ◌*◌, ◌<◌, ◌≤◌}
+use Prim.Native.Nat.{ℕ, ◌<◌, ◌≤◌}
 use mathlib.Core.Path.{◌≡◌, sym, ap, ◌∙◌}
 use mathlib.Core.Bool.{false}
 use mathlib.Core.List.{List}
 use native.Mathlib.Omega.{arith}
 use lib.ListN.{length}
 use lib.Dec.{ltb}
-use lib.IntN.{ℤ, pos, nat_abs}
+use lib.IntN.{ℤ, pos}
 use Rattle.laws.specs.Refusal.{first}
-use Rattle.laws.specs.Sum.{total}
 use Rattle.laws.specs.Lists.{elem, elem_z}
 use Rattle.laws.proofs.Refusal.{clear, each, first_head, first_rest}
 use Rattle.laws.proofs.Any.{below_none}
@@ -22,8 +21,7 @@ use Rattle.tables.proofs.Checks.{size_passes}
 use Rattle.job_record.specs.Fields.{wagons, entry_count, entry_at, row, column, value, entries, signed_from}
 use Rattle.job_record.specs.Number.{entry_number, entries_numbers, costs_numbers, job_number}
 use Rattle.job_record.specs.Values.{job_table, job_cost, Stored}
-use Rattle.laws.proofs.Totals.{total_ext}
-use Rattle.job_record.proofs.Same.{filled, order_same, mirror_same}
+use Rattle.job_record.proofs.Same.{filled, order_same, mirror_same, magnitude_same}
 use Rattle.job_record.proofs.Sections.{head}
 use Rattle.job_record.proofs.Whole.{passed}
 
@@ -61,16 +59,11 @@ module _ (s : List ℕ) (e : job_number s ≡ 0) where
       let h = head s p.head in
       let count = entry_count s in
       let n = wagons s in
-      let r : (i : ℕ) → i < count → elem rows i ≡ row s i = λ i l. rw stored.in_rows (filled (row s) rows₀ 0 count (omega (arith, h.short)) i l) in
-      let k : (i : ℕ) → i < count → elem cols i ≡ column s i = λ i l. rw stored.in_cols (filled (column s) cols₀ 0 count (omega (arith, h.short)) i l) in
-      let v : (i : ℕ) → i < count → elem_z values i ≡ value s i = λ i l. rw stored.in_values (filled (value s) values₀ (pos 0) count (omega (arith, h.short)) i l) in
-      let g : (i : ℕ) → i < n → elem_z c i ≡ job_cost s i = λ i l. rw stored.in_c (filled (job_cost s) c₀ (pos 0) n (omega (arith, h.few)) i l) in
+      let r : (i : ℕ) → i < count → elem rows i ≡ row s i = λ i l. rw stored.in_rows (filled (row s) rows₀ 0 count (omega arith) i l) in
+      let k : (i : ℕ) → i < count → elem cols i ≡ column s i = λ i l. rw stored.in_cols (filled (column s) cols₀ 0 count (omega arith) i l) in
+      let v : (i : ℕ) → i < count → elem_z values i ≡ value s i = λ i l. rw stored.in_values (filled (value s) values₀ (pos 0) count (omega arith) i l) in
+      let g : (i : ℕ) → i < n → elem_z c i ≡ job_cost s i = λ i l. rw stored.in_c (filled (job_cost s) c₀ (pos 0) n (omega arith) i l) in
       none n (table_of count rows cols values) (elem_z c) h.few h.short
-      (order_same _ _ _ _ (value s) (value s) count r k n ∙ ordered s n count p.entries)
-      (mirror_same _ _ _ _ _ _ count r k v ∙ mirrored s n count p.entries)
-      (ap (ltb most_magnitude) (same_magnitude n count (elem_z values) (value s) (elem_z c) (job_cost s) v g) ∙ magnitude_bounded s n count p.costs)
-    where
-      same_magnitude : (n count : ℕ) (v v' c c' : ℕ → ℤ) → ((i : ℕ) → i < count → v i ≡ v' i) → ((i : ℕ) → i < n → c i ≡ c' i)
-          → total count (λ i. nat_abs (v i)) + 2 * total n (λ i. nat_abs (c i)) ≡ total count (λ i. nat_abs (v' i)) + 2 * total n (λ i. nat_abs (c' i))
-      same_magnitude n count v v' c c' f g =
-          rw (total_ext count (λ i. nat_abs (v i)) (λ i. nat_abs (v' i)) (λ i l. ap nat_abs (f i l)), total_ext n (λ i. nat_abs (c i)) (λ i. nat_abs (c' i)) (λ i l. ap nat_abs (g i l)))
+      (order_same _ _ _ _ count r k n ∙ ordered s n count p.entries)
+      (mirror_same _ _ _ _ count r k v ∙ mirrored s n count p.entries)
+      (ap (ltb most_magnitude) (magnitude_same n count v g) ∙ magnitude_bounded s n count p.costs)

@@ -2,14 +2,10 @@
 -- Assumes nothing.
 use Prim.Native.Nat.{ℕ}
 use mathlib.Core.Path.{◌≡◌, sym, ap, ◌∙◌}
-use Rattle.std.specs.Prelude.{Option, None, Result, Err, ok_or}
+use Rattle.std.specs.Prelude.{Result, Err}
 use Rattle.refusal.specs.declared.Refusal.{Refusal}
-use Rattle.refusal.specs.declared.Refusal.TheVariants.{Frame}
 use Rattle.refusal.specs.Number.{number_of, numbered}
 use Rattle.refusal.proofs.Passed.{some_number}
-
-abbrev error : Result ℕ Refusal → ℕ
-error r = numbered r
 
 module _ {A : Type 0} {r : Result A Refusal} {e : Refusal} (h : r ≡ Err e) where
   pub handed : {a : ℕ} → number_of e ≡ a → numbered r ≡ a
@@ -17,6 +13,3 @@ module _ {A : Type 0} {r : Result A Refusal} {e : Refusal} (h : r ≡ Err e) whe
 
   pub refused : numbered r ≡ 0 → ⊥
   refused z = some_number e (sym (ap numbered h) ∙ z)
-
-  pub past_end : {f : Option ℕ} → f ≡ None → ◌≡◌ {A = Result ℕ Refusal} (Err e) (ok_or f Frame) → numbered r ≡ 11
-  past_end n v = handed (ap error (v ∙ ap (λ (g : Option ℕ). ok_or g Frame) n))

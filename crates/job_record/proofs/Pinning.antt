@@ -20,23 +20,22 @@ use Rattle.laws.specs.Turns.{up_to}
 use Rattle.laws.specs.Sum.{total}
 use Rattle.laws.specs.Lists.{elem, any_below, kept, only_if}
 use Rattle.laws.specs.Refusal.{◌if◌, or_else, first, first_of}
-use Rattle.laws.proofs.Made.{below_or_not}
-use Rattle.std.proofs.lemmas.Bool.{or_parts}
+use Rattle.std.proofs.lemmas.Bool.{or_parts, cases_lt}
 use Rattle.laws.proofs.Any.{below_at, below_none}
 use Rattle.laws.proofs.Totals.{onlyℕ, total_ext, total_const, total_add, total_only}
 use Rattle.laws.proofs.Refusal.{clear, both, first_head, first_rest, each}
 use Rattle.laws.proofs.Refusal as R
-use Rattle.laws.proofs.Following.{answers_if, moves_on_if, answers_last}
+use Rattle.laws.proofs.Following.{moves_on_if, answers_last}
 use Rattle.reduced.proofs.Put.{Last, found, none, put_last, length_put}
-use Rattle.std.specs.Prelude.{Option, Some, None}
+use Rattle.std.specs.Prelude.{Option, Some}
 use Rattle.job_reader.specs.Bytes.{big_endian, field_at, value_of}
 use Rattle.job_record.specs.declared.reading.PinFields.{PinFields}
 use Rattle.job_record.specs.Fields.{pin_at, pin_wagon, pin_store, last_store, free_state}
 use Rattle.job_record.specs.Number.{ends_before, bounded_number, pinned_before, pin_number, pins_numbers}
-use Rattle.job_record.specs.Reading.{pin_from, is_short, field_number, wagon_wrong, pin_judged}
+use Rattle.job_record.specs.Reading.{pin_from, is_short, wagon_wrong, pin_judged}
 use Rattle.job_record.specs.Values.{states_of}
 use Rattle.job_record.proofs.Bounded.{bounded_passed}
-use Rattle.job_record.proofs.FieldByField.{behind, reached, there, field_judged, field_bounded, field_short, field_there, follow}
+use Rattle.job_record.proofs.FieldByField.{behind, reached, there, field_judged, field_limit, field_short, field_there, follow}
 
 -- ---- an accepted pin
 
@@ -53,7 +52,7 @@ accepted s n at k e =
     let wagon = clear (leb n (pin_wagon s at k) || pinned_before s at k) 20 (first_head _ _ e₂) in
     let store = bounded_passed s (pin_at at k + 1) 1 last_store 20 (first_head _ _ (first_rest _ _ e₂)) in
     record {
-      there = omega (arith, store.0);
+      there = omega arith;
       wagon = leb-false n (pin_wagon s at k) (or_parts (leb n (pin_wagon s at k)) (pinned_before s at k) wagon).0;
       new = (or_parts (leb n (pin_wagon s at k)) (pinned_before s at k) wagon).1;
       store = store.1;
@@ -89,7 +88,7 @@ pub pin_judged_lem : (s : List ℕ) (n place : ℕ) (states : List ℕ) → firs
 unfolding pin_from
 pin_judged_lem s n place states =
     follow _ _ _ _ (field_judged s place 1 (wagon_wrong n states) 21) (λ z. let h = ltb-false (length s) (place + 1) (clear _ 10 (first_head _ _ z)) in
-    ap (λ (f : Option ℕ). first (field_number f (ltb last_store) 21 ∷ [])) (reached s place (1 ∷ []) 1 h) ∙ ap (λ (k : ℕ). first (k ∷ [])) (field_bounded s (place + 1) 1 last_store 21))
+    ap (λ (k : ℕ). first (k ∷ [])) (field_limit s (place + 1) 1 (reached s place (1 ∷ []) 1 h) last_store 21 refl))
     ∙ three _ _ _
 
 module _ (s : List ℕ) (n at k : ℕ) (before : first_of (pin_number s n at) k ≡ 0) where
@@ -135,53 +134,42 @@ module _ (s : List ℕ) (n at k : ℕ) {states : List ℕ} {place r : ℕ} {pin 
   turn_refused count l d = R.found (pin_number s n at) k count before l turn_number_lem d
 
   module _ (z : r ≡ 0) where
-    pub turn_pin : Pin s n at k
+    turn_pin : Pin s n at k
     turn_pin = accepted s n at k (sym turn_number_lem ∙ z)
 
-    pub turn_wagon : value_of pin.wagon ≡ pin_wagon s at k
+    turn_wagon : value_of pin.wagon ≡ pin_wagon s at k
     unfolding pin_from
     turn_wagon =
         let e : pin_at at k + 0 ≡ pin_at at k = omega arith in
         ap (λ (p : PinFields). value_of p.wagon) turn_read ∙ ap value_of (there s (pin_at at k) [] 1 (omega (arith, turn_pin.there))) ∙ ap (λ (p : ℕ). big_endian s p 1) e
 
-    pub turn_store : value_of pin.store ≡ pin_store s at k
+    turn_store : value_of pin.store ≡ pin_store s at k
     unfolding pin_from
     turn_store = ap (λ (p : PinFields). value_of p.store) turn_read ∙ ap value_of (there s (pin_at at k) (1 ∷ []) 1 (omega (arith, turn_pin.there)))
 
-    pub turn_next : pin.next ≡ pin_at at (k + 1)
+    pub turn_room : (value_of pin.wagon < length states) × (value_of pin.store < 256)
+    turn_room = (omega (arith, turn_wagon, turn_pin.wagon, ap length are, length_states s n at k), omega (arith, turn_store, turn_pin.store))
+
+    pub turn_on : {states' : List ℕ} → states' ≡ set states (value_of pin.wagon) (value_of pin.store)
+        → (first_of (pin_number s n at) (k + 1) ≡ 0) × (states' ≡ states_of s n at (k + 1)) × (pin.next ≡ pin_at at (k + 1))
     unfolding pin_from
-    turn_next =
-        let e : pin_at at k + 2 ≡ pin_at at (k + 1) = omega arith in
-        ap (λ (p : PinFields). p.next) turn_read ∙ behind s (pin_at at k) (1 ∷ 1 ∷ []) turn_pin.there ∙ e
-
-    pub turn_passed : first_of (pin_number s n at) (k + 1) ≡ 0
-    turn_passed = R.passed (pin_number s n at) k before turn_number_lem z
-
-    pub turn_states : {states' : List ℕ} → states' ≡ set states (value_of pin.wagon) (value_of pin.store) → states' ≡ states_of s n at (k + 1)
-    turn_states e =
-        e ∙ ap (λ l. set l (value_of pin.wagon) (value_of pin.store)) are ∙ ap (λ (w : ℕ). set (states_of s n at k) w (value_of pin.store)) turn_wagon
-        ∙ ap (λ (v : ℕ). set (states_of s n at k) (pin_wagon s at k) v) turn_store ∙ states_next s n at k
+    turn_on e =
+        let next : pin_at at k + 2 ≡ pin_at at (k + 1) = omega arith in
+        let put = rw (turn_wagon, turn_store, are) at e in
+        (R.passed (pin_number s n at) k before turn_number_lem z, put ∙ states_next s n at k, ap (λ (p : PinFields). p.next) turn_read ∙ behind s (pin_at at k) (1 ∷ 1 ∷ []) turn_pin.there ∙ next)
 
 -- ---- the pin count
 
-module _ (s : List ℕ) (n at : ℕ) {f : Option ℕ} (read : f ≡ field_at s at 1) where
-  pub count_short : f ≡ None → 11 ≡ first (pins_numbers s n at)
+module _ (s : List ℕ) (n at : ℕ) {f : Option ℕ} (read : f ≡ field_at s at 1) {count : ℕ} (e : f ≡ Some count) where
+  in_range : ends_before s (at + 1) ≡ false
+  in_range = sym (field_short s at 1) ∙ ap is_short (sym read ∙ e)
+
+  pub count_is : count ≡ big_endian s at 1
+  count_is = ap value_of (sym e ∙ field_there s at 1 read (ltb-false (length s) (at + 1) in_range))
+
+  pub count_there : {r : ℕ} → r ≡ first_of (pin_number s n (at + 1)) count → r ≡ first (pins_numbers s n at)
   unfolding pins_numbers
-  count_short e = answers_if 10 (ends_before s (at + 1)) _ (sym (field_short s at 1) ∙ ap is_short (sym read ∙ e))
-
-  module _ {count : ℕ} (e : f ≡ Some count) where
-    in_range : ends_before s (at + 1) ≡ false
-    in_range = sym (field_short s at 1) ∙ ap is_short (sym read ∙ e)
-
-    pub count_fits : at + 1 ≤ length s
-    count_fits = ltb-false (length s) (at + 1) in_range
-
-    pub count_is : count ≡ big_endian s at 1
-    count_is = ap value_of (sym e ∙ field_there s at 1 read count_fits)
-
-    pub count_there : {r : ℕ} → r ≡ first_of (pin_number s n (at + 1)) count → r ≡ first (pins_numbers s n at)
-    unfolding pins_numbers
-    count_there q = moves_on_if 11 (ends_before s (at + 1)) _ in_range (answers_last _ (q ∙ ap (first_of (pin_number s n (at + 1))) count_is))
+  count_there q = moves_on_if 11 (ends_before s (at + 1)) _ in_range (answers_last _ (q ∙ ap (first_of (pin_number s n (at + 1))) count_is))
 
 -- ---- accepted pins
 
@@ -194,7 +182,7 @@ module _ (s : List ℕ) (n at count : ℕ) (none-refused : first_of (pin_number 
   pin_held k l = go (stands s n at count none-refused (pin_wagon s at k) (earlier s n at count none-refused k l).wagon)
     where
       go : {y : ℕ} → Last (pin_wagon s at) (pin_store s at) count (pin_wagon s at k) free_state y → y ≡ pin_store s at k
-      go (found j b e rest) = pick (below_or_not j k) (below_or_not k j)
+      go (found j b e rest) = pick (cases_lt j k) (cases_lt k j)
         where
           pick : (j < k) ⊎ (k ≤ j) → (k < j) ⊎ (j ≤ k) → pin_store s at j ≡ pin_store s at k
           pick (inl a) x = absurd (apart j k a l e)
@@ -229,14 +217,14 @@ unfolding first_of
 free_left s n at zero e = rw (← states_begin s n at) (all ∙ mul-one n)
   where
     all : total n (counted (replicate n free_state)) + 0 ≡ n * 1
-    all = let e = total_ext n (counted (replicate n free_state)) (λ i. 1) (λ i l. rw (get_or-replicate {A = ℕ} n i free_state 0 l)) ∙ total_const n 1 in omega (arith, e)
+    all = omega (arith, total_ext n (counted (replicate n free_state)) (λ i. 1) (λ i l. rw (get_or-replicate {A = ℕ} n i free_state 0 l)) ∙ total_const n 1)
 free_left s n at (suc k) e =
     let earlier = both _ _ e in
     let p = accepted s n at k earlier.1 in
     let free = eqb-true _ _ (not-false _ (seen s n at k earlier.0 p.wagon ∙ p.new)) in
     let less = one_less n (states_of s n at k) (pin_wagon s at k) (pin_store s at k) (length_states s n at k) p.wagon free p.store in
     let same : total n (counted (set (states_of s n at k) (pin_wagon s at k) (pin_store s at k))) ≡ total n (counted (states_of s n at (suc k))) = rw (states_next s n at k, add-one k) in
-    omega (arith, less, same, free_left s n at k earlier.0)
+    omega (arith, free_left s n at k earlier.0)
 
 pub length_kept_total : (keep : ℕ → Bool) (n : ℕ) → length (kept keep (λ i. i) n) ≡ total n (λ i. cond (keep i) 1 0)
 unfolding kept total

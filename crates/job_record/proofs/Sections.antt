@@ -52,7 +52,7 @@ head s e =
       there = count.0;
       versioned = not-false _ (clear _ 11 (first_head _ _ (first_rest _ _ version)));
       few_of = n.1;
-      few = omega (arith, n.1, most_wagons_lem (big_endian s 4 1));
+      few = omega (arith, most_wagons_lem (big_endian s 4 1));
       short = count.1;
     }
 
@@ -77,7 +77,7 @@ settings s at e₁ =
     let e₇ = first_rest _ _ e₆ in
     let start = bounded_passed s (at + 35) 1 last_start 18 (first_head _ _ e₆) in
     record {
-      there = omega (arith, start.0);
+      there = omega arith;
       rank = (bounded_passed s at 1 most_rank 16 (first_head _ _ e₁)).1;
       rule = (bounded_passed s (at + 1) 1 last_rule 17 (first_head _ _ e₂)).1;
       momentum = λ is. not-false _ (rw (eq-eqb _ _ is) at (clear _ 17 (first_head _ _ (first_rest _ _ (first_head _ _ e₃)))));

@@ -15,6 +15,12 @@ unfolding or_else
 or_join zero b c = refl
 or_join (suc a) b c = refl
 
+-- what comes behind a number counts where that is 0
+pub stops : (a b c : ℕ) → (a ≡ 0 → b ≡ c) → or_else a b ≡ or_else a c
+unfolding or_else
+stops zero b c h = h refl
+stops (suc a) b c h = refl
+
 -- by any table of versions: head, entries and c, pins, the rest
 pub parts : (format : Format) (s : List ℕ) → number_by format s
     ≡ or_else (first (head_numbers format s))

@@ -10,6 +10,7 @@ use job_reader::big_endian;
 use job_reader::fields::Stored;
 
 // The first `count` entries: rows, columns and values. Tried as a `zip` of three `iter_mut`: an invariant sees the iterator alone, and none of the slices.
+#[tactic(auto, using(laws::proofs::MapFirst::fill_none))]
 pub fn read_entries(
     job: &[u8],
     count: usize,
@@ -31,6 +32,7 @@ pub fn read_entries(
 }
 
 // Values of eight bytes each from `at` on.
+#[tactic(auto, using(laws::proofs::MapFirst::fill_none))]
 pub fn read_stored<T: Stored>(job: &[u8], at: usize, count: usize, out: &mut [T])
     requires { (at + count * 8 ≤ length job.now) × (count ≤ length out.old) }
     ensures { out.new ≡ fill (λ i. T.stored job.now (at + i * 8)) count out.old }

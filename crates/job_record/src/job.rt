@@ -81,6 +81,7 @@ struct Parts {
     draws: usize,
 }
 
+#[tactic(auto, using(crate::proofs::Accepted::free_few))]
 fn parts_of(job: AcceptedJob) -> Parts
     ensures { (result.rank ≡ job_rank job.entry.bytes.now) × (result.start ≡ settings_place job.entry.bytes.now + 36)
         × (result.count ≡ job_start_count job.entry.bytes.now) × (result.draws ≡ draws_place job.entry.bytes.now)
@@ -141,6 +142,7 @@ pub fn job_of(job: AcceptedJob) -> Job
 }
 
 // The start's doubles, over the front of the slice.
+#[tactic(auto, using(crate::proofs::Accepted::fields))]
 pub fn read_start(job: AcceptedJob, start: &mut [f64])
     requires { most_start ≤ length start.old }
     ensures { start.new ≡ fill (job_start job.entry.bytes.now) (job_start_count job.entry.bytes.now) start.old }
@@ -150,6 +152,7 @@ pub fn read_start(job: AcceptedJob, start: &mut [f64])
 }
 
 // The draws, over the front of the slice: behind their count.
+#[tactic(auto, using(crate::proofs::Accepted::fields))]
 pub fn read_draws(job: AcceptedJob, draws: &mut [f64])
     requires { most_drawn ≤ length draws.old }
     ensures { draws.new ≡ fill (job_draw job.entry.bytes.now) (job_drawn job.entry.bytes.now) draws.old }
@@ -161,6 +164,7 @@ pub fn read_draws(job: AcceptedJob, draws: &mut [f64])
 }
 
 // The states of its wagons, a byte each, over the front of `states`.
+#[tactic(auto, using(crate::proofs::Accepted::fields))]
 pub fn read_states(job: AcceptedJob, states: &mut [u8])
     requires { most_wagons ≤ length states.old }
     ensures { states.new ≡ over (job_states job.entry.bytes.now) states.old }

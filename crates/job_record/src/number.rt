@@ -41,6 +41,7 @@ fn version_number(version: Option<u64>) -> Result<(), Refusal>
 }
 
 // Frame, version, n, entry count, in a record of `len` bytes.
+#[tactic(auto, unfolding(laws::specs::Refusal::first, laws::specs::Refusal::or_else))]
 fn head_number(len: usize, head: HeadFields) -> Result<(), Refusal>
     ensures { numbered result ≡ first (head_judged len head) }
 {
@@ -98,6 +99,7 @@ fn entries_number(
 }
 
 // c, then the magnitude of it and of the entries' values. What is not refused is stored.
+#[tactic(auto, unfolding(crate::specs::Number::costs_numbers, laws::specs::Refusal::first, laws::specs::Refusal::or_else))]
 fn costs_number(head: JudgedHead, values: &[i64], c: &mut [i64]) -> Result<(), Refusal>
     requires { let v = head.values in (v.count ≤ length values.now) × (v.n ≤ length c.old)
         × ((k : ℕ) → k < v.count → elem_z values.now k ≡ value head.bytes.now k) }
@@ -118,6 +120,7 @@ fn costs_number(head: JudgedHead, values: &[i64], c: &mut [i64]) -> Result<(), R
 }
 
 // The entries and c.
+#[tactic(auto, unfolding(laws::specs::Refusal::first, laws::specs::Refusal::or_else))]
 fn table_number(
     head: JudgedHead,
     rows: &mut [u16],
@@ -135,6 +138,7 @@ fn table_number(
 }
 
 // Behind c: the pins, then the rest for the free wagons.
+#[tactic(auto, unfolding(laws::specs::Refusal::first, laws::specs::Refusal::or_else))]
 fn rest_number(head: JudgedHead) -> Result<(), Refusal>
     ensures { numbered result ≡ or_else (first (pins_numbers_by versions head.entry.bytes.now))
         (first (run_numbers head.entry.bytes.now (free_wagons head.entry.bytes.now) (settings_place head.entry.bytes.now))) }

@@ -36,6 +36,7 @@ fn wagon_number(wagon: Option<u64>, n: usize, states: &[u8]) -> Result<(), Refus
 }
 
 // A pin's wagon, then its store.
+#[tactic(auto, unfolding(laws::specs::Refusal::first, laws::specs::Refusal::or_else))]
 fn judged_pin(pin: PinFields, n: usize, states: &[u8]) -> Result<(), Refusal>
     requires { n ≤ length states.now }
     ensures { numbered result ≡ first (pin_judged n states.now pin) }
@@ -53,6 +54,7 @@ fn put_pin(pin: PinFields, states: &mut [u8])
 }
 
 // Each of `count` pins that start at `at`.
+#[tactic(auto, unfolding(laws::specs::Refusal::first_of, crate::specs::Values::states_of, laws::specs::Turns::up_to))]
 fn each_pin(job: &[u8], n: usize, at: usize, count: usize, states: &mut [u8]) -> Result<(), Refusal>
     requires { states.old ≡ replicate n free_state }
     ensures { (numbered result ≡ first_of (pin_number job.now n at) count) × (numbered result ≡ 0 → states.new ≡ states_of job.now n at count) }
@@ -68,6 +70,7 @@ fn each_pin(job: &[u8], n: usize, at: usize, count: usize, states: &mut [u8]) ->
 }
 
 // The pin count at `at` and the pins behind it, for n wagons that are free.
+#[tactic(auto, unfolding(crate::specs::Number::pins_numbers, laws::specs::Refusal::first, laws::specs::Refusal::or_else))]
 pub fn pins_number(job: &[u8], n: usize, at: usize, states: &mut [u8]) -> Result<(), Refusal>
     requires { states.old ≡ replicate n free_state }
     ensures { (numbered result ≡ first (pins_numbers job.now n at)) × (numbered result ≡ 0 → states.new ≡ states_of job.now n (at + 1) (big_endian job.now at 1)) }
@@ -77,6 +80,7 @@ pub fn pins_number(job: &[u8], n: usize, at: usize, states: &mut [u8]) -> Result
 }
 
 // The pins of a version that carries them.
+#[tactic(auto, unfolding(crate::specs::Number::pins_numbers_by, laws::specs::Refusal::first, laws::specs::Refusal::or_else))]
 pub fn version_pins(head: JudgedHead) -> Result<(), Refusal>
     ensures { numbered result ≡ first (pins_numbers_by versions head.entry.bytes.now) }
 {

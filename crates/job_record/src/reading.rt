@@ -63,6 +63,7 @@ pub struct JudgedHead<'a> {
 }
 
 // The head. `read_head`, `read_pin` and `read_settings` stay apart: each names other fields, beside their widths.
+#[tactic(auto, unfolding(crate::specs::Reading::head_of))]
 pub fn read_head(job: &[u8]) -> HeadFields
     ensures { result ≡ head_of job.now }
 {
@@ -80,6 +81,7 @@ pub fn read_head(job: &[u8]) -> HeadFields
 }
 
 // The pin at `at`.
+#[tactic(auto, unfolding(crate::specs::Reading::pin_from))]
 pub fn read_pin(job: &[u8], at: usize) -> PinFields
     ensures { result ≡ pin_from job.now at }
 {
@@ -94,6 +96,7 @@ pub fn read_pin(job: &[u8], at: usize) -> PinFields
 }
 
 // The settings from `at` on.
+#[tactic(auto, unfolding(crate::specs::Reading::settings_from))]
 pub fn read_settings(job: &[u8], at: usize) -> SettingsFields
     ensures { result ≡ settings_from job.now at }
 {

@@ -51,6 +51,7 @@ fn momentum_number(rule: u64, number: Option<u64>) -> Result<(), Refusal>
 }
 
 // Rank, rule, its number.
+#[tactic(auto, unfolding(laws::specs::Refusal::first, laws::specs::Refusal::or_else))]
 fn rule_number(rank: Option<u64>, rule: Option<u64>, number: Option<u64>) -> Result<(), Refusal>
     ensures { numbered result ≡ first (rule_judged rank rule number) }
 {
@@ -60,6 +61,7 @@ fn rule_number(rank: Option<u64>, rule: Option<u64>, number: Option<u64>) -> Res
 }
 
 // W, start, and a rank for a start of kind 1.
+#[tactic(auto, unfolding(laws::specs::Refusal::first, laws::specs::Refusal::or_else))]
 fn start_number(rank: Option<u64>, width: Option<u64>, start: Option<u64>) -> Result<(), Refusal>
     ensures { numbered result ≡ first (start_judged rank width start) }
 {
@@ -72,6 +74,7 @@ fn start_number(rank: Option<u64>, width: Option<u64>, start: Option<u64>) -> Re
 }
 
 // Rank, rule, its number, most, minimum, two tolerances, W, start.
+#[tactic(auto, unfolding(laws::specs::Refusal::first, laws::specs::Refusal::or_else))]
 fn settings_number(f: SettingsFields) -> Result<(), Refusal>
     ensures { numbered result ≡ first (settings_judged f) }
 {
@@ -87,6 +90,7 @@ fn settings_number(f: SettingsFields) -> Result<(), Refusal>
 }
 
 // The start's doubles up to `at`, the draw count there, the draws of rank doubles each, and nothing more.
+#[tactic(auto, unfolding(crate::specs::Number::draws_numbers, laws::specs::Refusal::first, laws::specs::Refusal::or_else))]
 fn draws_number(job: &[u8], at: usize, rank: usize) -> Result<(), Refusal>
     requires { (at ≤ 1048576) × (rank ≤ most_rank) }
     ensures { numbered result ≡ first (draws_numbers job.now at rank) }

@@ -1,16 +1,23 @@
--- Tests that hold somewhere: in a list of conditions (`any_..`), of one of an index (`below_..`); std's of two tests under the names that are cited.
+-- Tests that hold somewhere: in a list of conditions (`any_..`), of one of an index (`below_..`).
 -- Assumes nothing.
-use Prim.Native.Nat.{ℕ, zero, suc, ◌+◌, ◌<◌, ◌≤◌}
-use mathlib.Core.Path.{◌≡◌, refl, sym, ap, ◌∙◌}
-use mathlib.Core.Bool.{Bool, true, false, cond}
+use Prim.Native.Nat.{ℕ, zero, suc, ◌+◌, ◌<◌}
+use mathlib.Core.Path.{◌≡◌, refl, ap, ◌∙◌}
+use mathlib.Core.Bool.{Bool, true, false, cond, ◌&&◌}
 use mathlib.Core.List.{List, [], ◌∷◌}
 use mathlib.Core.Logic.{◌⊎◌, inl, inr}
 use native.Mathlib.Omega.{arith}
 use native.Mathlib.Nat.{eq-or-lt_of_le, le_of_suc-le-suc}
 use native.Mathlib.Numerals.{add-one}
-pub use Rattle.std.proofs.lemmas.Bool.{or_from as or_none, and_right, and_parts as and_true}
 use Rattle.laws.specs.Refusal.{any_of}
 use Rattle.laws.specs.Lists.{any_below}
+
+pub cond_self : (b : Bool) → cond b true false ≡ b
+cond_self true = refl
+cond_self false = refl
+
+pub cond_same : {A : Type 0} (b : Bool) (x : A) → cond b x x ≡ x
+cond_same true x = refl
+cond_same false x = refl
 
 pub any_head : (b : Bool) (rest : List Bool) → any_of (b ∷ rest) ≡ false → b ≡ false
 unfolding any_of
@@ -43,6 +50,11 @@ unfolding any_of
 any_last true = refl
 any_last false = refl
 
+-- two tests of which the second fails where the first holds
+pub false_and : (a b : Bool) → (a ≡ true → b ≡ false) → (a && b) ≡ false
+false_and true b h = h refl
+false_and false b h = refl
+
 -- a test that holds somewhere
 module _ (p : ℕ → Bool) where
   pub below_none : (n : ℕ) → ((j : ℕ) → j < n → p j ≡ false) → any_below n p ≡ false
@@ -65,12 +77,8 @@ module _ (p : ℕ → Bool) where
   below_only zero j l h = absurd (omega arith)
   below_only (suc n) j l h = go (eq-or-lt_of_le (le_of_suc-le-suc l)) (λ k. below_only n j k (λ i m. h i (omega arith)))
     where
-      same : (t : Bool) → cond t true false ≡ t
-      same true = refl
-      same false = refl
-
       go : (j ≡ n) ⊎ (j < n) → (j < n → any_below n p ≡ p j) → cond (p n) true (any_below n p) ≡ p j
-      go (inl e) later = rw (below_none n (λ i m. h i (omega arith) (λ s. omega arith)), ← e) (same (p j))
+      go (inl e) later = rw (below_none n (λ i m. h i (omega arith) (λ s. omega arith)), ← e) (cond_self (p j))
       go (inr k) later = rw (h n (omega arith) (λ s. omega arith)) (later k)
 
   -- where it holds nowhere, and where it holds
@@ -93,17 +101,10 @@ module _ (p : ℕ → Bool) where
       go true q e ih = (n, omega arith, q)
       go false q e ih = let (k, h, r) = ih e in (k, omega arith, r)
 
-  -- a loop that looks for a place where it holds: at the start, past a place where it doesn't, at the end
-  pub below_start : any_below 0 p ≡ false
-  unfolding any_below
-  below_start = refl
-
+  -- a loop that looks for a place where it holds, past one where it doesn't
   pub below_passed : (k : ℕ) → any_below k p ≡ false → p k ≡ false → any_below (k + 1) p ≡ false
   unfolding any_below
   below_passed k e f = rw (add-one, f) e
-
-  pub below_ended : (k n : ℕ) → any_below k p ≡ false → k ≤ n → n ≤ k → false ≡ any_below n p
-  below_ended k n e up down = let same : n ≡ k = omega arith in rw same (sym e)
 
   -- a loop that goes on, and keeps whether it held somewhere
   pub below_next : (n : ℕ) (found : Bool) → found ≡ any_below n p → cond (p n) true found ≡ any_below (n + 1) p

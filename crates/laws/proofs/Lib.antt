@@ -7,6 +7,7 @@ pub mod UpTo
 pub mod MapFirst
 pub mod Parts
 pub mod Made
+pub mod Ranged
 -- refusals
 pub mod Any
 pub mod Refusal

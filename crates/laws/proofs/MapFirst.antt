@@ -4,6 +4,7 @@
 --     map_first_const     one value at every element
 --     map_first_copy      the elements of another list
 --     fill_none, -more, -all   the same for a loop that reads none of the elements
+--     fill_again          a second filling leaves nothing of the first
 -- Assumes nothing.
 use mathlib.Core.Path.{◌≡◌, refl, ap}
 use mathlib.Core.List.{List, [], ◌∷◌}
@@ -43,8 +44,8 @@ module _ {A : Type 0} where
   pub map_first_copy : (d : A) (xs ys : List A) → length xs ≡ length ys → map_first (λ j x. get_or ys j d) (length xs) xs ≡ ys
   unfolding map_first
   map_first_copy d [] [] e = refl
-  map_first_copy d [] (y ∷ ys) e = let o : ◌≡◌ {A = ℕ} 0 (suc (length ys)) = e in absurd (omega arith)
-  map_first_copy d (x ∷ xs) [] e = let o : ◌≡◌ {A = ℕ} (suc (length xs)) 0 = e in absurd (omega arith)
+  map_first_copy d [] (y ∷ ys) e = cc
+  map_first_copy d (x ∷ xs) [] e = cc
   map_first_copy d (x ∷ xs) (y ∷ ys) e = ap (λ (l : List A). y ∷ l) (map_first_copy d xs ys (omega arith))
 
   pub get_d_map_first : (f : ℕ → A → A) (n : ℕ) (xs : List A) (i : ℕ) (d : A) → i < n → i < length xs
@@ -54,6 +55,13 @@ module _ {A : Type 0} where
   get_d_map_first f (suc n) [] i d h l = elim l [ ]
   get_d_map_first f (suc n) (x ∷ xs) zero d h l = refl
   get_d_map_first f (suc n) (x ∷ xs) (suc i) d h l = get_d_map_first (λ j. f (suc j)) n xs i d (omega arith) (omega arith)
+
+  -- what was filled before is written over
+  pub fill_again : (f g : ℕ → A) (n : ℕ) (xs : List A) → fill f n (fill g n xs) ≡ fill f n xs
+  unfolding map_first
+  fill_again f g zero xs = refl
+  fill_again f g (suc n) [] = refl
+  fill_again f g (suc n) (x ∷ xs) = ap (λ (ys : List A). f 0 ∷ ys) (fill_again (λ j. f (suc j)) (λ j. g (suc j)) n xs)
 
 -- a loop that fills a list from the front, whose elements were not read
 module _ {A : Type 0} (f : ℕ → A) (l : List A) where

@@ -1,5 +1,5 @@
 -- A row of refusals, followed test by test, and what holds where nothing is refused.
-use Prim.Native.Nat.{ℕ, zero, suc, ◌+◌, ◌<◌, ◌≤◌}
+use Prim.Native.Nat.{ℕ, zero, suc, ◌+◌, ◌<◌}
 use mathlib.Core.Path.{◌≡◌, refl, sym, ◌∙◌}
 use mathlib.Core.Bool.{Bool, true, false}
 use mathlib.Core.List.{List, [], ◌∷◌}
@@ -18,20 +18,20 @@ stop (suc a) b e n = e
 pub pass : (a b : ℕ) {r x : ℕ} → x ≡ a → x ≡ 0 → r ≡ b → r ≡ or_else a b
 unfolding or_else
 pass zero b e z h = h
-pass (suc a) b e z h = let no : ◌≡◌ {A = ℕ} (suc a) 0 = sym e ∙ z in absurd (omega arith)
+pass (suc a) b e z h = cc
 
 -- neither of two
 pub both : (a b : ℕ) → or_else a b ≡ 0 → (a ≡ 0) × (b ≡ 0)
 unfolding or_else
 both zero b e = (refl, e)
-both (suc a) b e = let no : ◌≡◌ {A = ℕ} (suc a) 0 = e in absurd (omega arith)
+both (suc a) b e = absurd (cc)
 
 pub neither : (a b : ℕ) → a ≡ 0 → b ≡ 0 → or_else a b ≡ 0
 unfolding or_else
 neither a b e f = rw (e, f)
 
 pub clear : (t : Bool) (k : ℕ) → suc k if t ≡ 0 → t ≡ false
-clear true k e = let no : ◌≡◌ {A = ℕ} (suc k) 0 = e in absurd (omega arith)
+clear true k e = cc
 clear false k e = refl
 
 -- an ordered list, number by number
@@ -82,9 +82,6 @@ module _ (f : ℕ → ℕ) where
       go : (i ≡ m) ⊎ (i < m) → (i < m → r ≡ first_of f m) → r ≡ or_else (first_of f m) (f m)
       go (inl same) later = rw (← same, none) e
       go (inr k) later = stop _ _ (later k) z
-
-  pub ended : (i n : ℕ) → first_of f i ≡ 0 → i ≤ n → n ≤ i → 0 ≡ first_of f n
-  ended i n none up down = let e : n ≡ i = omega arith in rw e (sym none)
 
   -- none of a row
   pub each : (n : ℕ) → first_of f n ≡ 0 → (i : ℕ) → i < n → f i ≡ 0

@@ -10,8 +10,7 @@ use mathlib.Core.Path.{◌≡◌, refl, sym, ap, ap₂, subst, ◌∙◌}
 use lib.Dec.{eqb}
 use lib.IntN.{ℤ, pos, nat_abs, ◌+ℤ◌, ◌-ℤ◌}
 use lib.Signed.{◌≤ℤ◌}
-use lib.ListN.{length, get_or}
-use lib.Seq.{get_or-set_other}
+use lib.ListN.{length}
 use Rattle.laws.specs.Lists.{elem, over}
 use Rattle.laws.specs.Sum.{total}
 use Rattle.laws.proofs.Sums.{total_at}
@@ -22,9 +21,9 @@ use Rattle.tables.specs.Check.{Hall}
 use Rattle.tables.specs.Cost.{decoded, decoded_byte, bit, choice_at}
 use Rattle.tables.proofs.Choices.{cost_ext}
 use Rattle.sign_table.specs.SignTable.{sign_table}
-use Rattle.sign_words.specs.Signs.{flip_byte, flip_sign, sign_digit, Binary}
+use Rattle.sign_words.specs.Signs.{flip_sign, sign_digit, Binary}
 use Rattle.sign_words.specs.Distance.{places_apart}
-use Rattle.sign_words.proofs.PackedLaws.{binary_flip}
+use Rattle.sign_words.proofs.PackedLaws.{binary_flip, flip_sign_there}
 use Rattle.local_search.proofs.LevelLaws.{flipped_length}
 use Rattle.local_search.specs.LocalSearch.{Found}
 use Rattle.sign_search.specs.Within.{Bounds, bounds, near, within}
@@ -132,14 +131,10 @@ module _ {most capacity limit n : ℕ} {h : Table} {c : ℕ → ℤ} (hall : Hal
   start_reached : Reached start
   start_reached = record { long = start_size n p; anchor = start_anchor; close = omega (arith, apart_self start); binary = start_binary n p low }
 
-  still : (x : List ℕ) (i : ℕ) → i < n → elem (flip_sign i x) n ≡ elem x n
-  unfolding flip_sign
-  still x i h = get_or-set_other x i n (flip_byte (get_or x i 0)) 0 (λ e. omega arith)
-
   reaches : (x : List ℕ) (i : ℕ) → length x ≡ suc n → i < suc n → Reached x → within b x i ≡ true → Reached (flip_sign i x)
   reaches x i l q r w =
       let m = within_means b x i w in
-      record { long = flipped_length i x ∙ r.long; anchor = still x i m.0 ∙ r.anchor; close = m.1; binary = binary_flip i x r.binary }
+      record { long = flipped_length i x ∙ r.long; anchor = flip_sign_there i x n (λ e. omega arith) ∙ r.anchor; close = m.1; binary = binary_flip i x r.binary }
 
   abbrev found : Found (List ℕ)
   found = limited_search t (within b) W start
@@ -160,20 +155,8 @@ module _ {most capacity limit n : ℕ} {h : Table} {c : ℕ → ℤ} (hall : Hal
     byte_is j q =
         choice_byte n answer xs j q ∙ decoded_digit n answer j reached.anchor ∙ digit_bit (elem answer j) (omega (arith, reached.binary.small j))
 
-    byte_low : (j : ℕ) → j < n → elem choice j ≤ 1
-    byte_low j q = omega (arith, byte_is j q, reached.binary.small j)
-
     start_digit : (j : ℕ) → j < n → elem start j ≡ elem p j
     start_digit j q = start_sign n p j (omega arith) ∙ sign_there n p j q
-
-    moved_few : wagons_moved n choice p ≤ k
-    moved_few =
-        subst (λ (d : ℕ). d ≤ k)
-        (moved_is n answer start choice p reached.long reached.anchor start_anchor (λ j q. ap sign_digit (sym (byte_is j q))) (λ j q. ap sign_digit (start_digit j q))) reached.close
-
-    -- signs cost what they decode to
-    own_cost : objective_in t answer ≡ cost_of n h c choice
-    own_cost = signs_cost hall answer ∙ cost_ext n (value_at h) c (λ j q. sym (choice_at_lem n answer xs j q))
 
     decoded_at : (x : List ℕ) → elem x n ≡ 0 → (j : ℕ) → decoded n x j ≡ pos (sign_digit (elem x j))
     decoded_at x e j = ap pos (decoded_digit n x j e)
@@ -201,7 +184,7 @@ module _ {most capacity limit n : ℕ} {h : Table} {c : ℕ → ℤ} (hall : Hal
           ∙ moved_one n choice b' (decoded n answer) (λ i l. choice_at_lem n answer xs i l) d j q
 
       other_anchor : elem other n ≡ 0
-      other_anchor = still answer d.wagon d.is_one ∙ reached.anchor
+      other_anchor = flip_sign_there d.wagon answer n (λ e. omega arith) ∙ reached.anchor
 
       other_digit : (j : ℕ) → j < n → sign_digit (elem other j) ≡ sign_digit (elem b' j)
       other_digit j q = ap nat_abs (sym (decoded_at other other_anchor j) ∙ other_at j q ∙ bit_digit (elem b' j))
@@ -215,7 +198,7 @@ module _ {most capacity limit n : ℕ} {h : Table} {c : ℕ → ℤ} (hall : Hal
       one_wagon : wagons_moved n b' p ≤ k → objective_in t answer ≤ℤ cost_of n h c b'
       one_wagon l =
           subst (λ (z : ℤ). objective_in t answer ≤ℤ z) (signs_cost hall other ∙ cost_ext n (value_at h) c other_at)
-          (limited_no_flip (hall_mirrors hall) start (start_size n p) (within b) Reached reaches start_reached W some d.wagon (omega (arith, d.is_one)) (allowed l))
+          (limited_no_flip (hall_mirrors hall) start (start_size n p) (within b) Reached reaches start_reached W some d.wagon (omega arith) (allowed l))
 
     -- ---- no wagon moved
 
@@ -229,9 +212,11 @@ module _ {most capacity limit n : ℕ} {h : Table} {c : ℕ → ℤ} (hall : Hal
 
     pub near_choice : Near n h c p k choice (objective_in t answer) found.rounds
     near_choice = record {
-      bytes = byte_low;
-      within_k = moved_few;
-      cost_is = own_cost;
+      bytes = λ j q. omega (arith, byte_is j q, reached.binary.small j);
+      within_k =
+          subst (λ (d : ℕ). d ≤ k)
+          (moved_is n answer start choice p reached.long reached.anchor start_anchor (λ j q. ap sign_digit (sym (byte_is j q))) (λ j q. ap sign_digit (start_digit j q))) reached.close;
+      cost_is = signs_cost hall answer ∙ cost_ext n (value_at h) c (λ j q. sym (choice_at_lem n answer xs j q));
       no_dearer = no_dearer;
       one_wagon = λ b' d l. one_wagon b' d l;
       none_moved = none_moved;

@@ -40,6 +40,7 @@ fn call_short(hall: LentHall, present: usize, choice: usize, workspace: usize) -
 }
 
 // The first number that applies; the lengths are those of the slices that the call writes.
+#[tactic(auto, unfolding(crate::specs::Numbers::limited_number, laws::specs::Refusal::first, laws::specs::Refusal::or_else))]
 pub fn limited_number(
     hall: LentHall,
     request: Request,

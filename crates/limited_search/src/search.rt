@@ -15,6 +15,7 @@ use tables::judged::JudgedHall;
 use tables::objective::qubo_binary_from_sign_solution;
 
 // The first n bytes of the present choice, then the anchor's, which is +.
+#[tactic(auto, using(crate::proofs::Starts::signs_copied, crate::proofs::Starts::signs_made))]
 fn start_signs(n: usize, present: &[u8], signs: &mut [u8])
     requires { (n ≤ length present.now) × (length signs.old ≡ suc n) }
     ensures { signs.new ≡ present_signs n present.now }
@@ -26,6 +27,7 @@ fn start_signs(n: usize, present: &[u8], signs: &mut [u8])
 // The search on the sign table of (H, c), which is made; `found` takes what the answer decodes to.
 // Not one function with `search_reduced` of `block_search`: they share four lines, which make the table and decode the answer. The start, whether it is weighed
 // and how far the search goes differ, and would be parameters of a function with both contracts' clauses.
+#[tactic(auto, using(tables::proofs::Checks::hall_accepted))]
 pub fn search_limited(
     hall: JudgedHall,
     request: Request,

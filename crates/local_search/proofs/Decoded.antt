@@ -2,24 +2,24 @@
 use Prim.Native.Nat.{ℕ, zero, suc, ◌+◌, ◌*◌, ◌-◌, ◌≤◌, ◌<◌}
 use native.Mathlib.Omega.{arith}
 use mathlib.Core.Bool.{Bool, true, false, cond}
-use mathlib.Core.List.{List, [], ◌∷◌, ◌++◌, map, map-append, map-map}
-use mathlib.Core.Path.{◌≡◌, refl, sym, ap, ap₂, ◌∙◌, subst}
-use lib.IntN.{ℤ, pos, ◌+ℤ◌}
+use mathlib.Core.List.{List, [], ◌∷◌, ◌++◌, map, map-map}
+use mathlib.Core.Path.{◌≡◌, refl, sym, ap, ◌∙◌, subst}
+use lib.IntN.{ℤ, pos}
 use lib.Signed.{lt_z}
 use lib.ListN.{length, take, drop, get_or, length-map}
 use Rattle.std.proofs.lemmas.List.{take-map}
 use Rattle.laws.specs.Lists.{over}
 use Rattle.local_search.specs.LocalSearch.{All, insert, keep_best, best, children_of}
 use Rattle.sign_words.specs.Packed.{Tidy}
-use Rattle.local_search.specs.Level.{Choice, below, child_of, word_child, level_of, decoded, sign_level, Ascending, TidyChoice, TidyLevel}
-use Rattle.local_search.specs.SignSearch.{improving, improves_c, flip_c, children_c, child_at}
-use Rattle.local_search.specs.Children.{change_of, flip_w, listed_children, parent_of, better, Kept}
+use Rattle.local_search.specs.Level.{Choice, below, word_child, level_of, decoded, sign_level, Ascending, TidyChoice, TidyLevel}
+use Rattle.local_search.specs.SignSearch.{improving, child_at}
+use Rattle.local_search.specs.Children.{flip_w, better, Kept}
 use Rattle.local_search.proofs.LevelLaws.{level_empty, length_level_of, objectives_of, objectives_are, level_copied}
 use Rattle.local_search.proofs.All.{all_append, all_take}
 use Rattle.local_search.proofs.SearchLaws.{all_insert}
 use Rattle.local_search.proofs.OrderLaws.{rising_keep}
 use Rattle.local_search.proofs.ExpandLaws.{choice_at, all_choices, parent_is}
-use Rattle.sign_words.proofs.PackedLaws.{unpacked_flip, tidy_flip}
+use Rattle.sign_words.proofs.PackedLaws.{tidy_flip}
 
 pub cond_map : {X Y : Type 0} (f : X → Y) (b : Bool) (x : X) → map f (cond b (x ∷ []) []) ≡ cond b (f x ∷ []) []
 cond_map f true x = refl
@@ -55,24 +55,6 @@ module _ (m : ℕ) where
   unfolding best
   best_map b [] = refl
   best_map b (x ∷ l) = best_map (better b x) l ∙ ap (λ (c : Choice). best below c (map (decoded m) l)) (better_map b x)
-
-  -- ---- the children
-
-  decoded_child : (changes : List ℤ) (parent : Choice) (i : ℕ) → i < m → m ≤ 64 * length parent.signs
-      → decoded m (flip_w changes i parent) ≡ flip_c (change_of changes) i (decoded m parent)
-  unfolding flip_w flip_c word_child child_of
-  decoded_child changes parent i h held =
-      ap (λ (x : List ℕ). parent_of (parent.objective +ℤ get_or changes i (pos 0)) x) (unpacked_flip i parent.signs (omega arith) m h)
-
-  children_map : (changes : List ℤ) (parent : Choice) (n : ℕ) → n ≤ m → m ≤ 64 * length parent.signs
-      → map (decoded m) (listed_children changes n parent) ≡ children_c (change_of changes) (improves_c (change_of changes)) n (decoded m parent)
-  unfolding improving
-  children_map changes parent zero h held = refl
-  children_map changes parent (suc n) h held =
-      map-append (decoded m) (listed_children changes n parent) (child_at (improves_c (change_of changes)) (flip_w changes) parent n)
-      ∙ ap₂ ◌++◌ (children_map changes parent n (omega arith) held)
-      (cond_map (decoded m) (improves_c (change_of changes) parent n) (flip_w changes n parent)
-      ∙ ap (λ (x : Choice). cond (improves_c (change_of changes) parent n) (x ∷ []) []) (decoded_child changes parent n (omega arith) held))
 
   -- ---- what the level functions leave
 

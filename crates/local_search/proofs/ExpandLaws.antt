@@ -31,7 +31,7 @@ module _ (width : ℕ) (before after : List Choice) (count i : ℕ) (changes : L
       p.level ∙ ap (λ (z : ℤ). take width (insert below (word_child z i parent.signs) before)) o in
       record {
         level = put ∙ ap (keep_best below width before) (sym (ap (λ (b : Bool). cond b (c ∷ []) []) e));
-        room = omega (arith, p.counted, length-take width (insert below (word_child objective i parent.signs) before));
+        room = omega (arith, length-take width (insert below (word_child objective i parent.signs) before));
       }
 
   pub no_child : exists parent i ≡ false → after ≡ before → count ≤ width
@@ -136,13 +136,6 @@ module _ (before after : List Choice) (count i : ℕ) (changes : List ℤ) (exis
     room = omega arith;
   }
 
-  pub child_skipped : exists parent i ≡ false → after ≡ before → count ≤ i
-      → Appended before (child_at exists (flip_w changes) parent i) after count (suc i)
-  child_skipped e p room = record {
-    level = p ∙ sym (append-nil before) ∙ ap (λ (b : Bool). before ++ cond b (flip_w changes i parent ∷ []) []) (sym e);
-    room = omega arith;
-  }
-
 module _ (changes : List ℤ) (exists : Choice → ℕ → Bool) (parent : Choice) where
   pub append_none : (after : List Choice) → after ≡ [] → Appended [] (improving exists (flip_w changes) 0 parent) after 0 0
   unfolding improving
@@ -154,7 +147,7 @@ module _ (changes : List ℤ) (exists : Choice → ℕ → Bool) (parent : Choic
   append_one_more i now after count' count p q = record {
     level = q.level ∙ ap (λ (l : List Choice). l ++ child_at exists (flip_w changes) parent i) p.level
         ∙ ap (λ (k : ℕ). improving exists (flip_w changes) k parent) (sym (add-one i));
-    room = omega (arith, q.room);
+    room = omega arith;
   }
 
 -- ---- the least of a level
@@ -177,4 +170,4 @@ module _ (m : ℕ) (os : List ℤ) (s : List ℕ) (b : Choice) where
 
 -- the room that one of `count` rows takes
 pub part_room : {k count long : ℕ} (m : ℕ) → k < count → count * m ≤ long → k * m + m ≤ long
-part_room {k = k} m p q = omega (arith, mul-le-mul_right m p, suc-mul k m, q)
+part_room {k = k} m p q = omega (arith, mul-le-mul_right m p, suc-mul k m)

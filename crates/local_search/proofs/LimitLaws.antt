@@ -12,6 +12,7 @@ use lib.IntN.{ℤ, pos, ◌+ℤ◌}
 use lib.Signed.{lt_z}
 use lib.ListN.{length, take, get_or}
 use lib.Seq.{get_or-take, length-take-le}
+use Rattle.laws.proofs.Any.{cond_self}
 use Rattle.std.proofs.lemmas.Bool.{false_from_ne_true}
 use Rattle.std.proofs.lemmas.Int.{ints}
 use Rattle.local_search.specs.LocalSearch.{keep_best}
@@ -88,14 +89,10 @@ enters_below width count os changes parent i some few fits rising = go (dec_lt c
     improves_is : lt_z (get_or changes i (pos 0)) (pos 0) ≡ lt_z x o
     improves_is = sym (lt_z_change parent.objective (get_or changes i (pos 0)))
 
-    whole : (b : Bool) → cond b true false ≡ b
-    whole true = refl
-    whole false = refl
-
     go : Dec (count < width) → cond (lt_z (get_or changes i (pos 0)) (pos 0)) (finds_room width (take count os) x) false ≡ lt_z x (limit_of width count os o)
     go (yes h) =
         ap₂ (λ (a b : Bool). cond a b false) improves_is (room_left width count os x fits h)
-        ∙ whole (lt_z x o) ∙ ap (lt_z x) (sym (limit_with_room width count os o h))
+        ∙ cond_self (lt_z x o) ∙ ap (lt_z x) (sym (limit_with_room width count os o h))
     go (no n) =
         ap₂ (λ (a b : Bool). cond a b false) improves_is (room_full width count os x fits some (omega arith) rising)
         ∙ below_both x (get_or os (count - 1) (pos 0)) o ∙ ap (lt_z x) (sym (limit_full width count os o (omega arith)))

@@ -26,7 +26,7 @@ best_append b (x ∷ l) r = best_append (cond (below x b) x b) l r
 
 pub start_safe : (change : List ℕ → ℕ → ℤ) (exists : Choice → ℕ → Bool) (fuel : ℕ) (start : Choice) → Searches change exists fuel start → Safe change start
 start_safe change exists fuel start p i q =
-    child_fits (length start.signs) p.objective change p.floor p.height p.lawful p.bounded start (refl, p.start_is) i q
+    child_fits p.lawful p.bounded start (refl, p.start_is) i q
 
 module _ (change : List ℕ → ℕ → ℤ) (exists : Choice → ℕ → Bool) (width fuel : ℕ) (start : Choice) where
   abbrev children : Choice → List Choice
@@ -56,7 +56,7 @@ module _ (change : List ℕ → ℕ → ℤ) (exists : Choice → ℕ → Bool) 
       go : (l : List Choice) (ls : List (List Choice)) → Levels below children width l ls → l ≡ []
           → best below kept (concat ls) ≡ (searched_from change exists width fuel start).answer → rounds + length ls ≡ (searched_from change exists width fuel start).rounds
           → (kept ≡ (searched_from change exists width fuel start).answer) × (rounds ≡ (searched_from change exists width fuel start).rounds)
-      go l ls none n a r = (a, omega (arith, r))
+      go l ls none n a r = (a, omega arith)
       go l ls (more q) n a r = absurd (cons≢nil n)
 
   pub searching_turn : (level : List Choice) (kept : Choice) (rounds : ℕ) → 0 < length level → Searching level kept rounds
@@ -73,7 +73,7 @@ module _ (change : List ℕ → ℕ → ℤ) (exists : Choice → ℕ → Bool) 
         levels_left = v;
         safe = s.1;
         answer_is = sym (best_append kept (x ∷ xs) (concat rest)) ∙ a;
-        rounds_are = omega (arith, r);
+        rounds_are = omega arith;
         few = p.few;
       }
 
@@ -83,7 +83,7 @@ module _ (change : List ℕ → ℕ → ℤ) (exists : Choice → ℕ → Bool) 
       go : (l : List Choice) (ls : List (List Choice)) → Levels below children width l ls → 0 < length l → rounds + length ls ≡ (searched_from change exists width fuel start).rounds
           → rounds < (searched_from change exists width fuel start).rounds
       go l ls none q r = absurd (omega arith)
-      go l ls (more {x} {xs} {ls = rest} v) q r = omega (arith, r)
+      go l ls (more {x} {xs} {ls = rest} v) q r = omega arith
 
   found_is : (w : ℕ) → 1 ≤ w → searched below children w fuel start ≡ found_in below start (levels below children w fuel (children start))
   unfolding searched
@@ -93,11 +93,10 @@ module _ (change : List ℕ → ℕ → ℤ) (exists : Choice → ℕ → Bool) 
   pub searching_start : 1 ≤ width → Searches change exists fuel start → Searching (children start) start 0
   unfolding found_in
   searching_start w p =
-      let m : ℕ = length start.signs in
-      let G : Choice → Type 0 = Good m p.objective change p.floor p.height p.lawful in
+      let G : Choice → Type 0 = Good p.lawful in
       let up : Choice → ℕ = λ c. p.height c.signs in
-      let ord = orders_choices m p.objective change p.floor p.height p.lawful in
-      let fal = falls_choices m p.objective change p.floor p.height p.lawful exists p.improving in
+      let ord = orders_choices p.lawful in
+      let fal = falls_choices p.lawful exists p.improving in
       let g : G start = (refl, p.start_is) in
       let ls : List (List Choice) = levels below children width fuel (children start) in
       let lv : Levels below children width (children start) ls = levels_end below children G up ord fal width fuel start p.enough g in
@@ -107,10 +106,10 @@ module _ (change : List ℕ → ℕ → ℤ) (exists : Choice → ℕ → Bool) 
         left = ls;
         levels_left = lv;
         safe = all_levels (Safe change) ls
-            (all_map G (Safe change) (λ c h i q. child_fits m p.objective change p.floor p.height p.lawful p.bounded c h i (omega (arith, h.0))) (concat ls) goods);
+            (all_map G (Safe change) (λ c h i q. child_fits p.lawful p.bounded c h i (omega arith)) (concat ls) goods);
         answer_is = sym (ap (λ (f : Found Choice). f.answer) found);
         rounds_are = omega (arith, ap (λ (f : Found Choice). f.rounds) found);
-        few = omega (arith, (searched_improves below children G up ord fal width fuel start w p.enough g).falls_by_rounds, p.low);
+        few = omega (arith, (searched_improves below children G up ord fal width fuel start w p.enough g).falls_by_rounds);
       }
 
   -- a turn of the loop, on what the level and the best so far then are

@@ -211,8 +211,8 @@ module _ {X : Type 0} (less : X → X → Bool) (children : X → List X) (Good 
         Least z c = (height (best less z xs) ≤ height c) × All (AtLeast (height (best less z xs))) xs
 
         go : (t : Bool) → less x b ≡ t → Least x x → Least b b → (height (best less (cond t x b) xs) ≤ height b) × All (AtLeast (height (best less (cond t x b) xs))) (x ∷ xs)
-        go true e p q = (omega (arith, less_true x b gl.0 gb e, p.0), (p.0, p.1))
-        go false e p q = (q.0, (omega (arith, less_false x b gl.0 gb e, q.0), q.1))
+        go true e p q = (omega (arith, less_true x b gl.0 gb e), (p.0, p.1))
+        go false e p q = (q.0, (omega (arith, less_false x b gl.0 gb e), q.1))
 
     -- each round takes 4 off at least
     rounds_fall : (b n h : ℕ) (l : List X) (ls : List (List X)) → b + n ≤ h + 4 → All (Under n h) l → Levels less children width l ls → All (AtLeast b) (concat ls)
@@ -221,7 +221,7 @@ module _ {X : Type 0} (less : X → X → Bool) (children : X → List X) (Good 
     rounds_fall b n h l ls q u none a = omega arith
     rounds_fall b n h l ls q u (more {x} {xs} {ls = rest} r) a =
         let next : List X = next_level less children width (x ∷ xs) in
-        let f : b + (n + 4) + 4 * length rest ≤ h + 4 = rounds_fall b (n + 4) h next rest (omega (arith, u.0.1, a.0)) (under_next n h (x ∷ xs) u) r (all_right (AtLeast b) (x ∷ xs) (concat rest) a) in
+        let f : b + (n + 4) + 4 * length rest ≤ h + 4 = rounds_fall b (n + 4) h next rest (omega arith) (under_next n h (x ∷ xs) u) r (all_right (AtLeast b) (x ∷ xs) (concat rest) a) in
         omega arith
 
     -- a good choice whose children are all at least as high has none
@@ -230,7 +230,7 @@ module _ {X : Type 0} (less : X → X → Bool) (children : X → List X) (Good 
       where
         go : (l : List X) → All (AtLeast (height x)) l → All (λ y. Good y × (height y + 4 ≤ height x)) l → l ≡ []
         go [] p q = refl
-        go (y ∷ ys) p q = absurd (omega (arith, p.0, q.0.1))
+        go (y ∷ ys) p q = absurd (omega arith)
 
   -- ---- the search: no child of the answer improves it, and each round has taken 4 off at least
 
@@ -253,7 +253,7 @@ module _ {X : Type 0} (less : X → X → Bool) (children : X → List X) (Good 
       let good : Good (best less start (concat ls)) = all_best less Good start (concat ls) g goods in
       record {
         good = good;
-        falls_by_rounds = omega (arith, rounds_fall width b 4 (height start) (children start) ls (omega (arith, least.0)) first r least.1);
+        falls_by_rounds = omega (arith, rounds_fall width b 4 (height start) (children start) ls (omega arith) first r least.1);
         no_child = childless width (best less start (concat ls)) good
             (all_best less (λ x. All (AtLeast width b) (children x)) start (concat ls)
             (first_level width (AtLeast width b) (children start) ls r least.1)

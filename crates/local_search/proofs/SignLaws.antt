@@ -18,7 +18,7 @@ use Rattle.local_search.specs.SignSearch.{improving, lower, improves, keeping, s
 use Rattle.local_search.proofs.All.{all_append}
 use Rattle.local_search.proofs.Same.{same_append, same_cond, same_searched}
 use Rattle.local_search.proofs.SearchLaws.{searched_improves, searched_levels, levels_end}
-use Rattle.local_search.proofs.Heights.{lt_z_heights, lt_z_change, falls_four}
+use Rattle.local_search.proofs.Heights.{lt_z_shift, lt_z_change, falls_four}
 use Rattle.local_search.proofs.LevelLaws.{flipped_length}
 
 -- ---- children by index
@@ -69,9 +69,9 @@ module _ {X Y : Type 0} (R : X → Y → Type 0) (exists : X → ℕ → Bool) (
       (same_improving n (λ i q. h i (omega arith)))
       (same_cond R (exists x n) (exists' y n) (flip n x ∷ []) [] (flip' n y ∷ []) [] top.0 (top.1, tt) tt)
 
-module _ (m : ℕ) (objective : List ℕ → ℤ) (change : List ℕ → ℕ → ℤ) (floor : ℤ) (height : List ℕ → ℕ) (lawful : Lawful m objective change floor height) where
+module _ {m : ℕ} {objective : List ℕ → ℤ} {change : List ℕ → ℕ → ℤ} {floor : ℤ} {height : List ℕ → ℕ} (lawful : Lawful m objective change floor height) where
   orders : (x y : List ℕ) → length x ≡ m → length y ≡ m → lower objective x y ≡ ltb (height x) (height y)
-  orders x y p q = ap₂ lt_z (lawful.above_floor x p) (lawful.above_floor y q) ∙ lt_z_heights floor (height x) (height y)
+  orders x y p q = ap₂ lt_z (lawful.above_floor x p) (lawful.above_floor y q) ∙ lt_z_shift floor (pos (height x)) (pos (height y))
 
   fall : (x : List ℕ) → length x ≡ m → (i : ℕ) → i < m → improves change x i ≡ true → height (flip_sign i x) + 4 ≤ height x
   fall x p i q e =
@@ -92,7 +92,7 @@ module _ (m : ℕ) (objective : List ℕ → ℤ) (change : List ℕ → ℕ →
     pub fall : height found.answer + 4 * found.rounds ≤ height start
     pub no_child : (i : ℕ) → i < m → exists found.answer i ≡ false
 
-  module _ (exists : List ℕ → ℕ → Bool) (Keeps : List ℕ → Type 0) (filter : Filter exists Keeps) where
+  module _ {exists : List ℕ → ℕ → Bool} {Keeps : List ℕ → Type 0} (filter : Filter exists Keeps) where
     abbrev Sized : List ℕ → Type 0
     Sized x = (length x ≡ m) × Keeps x
 

@@ -82,6 +82,7 @@ pub fn next_child(
 }
 
 // Puts the parent's children in, by index.
+#[tactic(auto, using(crate::proofs::LimitLaws::first_is))]
 pub fn expand_parent(
     parent: Parent,
     m: usize,
@@ -130,6 +131,7 @@ pub fn append_child(
 }
 
 // Level 1: all children of the start, by index.
+#[tactic(auto, using(crate::proofs::ExpandLaws::append_none, crate::proofs::LevelLaws::level_empty))]
 pub fn first_level(start: Parent, m: usize, objectives: &mut [i64], signs: &mut [u64]) -> usize
     requires { Appends start.changes.now m (parent_choice start) (length objectives.old) (length signs.old) }
     ensures { let p = start.entry in Appended [] (listed_children p.changes.now m (parent_choice p))

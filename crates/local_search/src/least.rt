@@ -20,6 +20,7 @@ pub fn keep_better<T: Copy>(least: i64, kept: &mut [T], objective: i64, row: &[T
 }
 
 // The first of least objective among the choice kept so far and the level's.
+#[tactic(auto, using(crate::proofs::ExpandLaws::least_none))]
 pub fn keep_least(
     objectives: &[i64],
     signs: &[u64],

@@ -1,32 +1,27 @@
 -- The multipliers row by row: a row of the product is that row of the table times the factor. Assumes nothing.
 --     product_row_lem      row i of the product
 --     by_row           the multipliers of the product, each from its row alone
-use Prim.Native.Nat.{ℕ, zero, suc, ◌+◌, ◌*◌, ◌<◌, ◌≤◌}
+use Prim.Native.Nat.{ℕ, zero, suc, ◌*◌, ◌<◌}
 use mathlib.Core.Path.{◌≡◌, sym, ap, ◌∙◌}
 use mathlib.Core.List.{List, ◌++◌}
 use native.Mathlib.Nat.{not-suc-le-zero}
 use native.Mathlib.Decide.{ℕ_discrete}
 use native.Mathlib.Omega.{arith}
 use lib.Ieee.{Float}
-use lib.ListN.{length, take, drop, length-drop}
-use lib.Seq.{take_all, take-append-le, drop-append-le, drop-append_seam}
+use lib.ListN.{length, take, drop}
+use lib.Seq.{take_all, drop-append_seam}
 use Rattle.laws.specs.Rows.{row_of}
 use Rattle.laws.specs.Lists.{tabulate}
 use Rattle.laws.proofs.Made.{tabulate_ext}
-use Rattle.laws.proofs.Parts.{row_within}
+use Rattle.laws.proofs.Parts.{row_within, row_front}
 use Rattle.factor.specs.Norms.{dot_of}
 use Rattle.factor.specs.Multiply.{product_at, product_of}
 use Rattle.factor.proofs.Shaping.{length_product_row, length_product_of}
 use Rattle.maxcut_oracle.specs.Objective.{row_dot, multipliers}
 
--- the last of rows, and one before it
+-- the last of rows
 last_row : (rank m : ℕ) (xs ys : List Float) → length xs ≡ m * rank → length ys ≡ rank → row_of rank (xs ++ ys) m ≡ ys
 last_row rank m xs ys l k = ap (λ (n : ℕ). take rank (drop n (xs ++ ys))) (sym l) ∙ ap (take rank) (drop-append_seam xs ys) ∙ take_all rank ys (omega arith)
-
-row_before : (rank i : ℕ) (xs ys : List Float) → i * rank + rank ≤ length xs → row_of rank (xs ++ ys) i ≡ row_of rank xs i
-row_before rank i xs ys h =
-    ap (take rank) (drop-append-le (i * rank) xs ys (omega arith))
-    ∙ take-append-le rank (drop (i * rank) xs) ys (rw (length-drop (i * rank) xs) (omega arith))
 
 module _ (cols : List ℕ) (values : List Float) (starts : List ℕ) (factor : List Float) (rank : ℕ) where
   next_row : (m i : ℕ) → i < suc m → Dec (i ≡ m) → (i < m → row_of rank (product_of cols values starts factor rank m) i ≡ product_at cols values starts factor rank i)
@@ -36,7 +31,7 @@ module _ (cols : List ℕ) (values : List Float) (starts : List ℕ) (factor : L
       rw e (last_row rank m (product_of cols values starts factor rank m) (product_at cols values starts factor rank m) (length_product_of cols values starts factor rank m) (length_product_row _ _ factor rank))
   next_row m i h (no n) before =
       let below : i < m = omega arith in
-      row_before rank i (product_of cols values starts factor rank m) _ (rw (length_product_of cols values starts factor rank m) (row_within i m rank below)) ∙ before below
+      row_front rank (product_of cols values starts factor rank m) _ i (rw (length_product_of cols values starts factor rank m) (row_within i m rank below)) ∙ before below
 
   pub product_row_lem : (m i : ℕ) → i < m → row_of rank (product_of cols values starts factor rank m) i ≡ product_at cols values starts factor rank i
   product_row_lem zero i h = absurd (not-suc-le-zero h)

@@ -10,7 +10,7 @@ use native.Mathlib.Omega.{arith}
 use lib.ListN.{length}
 use lib.IntN.{ℤ, pos, ◌+ℤ◌, ◌*ℤ◌, +ℤ_idr, *ℤ-zero}
 use Rattle.laws.specs.Lists.{elem, tabulate, kept, only_if}
-use Rattle.laws.proofs.Made.{length_tabulate, get_d_tabulate, tabulate_ext, tabulate_get_d}
+use Rattle.laws.proofs.Made.{length_tabulate, get_d_tabulate, tabulate_ext, tabulate_get_d, tabulate_whole}
 use Rattle.laws.proofs.Sums.{sum_ext, sum_zero, sum₂_ext, sum₂_zero}
 use Rattle.tables.specs.Table.{Table, InRange, Rising, value_at}
 use Rattle.tables.specs.Stored.{rows_of, cols_of, values_of}
@@ -89,4 +89,4 @@ module _ (n : ℕ) (states : List ℕ) (free : (i : ℕ) → i < n → is_free s
   lifted_all b long size =
       tabulate_get_d (lifted n states b) n 0 (elem b) (length_lifted n states b long) (λ i l.
       ap (elem (lifted n states b)) (sym (same_all i l)) ∙ lifted_free n states b long i (omega (arith, many_all)))
-      ∙ sym (tabulate_get_d b n 0 (elem b) size (λ i l. refl))
+      ∙ tabulate_whole b n 0 size

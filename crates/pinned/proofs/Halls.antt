@@ -22,6 +22,7 @@ use Rattle.tables.proofs.Weights.{kept_le, spread, value_le}
 use Rattle.tables.proofs.Mirrors.{stored_true, stored_here, hall_symmetric}
 use Rattle.reduced.specs.Submatrix.{kept_in, value_in, reduced_places}
 use Rattle.reduced.specs.Scatter.{Reducible}
+use Rattle.reduced.proofs.Distinct.{range_up}
 use Rattle.reduced.proofs.Entries.{reduced_few}
 use Rattle.pinned.specs.Pinned.{is_free, free_of, held_byte, held_at, free_table, beside_held, free_cost, held_cost}
 use Rattle.pinned.proofs.Free.{free_map, free_few, free_once, total_free}
@@ -88,22 +89,18 @@ module _ (n : ℕ) (states : List ℕ) where
     hd_add true u v = refl
     hd_add false u v = refl
 
-    rows_free : total n (λ i. fr i (total n (a i))) ≡ free_free + free_held
-    unfolding free_free free_held
-    rows_free =
-        total_ext n _ (λ i. fr i (total n (λ j. fr j (a i j))) + fr i (total n (λ j. hd j (a i j)))) (λ i h.
-        ap (λ v. fr i v) (total_parted (a i)) ∙ fr_add (is_free states i) (total n (λ j. fr j (a i j))) (total n (λ j. hd j (a i j))))
-        ∙ total_add n (λ i. fr i (total n (λ j. fr j (a i j)))) (λ i. fr i (total n (λ j. hd j (a i j))))
-
-    rows_held : total n (λ i. hd i (total n (a i))) ≡ held_free + held_held
-    unfolding held_free held_held
-    rows_held =
-        total_ext n _ (λ i. hd i (total n (λ j. fr j (a i j))) + hd i (total n (λ j. hd j (a i j)))) (λ i h.
-        ap (λ v. hd i v) (total_parted (a i)) ∙ hd_add (is_free states i) (total n (λ j. fr j (a i j))) (total n (λ j. hd j (a i j))))
-        ∙ total_add n (λ i. hd i (total n (λ j. fr j (a i j)))) (λ i. hd i (total n (λ j. hd j (a i j))))
+    -- free rows, or held ones
+    rows_parted : (part : ℕ → ℕ → ℕ) → ((i u v : ℕ) → part i (u + v) ≡ part i u + part i v)
+        → total n (λ i. part i (total n (a i))) ≡ total n (λ i. part i (total n (λ j. fr j (a i j)))) + total n (λ i. part i (total n (λ j. hd j (a i j))))
+    rows_parted part add =
+        total_ext n _ _ (λ i h. ap (part i) (total_parted (a i)) ∙ add i (total n (λ j. fr j (a i j))) (total n (λ j. hd j (a i j))))
+        ∙ total_add n (λ i. part i (total n (λ j. fr j (a i j)))) (λ i. part i (total n (λ j. hd j (a i j))))
 
     four : total n (λ i. total n (a i)) ≡ free_free + free_held + (held_free + held_held)
-    four = total_parted (λ i. total n (a i)) ∙ ap₂ ◌+◌ rows_free rows_held
+    unfolding free_free free_held held_free held_held
+    four =
+        total_parted (λ i. total n (a i))
+        ∙ ap₂ ◌+◌ (rows_parted fr (λ i. fr_add (is_free states i))) (rows_parted hd (λ i. hd_add (is_free states i)))
 
     swapped : (s t : Bool) (v : ℕ) → cond s (cond t 0 v) 0 ≡ cond t 0 (cond s v 0)
     swapped true t v = refl
@@ -162,10 +159,6 @@ module _ (n : ℕ) (h : Table) (c : ℕ → ℤ) (states : List ℕ) where
         total_mono n _ (λ j. hd n states j (size i j)) (λ j b. held_le j (value_at h i j)),
       )
 
-  fr_split : (t : Bool) (u v : ℕ) → cond t (u + v) 0 ≡ cond t u 0 + cond t v 0
-  fr_split true u v = refl
-  fr_split false u v = refl
-
   costs_le : total (length map) (λ k. nat_abs (free_cost n h c states k)) ≤ total n (λ i. fr n states i (nat_abs (c i))) + free_held n states size
   unfolding free_held
   costs_le =
@@ -174,7 +167,7 @@ module _ (n : ℕ) (h : Table) (c : ℕ → ℤ) (states : List ℕ) where
         total_mono (length map) (λ k. nat_abs (free_cost n h c states k)) (λ k. nat_abs (c (elem map k)) + total n (λ j. hd n states j (size (elem map k) j))) (λ k a. rw (free_cost_lem n h c states k a) (beside_le (elem map k))),
         total_free n states (λ i. nat_abs (c i) + total n (λ j. hd n states j (size i j))),
         total_ext n (λ i. fr n states i (nat_abs (c i) + total n (λ j. hd n states j (size i j)))) (λ i. fr n states i (nat_abs (c i)) + fr n states i (total n (λ j. hd n states j (size i j)))) (λ i b.
-            fr_split (is_free states i) (nat_abs (c i)) (total n (λ j. hd n states j (size i j)))),
+            fr_add n states size (is_free states i) (nat_abs (c i)) (total n (λ j. hd n states j (size i j)))),
         total_add n (λ i. fr n states i (nat_abs (c i))) (λ i. fr n states i (total n (λ j. hd n states j (size i j)))),
       )
 
@@ -238,7 +231,7 @@ module _ {most capacity limit n : ℕ} {h : Table} {c : ℕ → ℤ} (ok : Hall 
   free_reducible small few =
       record {
         entries = few;
-        in_range = record { rows_in = λ k b. omega (arith, ok.in_range.rows_in k b); cols_in = λ k b. omega (arith, ok.in_range.cols_in k b) };
+        in_range = range_up small ok.in_range;
         rising = ok.rising;
         map_within = record { below = λ k b. omega (arith, (free_map n states).below k b) };
         map_once = free_once n states;

@@ -2,7 +2,7 @@
 -- Assumes nothing.
 use mathlib.Core.Path.{◌≡◌, refl, sym, ◌∙◌, ap}
 use mathlib.Core.Bool.{Bool, true, false}
-use mathlib.Core.List.{List, ◌++◌}
+use mathlib.Core.List.{List}
 use Prim.Native.Nat.{ℕ, ◌<◌, ◌≤◌}
 use native.Mathlib.Omega.{arith}
 use borrow.Author.Tests.{ltb-false}
@@ -10,7 +10,7 @@ use lib.ListN.{length, take, drop}
 use lib.Seq.{get_or-take, length-take-le}
 use lib.IntN.{ℤ}
 use Rattle.laws.specs.Lists.{elem, tabulate, over}
-use Rattle.laws.proofs.Made.{get_d_tabulate, tabulate_get_d}
+use Rattle.laws.proofs.Made.{get_d_tabulate, tabulate_take}
 use Rattle.tables.specs.Table.{Table, value_at}
 use Rattle.tables.specs.Cost.{bit, choice_at, cost_eighths}
 use Rattle.tables.proofs.Choices.{cost_ext}
@@ -84,16 +84,10 @@ keeping_cost n h c states b long keeps = cost_ext n (value_at h) c (keeping_lift
 pub free_in_lem : (n m : ℕ) (states : List ℕ) {free : List ℕ} → free ≡ free_of n states → n ≤ m → Within m free
 free_in_lem n m states e h = rw e (record { below = λ k l. omega (arith, (free_map n states).below k l) })
 
-taken : (n : ℕ) (xs : List ℕ) → n ≤ length xs → tabulate (elem xs) n ≡ take n xs
-taken n xs long = sym (tabulate_get_d (take n xs) n 0 (elem xs) (length-take-le n xs long) (λ j h. get_or-take n xs j 0 h))
-
-pub copied : (n : ℕ) (xs ys : List ℕ) {front : List ℕ} → n ≤ length xs → front ≡ take n xs → front ++ drop n ys ≡ over (tabulate (elem xs) n) ys
-copied n xs ys long e = rw (e, taken n xs long, length-take-le n xs long)
-
 pub lift_made : (n : ℕ) (states b choice : List ℕ) {free mid out : List ℕ} → n ≤ length states → free ≡ free_of n states → mid ≡ over (tabulate (elem states) n) choice
     → out ≡ put_each (elem free) (elem b) (length free) mid → out ≡ over (lifted n states b) choice
 unfolding lifted
 lift_made n states b choice long f e g =
     let short : length (take n states) ≡ n = length-take-le n states long in
-    rw (g, f, e, taken n states long, length_put (elem (free_of n states)) (elem b) (length (free_of n states)) (take n states))
+    rw (g, f, e, tabulate_take states n 0 long, length_put (elem (free_of n states)) (elem b) (length (free_of n states)) (take n states))
     (put_front (elem (free_of n states)) (elem b) (length (free_of n states)) (take n states) (drop (length (take n states)) choice) (λ j h. omega (arith, (free_map n states).below j h)))

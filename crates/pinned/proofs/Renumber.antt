@@ -15,8 +15,9 @@ use lib.ListN.{length, get_or, length-append, length-map, get_or-append}
 use lib.Seq.{get_or-append_seam}
 use lib.Dec.{ltb}
 use lib.IntN.{pos}
+use Rattle.std.proofs.lemmas.Bool.{cases_lt}
 use Rattle.laws.specs.Lists.{elem, kept, only_if}
-use Rattle.laws.proofs.Made.{below_or_not, tabulate_get_d, kept_lengths}
+use Rattle.laws.proofs.Made.{tabulate_get_d, kept_lengths}
 use Rattle.tables.specs.Table.{Table, Before, InRange, Rising, value_at}
 use Rattle.tables.specs.Stored.{places, rows_of, cols_of, values_of, stored_table}
 use Rattle.tables.specs.Check.{place_key, Placed}
@@ -33,14 +34,14 @@ use Rattle.pinned.proofs.Free.{Picked, picked, free_map, free_few, free_once, ke
 module _ (f g : ℕ → ℕ) (p q : ℕ) (up-f : (k l : ℕ) → k < l → l < p → f k < f l) (up-g : (k l : ℕ) → k < l → l < q → g k < g l)
     (into : (k : ℕ) → k < p → (l : ℕ) × (l < q) × (g l ≡ f k)) where
   steady : (k l : ℕ) → k ≤ l → l < q → g k ≤ g l
-  steady k l h b = go (below_or_not k l)
+  steady k l h b = go (cases_lt k l)
     where
       go : (k < l) ⊎ (l ≤ k) → g k ≤ g l
       go (inl m) = omega (arith, up-g k l m b)
       go (inr m) = let e : k ≡ l = omega arith in omega (arith, ap g e)
 
   apart : (k : ℕ) (a : k < p) (b : suc k < p) → (into k a).0 < (into (suc k) b).0
-  apart k a b = go (below_or_not (into k a).0 (into (suc k) b).0)
+  apart k a b = go (cases_lt (into k a).0 (into (suc k) b).0)
     where
       go : ((into k a).0 < (into (suc k) b).0) ⊎ ((into (suc k) b).0 ≤ (into k a).0) → (into k a).0 < (into (suc k) b).0
       go (inl m) = m
@@ -114,7 +115,7 @@ module _ (n : ℕ) (states : List ℕ) where
       (free_once n states).same (place_of states (elem (free_of n states) k)) k a h b
 
   place_up : (i j : ℕ) → i < j → j < n → is_free states i ≡ true → is_free states j ≡ true → place_of states i < place_of states j
-  place_up i j l b f g = go (below_or_not (place_of states i) (place_of states j)) (ℕ_discrete (place_of states j) (place_of states i))
+  place_up i j l b f g = go (cases_lt (place_of states i) (place_of states j)) (ℕ_discrete (place_of states j) (place_of states i))
     where
       go : (place_of states i < place_of states j) ⊎ (place_of states j ≤ place_of states i) → Dec (place_of states j ≡ place_of states i) → place_of states i < place_of states j
       go (inl m) d = m

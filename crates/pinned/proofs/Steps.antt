@@ -10,23 +10,24 @@ use native.Mathlib.Omega.{arith}
 use mir.Syntax.{w64}
 use mir.Val.{SFits, to_z, of_z}
 use mir.Facts.{to_z-of_z}
-use lib.ListN.{length, set, take, drop, replicate, length-replicate, length-map, length-set}
-use lib.Seq.{sets, sets-eq, take_at, get_or-set_same, get_or-set_other}
+use lib.ListN.{length, set, take, replicate, length-replicate, length-map, length-set}
+use lib.Seq.{take_at, get_or-set_same, get_or-set_other}
 use lib.Dec.{eqb}
 use lib.IntN.{ℤ, pos, nat_abs, ◌+ℤ◌, ◌*ℤ◌, *ℤ-zero, +ℤ_idr}
 use Rattle.laws.specs.Sum.{sum, sum₂, only}
-use Rattle.laws.specs.Lists.{elem, elem_z, kept, over, fill, tabulate, put_if, next_if}
+use Rattle.laws.specs.Lists.{elem, elem_z, over, fill, tabulate, put_if, next_if}
 use Rattle.std.proofs.lemmas.Int.{unsigned_abs-mul, fits_signed_from_abs}
 use Rattle.laws.proofs.Integer.{parts, differences, ring, abs_add, times_one, mul_left_comm}
 use Rattle.laws.proofs.Sums.{Held, sum_more, sum_ext, sum_add, sum_scale, sum₂_ext, sum_bounded, total_at, only_yes, only_no}
 use Rattle.laws.proofs.Made.{kept_next, kept_count, length_tabulate, get_d_tabulate, tabulate_ext, tabulate_next, tabulate_get_d, tabulate_replicate}
 use Rattle.laws.proofs.MapFirst.{get_d_map_first}
+use Rattle.laws.proofs.Parts.{take_sets}
 use Rattle.tables.specs.Table.{Table, table_of, InRange, Symmetric, magnitude_of, value_at}
 use Rattle.tables.specs.Stored.{rows_of, cols_of, values_of, Wrote, Room}
 use Rattle.tables.specs.Cost.{bit, choice_at, cost_eighths}
 use Rattle.tables.specs.Check.{Hall, hall_magnitude}
 use Rattle.tables.proofs.Places.{over_places}
-use Rattle.tables.proofs.Flips.{one_row}
+use Rattle.tables.proofs.Flips.{one_row, only_right}
 use Rattle.tables.proofs.Choices.{cost_ext, four_fits, eight_fits}
 use Rattle.tables.proofs.Choices as Choices
 use Rattle.tables.proofs.Mirrors.{hall_symmetric}
@@ -37,14 +38,6 @@ use Rattle.pinned.proofs.Free.{free_few, free_map}
 use Rattle.pinned.proofs.Halls.{reduce_magnitude}
 
 -- ---- the free wagons
-
-pub free_none : (states xs : List ℕ) → xs ≡ over (free_of 0 states) xs
-unfolding free_of kept
-free_none states xs = refl
-
-pub free_zero : (states : List ℕ) → 0 ≡ length (free_of 0 states)
-unfolding free_of kept
-free_zero states = refl
 
 pub free_put : (states : List ℕ) (i at : ℕ) (xs ys : List ℕ) {ys' : List ℕ} → at ≡ length (free_of i states) → i < length xs → ys ≡ over (free_of i states) xs
     → ys' ≡ put_if (is_free states i) at i ys → ys' ≡ over (free_of (i + 1) states) xs
@@ -128,18 +121,11 @@ module _ (h : Table) (b : List ℕ) where
             ∙ sym (sum_more l (beside_term h (choice_at b) j) ∙ ap (λ z. sum l (beside_term h (choice_at b) j) +ℤ z) (only_no j (h.row l) (term l) e) ∙ +ℤ_idr _)
 
 -- over the square
-only_right : (i a : ℕ) (q w : ℤ) → only i a (q *ℤ w) ≡ q *ℤ only i a w
-only_right i a q w = go (eqb i a)
-  where
-    go : (s : Bool) → cond s (q *ℤ w) (pos 0) ≡ q *ℤ cond s w (pos 0)
-    go true = refl
-    go false = sym (*ℤ-zero q)
-
 beside_dense : {n : ℕ} {h : Table} → InRange n h → (y : ℕ → ℤ) (i : ℕ) → i < n → sum h.count (beside_term h y i) ≡ sum n (λ j. value_at h i j *ℤ y j)
 beside_dense {n} {h} r y i l =
-    sum_ext h.count _ _ (λ k b. only_right i (h.row k) (h.value k) (y (h.column k)))
+    sum_ext h.count _ _ (λ k b. sym (only_right i (h.row k) (h.value k) (y (h.column k))))
     ∙ over_places r (λ a j. only i a (y j))
-    ∙ sum₂_ext n _ _ (λ a j b d. sym (only_right i a (value_at h a j) (y j)))
+    ∙ sum₂_ext n _ _ (λ a j b d. only_right i a (value_at h a j) (y j))
     ∙ one_row n i (λ a j. value_at h a j *ℤ y j) l
 
 -- the code reads the table by columns: the table is its own mirror image
@@ -263,9 +249,6 @@ module _ {n : ℕ} {h : Table} {c : ℕ → ℤ} (ok : Hall most_wagons most_ent
 
 -- ---- what the parts of the code ask
 
-pub wider : {n : ℕ} {h : Table} (m : ℕ) → InRange n h → n ≤ m → InRange m h
-wider m r l = record { rows_in = λ k b. omega (arith, r.rows_in k b); cols_in = λ k b. omega (arith, r.cols_in k b) }
-
 module _ (n : ℕ) (states : List ℕ) {free : List ℕ} (is : free ≡ free_of n states) where
   pub free_low : (k : ℕ) → k < length free → elem free k < n
   free_low = rw is (free_map n states).below
@@ -284,9 +267,6 @@ constant_held {n = n} {h = h} {c = c} ok small states {constant} e =
 
 -- ---- the fronts of the slices are the reduced (H, c)
 
-front : {A : Type 0} (xs l : List A) → length xs ≤ length l → take (length xs) (sets l 0 xs) ≡ xs
-front xs l h = rw (sets-eq xs l 0 (omega arith)) (take_at xs (drop (0 + length xs) l) (length xs) refl)
-
 module _ {n : ℕ} {h : Table} {c : ℕ → ℤ} {states : List ℕ} {rows cols : List ℕ} {values costs : List ℤ} {rows' cols' : List ℕ} {values' costs' : List ℤ} {count : ℕ} {constant : ℤ}
     (made : Shrinks n h c states rows cols values costs rows' cols' values' costs' count constant) where
   abbrev ps : List (ℕ × ℕ)
@@ -298,15 +278,15 @@ module _ {n : ℕ} {h : Table} {c : ℕ → ℤ} {states : List ℕ} {rows cols 
 
   module _ (room : Room 0 count rows cols values) where
     pub rows_front : take count rows' ≡ rows_of ps
-    rows_front = rw (made.entries.rows_are, made.many ∙ sym (length-map ps (λ p. p.0))) (front (rows_of ps) rows (omega (arith, made.many, length-map ps (λ p. p.0), room.rows_room)))
+    rows_front = rw made.entries.rows_are (take_sets (rows_of ps) rows count (made.many ∙ sym (length-map ps (λ p. p.0))) (omega (arith, room.rows_room)))
 
     pub cols_front : take count cols' ≡ cols_of ps
-    cols_front = rw (made.entries.cols_are, made.many ∙ sym (length-map ps (λ p. p.1))) (front (cols_of ps) cols (omega (arith, made.many, length-map ps (λ p. p.1), room.cols_room)))
+    cols_front = rw made.entries.cols_are (take_sets (cols_of ps) cols count (made.many ∙ sym (length-map ps (λ p. p.1))) (omega (arith, room.cols_room)))
 
     pub values_front : take count values' ≡ values_of (value_in h (free_of n states)) ps
     values_front =
-        rw (made.entries.values_are, made.many ∙ sym (length-map ps (λ p. value_in h (free_of n states) p.0 p.1)))
-        (front (values_of (value_in h (free_of n states)) ps) values (omega (arith, made.many, length-map ps (λ p. value_in h (free_of n states) p.0 p.1), room.values_room)))
+        rw made.entries.values_are
+        (take_sets (values_of (value_in h (free_of n states)) ps) values count (made.many ∙ sym (length-map ps (λ p. value_in h (free_of n states) p.0 p.1))) (omega (arith, room.values_room)))
 
     -- the theorem: the table in the fronts is the one of the free wagons
     pub table_front : table_of count (take count rows') (take count cols') (take count values') ≡ free_table n h states

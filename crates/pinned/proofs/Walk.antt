@@ -6,16 +6,17 @@ use mathlib.Core.Bool.{Bool, true, false, cond}
 use mathlib.Core.List.{List, ◌++◌, append-nil}
 use Prim.Native.Nat.{ℕ, zero, suc, ◌+◌, ◌<◌, ◌≤◌}
 use native.Mathlib.Omega.{arith}
-use native.Mathlib.Nat.{zero-add}
 use native.Mathlib.Numerals.{add-one}
 use borrow.Author.Tests.{lt-ltb, le-ltb}
-use lib.ListN.{length, drop, set, replicate, length-replicate}
-use lib.Seq.{sets, sets-eq, set-set}
+use lib.ListN.{length, set, replicate, length-replicate}
+use lib.Seq.{sets, set-set}
 use lib.Dec.{ltb}
 use lib.IntN.{ℤ, pos}
+use Rattle.std.proofs.lemmas.Bool.{cases_lt}
 use Rattle.laws.specs.Lists.{elem, kept, over, fill, only_if, put_if, next_if}
-use Rattle.laws.proofs.Made.{below_or_not, length_kept, kept_lengths, kept_next, kept_count}
+use Rattle.laws.proofs.Made.{length_kept, kept_lengths, kept_next, kept_count}
 use Rattle.laws.proofs.MapFirst.{get_d_map_first}
+use Rattle.laws.proofs.Parts.{over_sets}
 use Rattle.tables.specs.Table.{Table}
 use Rattle.tables.specs.Stored.{Wrote, Room}
 use Rattle.tables.specs.Check.{Hall}
@@ -83,7 +84,7 @@ module _ {A : Type 0} (keep : ℕ → Bool) (f : ℕ → A) where
   kept_stop : (count end : ℕ) → end ≤ count → ((l : ℕ) → end ≤ l → l < count → keep l ≡ false) → kept keep f count ≡ kept keep f end
   unfolding kept
   kept_stop zero end up none = let e : end ≡ 0 = omega arith in rw e
-  kept_stop (suc count) end up none = go (below_or_not count end) (λ h. kept_stop count end h (λ l a b. none l a (omega arith)))
+  kept_stop (suc count) end up none = go (cases_lt count end) (λ h. kept_stop count end h (λ l a b. none l a (omega arith)))
     where
       less : (xs : List A) (t : Bool) → t ≡ false → xs ++ only_if t (f count) ≡ xs
       less xs t e = rw e (append-nil xs)
@@ -108,9 +109,6 @@ pub record Walking (places : List ℕ) (h : Table) (l at : ℕ) (rows cols : Lis
   pub rows_so : Walked (free_entry places h.row h.column) (λ k. elem places (h.row k)) l at rows rows'
   pub cols_so : Walked (free_entry places h.row h.column) (λ k. elem places (h.column k)) l at cols cols'
   pub values_so : Walked (free_entry places h.row h.column) h.value l at values values'
-  pub rows_same : length rows' ≡ length rows
-  pub cols_same : length cols' ≡ length cols
-  pub values_same : length values' ≡ length values
 
 module _ (places : List ℕ) (h : Table) where
   abbrev keep : ℕ → Bool
@@ -124,28 +122,24 @@ module _ (places : List ℕ) (h : Table) where
         rows_so = walked_none keep (λ k. elem places (h.row k)) rows;
         cols_so = walked_none keep (λ k. elem places (h.column k)) cols;
         values_so = walked_none keep h.value values;
-        rows_same = refl;
-        cols_same = refl;
-        values_same = refl;
       }
 
   module _ {l at : ℕ} {rows cols : List ℕ} {values : List ℤ} {rows' cols' : List ℕ} {values' : List ℤ} (w : Walking places h l at rows cols values rows' cols' values') where
     pub walk_few : at ≤ l
     walk_few = omega (arith, w.many, length_kept keep h.value l)
 
-    pub walk_room : l < h.count → Room 0 h.count rows cols values → Room at 1 rows' cols' values'
-    walk_room b room =
+    pub walk_room : l < h.count → Room 0 h.count rows cols values → length rows' ≡ length rows → length cols' ≡ length cols → length values' ≡ length values → Room at 1 rows' cols' values'
+    walk_room b room x y z =
         record {
-          rows_room = omega (arith, walk_few, room.rows_room, w.rows_same);
-          cols_room = omega (arith, walk_few, room.cols_room, w.cols_same);
-          values_room = omega (arith, walk_few, room.values_room, w.values_same);
+          rows_room = omega (arith, walk_few, room.rows_room);
+          cols_room = omega (arith, walk_few, room.cols_room);
+          values_room = omega (arith, walk_few, room.values_room);
         }
 
     pub walk_turn : {at' : ℕ} {rows'' cols'' : List ℕ} {values'' : List ℤ} → l < h.count → Room 0 h.count rows cols values
         → Put (keep l) at (elem places (h.row l)) rows' rows'' → Put (keep l) at (elem places (h.column l)) cols' cols'' → Put (keep l) at (h.value l) values' values''
-        → at' ≡ next_if (keep l) at → length rows'' ≡ length rows' → length cols'' ≡ length cols' → length values'' ≡ length values'
-        → Walking places h (l + 1) at' rows cols values rows'' cols'' values''
-    walk_turn b room p q s e x y z =
+        → at' ≡ next_if (keep l) at → Walking places h (l + 1) at' rows cols values rows'' cols'' values''
+    walk_turn b room p q s e =
         rw e
         (record {
           many = kept_count keep h.value l at w.many;
@@ -154,9 +148,6 @@ module _ (places : List ℕ) (h : Table) where
           cols_so =
               walked_next keep (λ k. elem places (h.column k)) 0 (w.many ∙ kept_lengths keep h.value (λ k. elem places (h.column k)) l) (omega (arith, walk_few, room.cols_room)) w.cols_so q;
           values_so = walked_next keep h.value (pos 0) w.many (omega (arith, walk_few, room.values_room)) w.values_so s;
-          rows_same = x ∙ w.rows_same;
-          cols_same = y ∙ w.cols_same;
-          values_same = z ∙ w.values_same;
         })
 
     pub walk_done : LastFree keep h.count l → Renumbered places h rows cols values rows' cols' values' at
@@ -169,9 +160,6 @@ module _ (places : List ℕ) (h : Table) where
         }
 
 -- ---- the whole
-
-over_sets : {A : Type 0} (xs l : List A) → length xs ≤ length l → over xs l ≡ sets l 0 xs
-over_sets xs l h = sym (sets-eq xs l 0 (omega arith) ∙ ap (λ k. xs ++ drop k l) (zero-add (length xs)))
 
 module _ {limit n : ℕ} {h : Table} {c : ℕ → ℤ} (ok : Hall most_wagons most_entries limit n h c) (states : List ℕ) {places free : List ℕ}
     (is : places ≡ fill (place_of states) n (replicate most_wagons most_wagons)) (map : free ≡ free_of n states) where
@@ -192,17 +180,16 @@ module _ {limit n : ℕ} {h : Table} {c : ℕ → ℤ} (ok : Hall most_wagons mo
   small : n ≤ 65536
   small = omega (arith, ok.wagons)
 
-  rows_listed : kept (free_entry places h.row h.column) (λ l. elem places (h.row l)) h.count ≡ kept (among_free h states) (λ l. place_of states (h.row l)) h.count
-  rows_listed = listing (λ l. elem places (h.row l)) (λ l. place_of states (h.row l)) (λ l b. place_at (h.row l) (ok.in_range.rows_in l b))
-
-  cols_listed : kept (free_entry places h.row h.column) (λ l. elem places (h.column l)) h.count ≡ kept (among_free h states) (λ l. place_of states (h.column l)) h.count
-  cols_listed = listing (λ l. elem places (h.column l)) (λ l. place_of states (h.column l)) (λ l b. place_at (h.column l) (ok.in_range.cols_in l b))
+  -- the places of the rows' wagons, or the columns'
+  places_listed : (index : ℕ → ℕ) → ((l : ℕ) → l < h.count → index l < n)
+      → kept (free_entry places h.row h.column) (λ l. elem places (index l)) h.count ≡ kept (among_free h states) (λ l. place_of states (index l)) h.count
+  places_listed index low = listing (λ l. elem places (index l)) (λ l. place_of states (index l)) (λ l b. place_at (index l) (low l b))
 
   values_listed : kept (free_entry places h.row h.column) h.value h.count ≡ kept (among_free h states) h.value h.count
   values_listed = listing h.value h.value (λ l b. refl)
 
   front : {A : Type 0} (f : ℕ → A) {xs : List A} (l : List A) → xs ≡ kept (among_free h states) f h.count → h.count ≤ length l → over (kept (among_free h states) f h.count) l ≡ sets l 0 xs
-  front f l e room = rw e (over_sets (kept (among_free h states) f h.count) l (omega (arith, length_kept (among_free h states) f h.count)))
+  front f l e room = rw (e, over_sets (kept (among_free h states) f h.count) l (omega (arith, length_kept (among_free h states) f h.count)))
 
   -- the theorem
   module _ {rows cols : List ℕ} {values : List ℤ} {rows' cols' : List ℕ} {values' : List ℤ} {count : ℕ} (room : Room 0 h.count rows cols values)
@@ -211,8 +198,8 @@ module _ {limit n : ℕ} {h : Table} {c : ℕ → ℤ} (ok : Hall most_wagons mo
     entries_wrote =
         rw map
         (record {
-          rows_are = made.rows_are ∙ ap (λ (zs : List ℕ). over zs rows) rows_listed ∙ front (λ l. place_of states (h.row l)) rows (rows_free small ok.in_range ok.rising states) (omega (arith, room.rows_room));
-          cols_are = made.cols_are ∙ ap (λ (zs : List ℕ). over zs cols) cols_listed ∙ front (λ l. place_of states (h.column l)) cols (cols_free small ok.in_range ok.rising states) (omega (arith, room.cols_room));
+          rows_are = made.rows_are ∙ ap (λ (zs : List ℕ). over zs rows) (places_listed h.row ok.in_range.rows_in) ∙ front (λ l. place_of states (h.row l)) rows (rows_free small ok.in_range ok.rising states) (omega (arith, room.rows_room));
+          cols_are = made.cols_are ∙ ap (λ (zs : List ℕ). over zs cols) (places_listed h.column ok.in_range.cols_in) ∙ front (λ l. place_of states (h.column l)) cols (cols_free small ok.in_range ok.rising states) (omega (arith, room.cols_room));
           values_are =
               made.values_are ∙ ap (λ (zs : List ℤ). over zs values) values_listed ∙ front h.value values (values_free small ok.in_range ok.rising states) (omega (arith, room.values_room));
         })

@@ -45,6 +45,7 @@ fn after(at: usize, place: u16) -> usize
 }
 
 // The place of each wagon.
+#[tactic(auto, unfolding(crate::specs::Pinned::free_of, laws::specs::Lists::kept, laws::specs::Rows::map_first))]
 pub fn free_places(n: usize, states: &[u8]) -> [u16; MOST_WAGONS]
     requires { (n ≤ most_wagons) × (n ≤ length states.now) }
     ensures { result ≡ fill (place_of states.now) n (replicate most_wagons most_wagons) }

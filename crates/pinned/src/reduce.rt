@@ -36,6 +36,7 @@ pub struct Shrunk {
 }
 
 // The free wagons, in rising order; how many they are. Narrowed by `as`: i is below n, and so below 65,536.
+#[tactic(auto, unfolding(crate::specs::Pinned::free_of, laws::specs::Lists::kept))]
 pub fn free_wagons(n: usize, states: &[u8], free: &mut [u16]) -> usize
     requires { (n ≤ most_wagons) × (n ≤ length states.now) × (n ≤ length free.old) }
     ensures { (free.new ≡ over (free_of n states.now) free.old) × (result ≡ length (free_of n states.now)) }
@@ -60,6 +61,7 @@ fn held_byte(states: &[u8], i: usize) -> u8
 }
 
 // The choice of the held wagons alone.
+#[tactic(auto, unfolding(laws::specs::Rows::map_first))]
 fn held_choice(n: usize, states: &[u8]) -> [u8; MOST_WAGONS]
     requires { (n ≤ most_wagons) × (n ≤ length states.now) }
     ensures { result ≡ fill (held_byte states.now) n (replicate most_wagons 0) }
@@ -102,6 +104,7 @@ fn beside_held(c: &[i64], sums: &[i64; MOST_WAGONS], i: usize) -> i64
 }
 
 // The linear costs of the free wagons.
+#[tactic(auto, unfolding(laws::specs::Lists::tabulate))]
 fn put_costs(c: &[i64], sums: &[i64; MOST_WAGONS], free: &[u16], to_c: &mut [i64])
     requires { ((k : ℕ) → k < length free.now → BesideFits c.now sums.now (elem free.now k)) × (length free.now ≤ length to_c.old) }
     ensures { to_c.new ≡ over (tabulate

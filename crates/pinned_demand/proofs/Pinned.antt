@@ -12,10 +12,10 @@ use borrow.Author.Tests.{ltb-true, ltb-false}
 use lib.IntN.{ℤ, ◌+ℤ◌, ◌-ℤ◌}
 use lib.Ieee.{Float}
 use lib.ListN.{length, take}
-use lib.Seq.{take_at, get_or-take}
+use lib.Seq.{get_or-take}
 use lib.Signed.{◌≤ℤ◌}
 use Rattle.laws.specs.Turns.{up_to}
-use Rattle.laws.specs.Lists.{elem, over}
+use Rattle.laws.specs.Lists.{elem}
 use Rattle.std.proofs.lemmas.Int.{ints}
 use Rattle.laws.proofs.Integer.{parts, differences, ring}
 use Rattle.tables.specs.Table.{Table, value_at}
@@ -30,7 +30,7 @@ use Rattle.finalize.specs.Clauses.{Finalizes}
 use Rattle.finalize.proofs.Demand3.{demand3}
 use Rattle.pinned.specs.Pinned.{is_free, free_of, free_table, free_cost, held_cost, lifted, free_part, Keeps}
 use Rattle.pinned.proofs.Free.{free_map, free_once}
-use Rattle.pinned.proofs.Lifting.{length_lifted, lifted_free, lifted_held, part_choice, keeping_cost}
+use Rattle.pinned.proofs.Lifting.{lifted_free, lifted_held, part_choice, keeping_cost}
 use Rattle.pinned.proofs.Costs.{reduce_cost}
 use Rattle.pinned.proofs.Halls.{reduce_hall}
 use Rattle.pinned_demand.specs.PinnedDemand3.{DifferInFree, free_count, PinnedDemand3}
@@ -61,10 +61,6 @@ pub lifted_same : (n : ℕ) (states b : List ℕ) → lifted n states b ≡ lift
 unfolding lifted
 lifted_same n states b =
     put_same (elem (free_of n states)) (elem b) (elem (take (free_count n states) b)) (free_count n states) (take n states) (λ j h. sym (get_or-take (free_count n states) b j 0 h))
-
--- the front of a slice over which a lifted choice was written
-pub lifted_front : (n : ℕ) (states b choice : List ℕ) {b' : List ℕ} → n ≤ length states → b' ≡ over (lifted n states b) choice → take n b' ≡ lifted n states b
-lifted_front n states b choice long e = rw e (take_at (lifted n states b) _ n (length_lifted n states b long))
 
 -- ---- the theorem
 

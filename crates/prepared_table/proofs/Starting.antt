@@ -17,7 +17,7 @@ use lib.Dec.{ltb}
 use mathlib.Core.Logic.{⊎_elim}
 use lib.ListN.{length, get_or, take, drop, length-drop}
 use lib.Seq.{get_or-take, get_or-drop, length-take-le}
-use Rattle.laws.proofs.Made.{below_or_not}
+use Rattle.std.proofs.lemmas.Bool.{cases_lt}
 use Rattle.prepared_table.specs.Work.{start_past, row_start}
 
 past_le : (b : Bool) (n : ℕ) → start_past b n ≤ suc n
@@ -103,5 +103,5 @@ pub row_entries : (rows : List ℕ) → ((a b : ℕ) → a ≤ b → b < length 
 row_entries rows rise i e h l k =
     let s : i ≤ get_or rows (row_start rows i) 0 =
     ⊎_elim (λ (n : get_or rows (row_start rows i) 0 < i). omega (arith, start_more rows i (row_start rows i) (omega arith) n (omega arith)))
-    (λ (n : i ≤ get_or rows (row_start rows i) 0). n) (below_or_not (get_or rows (row_start rows i) 0) i) in
+    (λ (n : i ≤ get_or rows (row_start rows i) 0). n) (cases_lt (get_or rows (row_start rows i) 0) i) in
     omega (arith, start_below rows (i + 1) e k, rise (row_start rows i) e l h)

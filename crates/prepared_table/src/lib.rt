@@ -39,6 +39,7 @@ fn stays(aside: bool, i: u16, j: u16) -> bool
 
 // What `of` makes of the entries that stay, and how many they are. `count` stays beside the slices: those of a table may go on behind it, and of slices that are cut
 // the definitions would speak through `take`.
+#[tactic(auto, unfolding(laws::specs::Lists::kept))]
 fn keep<T: Copy, F: Fn(usize) -> T>(
     count: usize,
     rows: &[u16],
@@ -62,6 +63,7 @@ fn keep<T: Copy, F: Fn(usize) -> T>(
 
 // The first entry whose row is at least i, looked for from `from` on. Tried as `map_or`: what it ensures is one clause by cases on what was found, and the answer
 // would take them apart; the `match` gives two goals.
+#[tactic(auto, using(crate::proofs::Starting::start_le))]
 fn next_start(rows: &[u16], from: usize, i: usize) -> usize
     requires { from ≤ row_start rows.now i }
     ensures { result ≡ row_start rows.now i }
@@ -73,6 +75,7 @@ fn next_start(rows: &[u16], from: usize, i: usize) -> usize
 }
 
 // Where each of m rows starts, and where the last ends.
+#[tactic(auto, unfolding(laws::specs::Lists::tabulate), using(crate::proofs::Starting::start_rise, laws::proofs::Made::tabulate_next))]
 fn set_starts(rows: &[u16], m: usize, starts: &mut [usize])
     requires { m < length starts.old }
     ensures { starts.new ≡ over (starts_of rows.now m) starts.old }
@@ -145,6 +148,7 @@ fn put_diagonal(diagonal: &mut [f64], i: u16, j: u16, value: i64)
 }
 
 // The diagonal, as long as `out`: 0.0 where no entry is stored.
+#[tactic(auto, unfolding(crate::specs::Work::diagonal_of, laws::specs::Turns::up_to))]
 fn set_diagonal(table: Entries, out: &mut [f64])
     requires in_range { InRange (length out.old) (listed table) }
     ensures { out.new ≡ diagonal_of (listed table.entry) (length out.old) }

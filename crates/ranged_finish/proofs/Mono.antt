@@ -14,14 +14,8 @@ use Rattle.laws.proofs.Sums.{sum_le}
 use Rattle.tables.specs.Table.{value_at}
 use Rattle.tables.specs.Cost.{cost_eighths, bit, choice_at}
 
-both_rise : (a b c d : ℤ) → a ≤ℤ b → c ≤ℤ d → (a +ℤ c) ≤ℤ (b +ℤ d)
+both_rise : (a b c d : ℤ) → a ≤ℤ b → c ≤ℤ d → (pos 4 *ℤ a +ℤ pos 8 *ℤ c) ≤ℤ (pos 4 *ℤ b +ℤ pos 8 *ℤ d)
 both_rise a b c d h k = omega (arith, ints)
-
-four_rise : (a b : ℤ) → a ≤ℤ b → (pos 4 *ℤ a) ≤ℤ (pos 4 *ℤ b)
-four_rise a b h = omega (arith, ints)
-
-eight_rise : (a b : ℤ) → a ≤ℤ b → (pos 8 *ℤ a) ≤ℤ (pos 8 *ℤ b)
-eight_rise a b h = omega (arith, ints)
 
 -- what a wagon takes part in, and what two do
 one_rises : (a b : ℤ) (x : ℕ) → a ≤ℤ b → (a *ℤ bit x) ≤ℤ (b *ℤ bit x)
@@ -39,8 +33,8 @@ pub cost_mono : (n : ℕ) (H H' : ℕ → ℕ → ℤ) (c c' : ℕ → ℤ) (b :
 unfolding cost_eighths sum₂
 cost_mono n H H' c c' b h l =
     both_rise _ _ _ _
-    (four_rise _ _ (sum_le n _ _ (λ i k. sum_le n _ _ (λ j m. two_rise (H i j) (H' i j) (elem b i) (elem b j) (h i j k m)))))
-    (eight_rise _ _ (sum_le n _ _ (λ i k. one_rises (c i) (c' i) (elem b i) (l i k))))
+    (sum_le n _ _ (λ i k. sum_le n _ _ (λ j m. two_rise (H i j) (H' i j) (elem b i) (elem b j) (h i j k m))))
+    (sum_le n _ _ (λ i k. one_rises (c i) (c' i) (elem b i) (l i k)))
 
 -- the value at a place rises with the entries
 placed_rise : (s t : Bool) (a b : ℤ) → a ≤ℤ b → cond s (cond t a (pos 0)) (pos 0) ≤ℤ cond s (cond t b (pos 0)) (pos 0)

@@ -18,6 +18,7 @@ use tables::judged::JudgedHall;
 use tables::objective::eval_qubo_objective;
 
 // The finish that no number refuses. The slices that are written are three `&mut`, for the reason at `finalize::finalize`.
+#[tactic(auto, using(crate::proofs::Theorems::ranged_finishable))]
 fn finish_ranged_accepted(
     run: Run,
     ranged: LentRanged,

@@ -33,6 +33,7 @@ fn ranged_short(ranged: LentRanged) -> bool
 }
 
 // What a ranged finish refuses.
+#[tactic(auto, using(crate::proofs::Deciding::short_ranged))]
 pub fn ranged_finish_number(
     run: Run,
     ranged: LentRanged,

@@ -71,7 +71,7 @@ fn ranges_unmirrored(ranged: LentRanged) -> bool
 }
 
 // What is refused of a ranged table.
-#[tactic(auto, unfolding(crate::specs::Numbers::ranged_number, laws::specs::Refusal::first, laws::specs::Refusal::or_else))]
+#[tactic(auto, unfolding(crate::specs::Numbers::ranged_number, laws::specs::Refusal::first, laws::specs::Refusal::or_else), using(tables::proofs::Checks::size_parts))]
 pub fn ranged_number(ranged: LentRanged) -> Result<(), Refusal>
     requires { (ranged.count ≤ most_entries → Lent ranged.count ranged.rows.now ranged.cols.now ranged.low.now × (ranged.count ≤ length ranged.high.now)) × (ranged.n ≤ most_wagons → (ranged.n ≤ length ranged.low_c.now) × (ranged.n ≤ length ranged.high_c.now)) }
     ensures { numbered result ≡ ranged_number (ranged_of ranged.entry) }

@@ -4,7 +4,7 @@
 --     stops       the record after the sweeps, or just opened where the most is 0, is stopped
 --     finishes    its finish
 use Prim.Native.Nat.{ℕ, zero, suc, ◌+◌, ◌*◌, ◌≤◌, ◌<◌}
-use mathlib.Core.Path.{◌≡◌, refl, sym, ap, ◌∙◌}
+use mathlib.Core.Path.{◌≡◌, refl, sym, ap, subst, ◌∙◌}
 use mathlib.Core.Bool.{true, false, cond}
 use mathlib.Core.List.{List}
 use native.Mathlib.Omega.{arith}
@@ -130,14 +130,6 @@ module _ (s : List ℕ) (e : job_number s ≡ 0) where
   stopped_is =
       ap state_of (none (job_of s).most (call_work (run_costs s)) (plain_open (job_settings (run_costs s) s))) ∙ opened_follows (job_settings (run_costs s) s) (job_of s).most (call_work (run_costs s))
 
-  run_is : record_of (stopped (run_costs s) s) ≡ (sweeps_up_to (job_of s).most (call_work (run_costs s)) (open_run (job_settings (run_costs s) s)) (start_factor (job_settings (run_costs s) s))).run
-  unfolding state_of
-  run_is = ap (λ (x : State). x.run) stopped_is
-
-  factor_is : (stopped (run_costs s) s).factor ≡ (sweeps_up_to (job_of s).most (call_work (run_costs s)) (open_run (job_settings (run_costs s) s)) (start_factor (job_settings (run_costs s) s))).factor
-  unfolding state_of
-  factor_is = ap (λ (x : State). x.factor) stopped_is
-
   left : Running (open_run (job_settings (run_costs s) s))
   unfolding open_run job_settings
   left = record { sweep_left = some_left (job_of s).most; standing_few = omega arith }
@@ -147,13 +139,13 @@ module _ (s : List ℕ) (e : job_number s ≡ 0) where
   enough = omega arith
 
   pub stops : Ended (open_size (job_settings (run_costs s) s)) (open_rank (job_settings (run_costs s) s)) (rule_of (job_of s).rule (job_of s).rule_number) (job_of s).most (record_of (stopped (run_costs s) s))
-  stops =
-      rw run_is
-      (ends (job_of s).most (call_work (run_costs s)) (open_run (job_settings (run_costs s) s)) (start_factor (job_settings (run_costs s) s)) just_opened left enough)
+  unfolding state_of
+  stops = subst (Ended _ _ _ _) (sym (ap (λ (x : State). x.run) stopped_is)) (ends (job_of s).most _ _ _ just_opened left enough)
 
   -- the factor keeps its m rows
   pub factor_whole : length (stopped (run_costs s) s).factor ≡ open_size (job_settings (run_costs s) s) * open_rank (job_settings (run_costs s) s)
-  factor_whole = rw factor_is (length_sweeps (job_of s).most (call_work (run_costs s)) (open_run (job_settings (run_costs s) s)) (start_factor (job_settings (run_costs s) s)) ∙ start_whole)
+  unfolding state_of
+  factor_whole = ap (λ (x : State). length x.factor) stopped_is ∙ length_sweeps (job_of s).most _ _ _ ∙ start_whole
 
   -- ---- finish
 

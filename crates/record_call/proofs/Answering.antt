@@ -13,10 +13,9 @@ use Rattle.laws.proofs.Any.{any_here, any_skip, any_not, any_none}
 use Rattle.job_record.specs.Number.{job_number}
 use Rattle.answer_record.specs.Answer.{answer_bytes, refusal_bytes}
 use Rattle.answer_record.specs.declared.answer.Answer.{Answer}
-use Rattle.limits.specs.Limits.{most_wagons, least_answer}
+use Rattle.limits.specs.Limits.{least_answer}
 use Rattle.record_call.specs.Record.{job_fields, whole_choice, bytes_by, answer_of, least_workspace, too_short, call_number, answer_after}
 use Rattle.record_call.specs.Promise.{Answers}
-use Rattle.record_call.proofs.Freed.{job_hall}
 use Rattle.record_call.proofs.Bounds.{bound_promise}
 use Rattle.record_call.proofs.Promise.{accepted_bytes, n_is, choice_size, fields_read_lem, choice_read_lem, pins_promise, promise}
 
@@ -27,9 +26,6 @@ unfolding answer_bytes
 same_bytes a b b' e = rw e
 
 module _ (s : List ℕ) (e : job_number s ≡ 0) where
-  pub n_fits : (a : Answer) → a ≡ job_fields s → a.n ≤ most_wagons
-  n_fits a is = let n : a.n ≡ (job_fields s).n = ap (λ (y : Answer). y.n) is in omega (arith, n_is s e, (job_hall s e).wagons)
-
   -- a choice at the front of a slice is written as alone
   pub written_bytes : (a : Answer) (b b₀ : List ℕ) → a ≡ job_fields s → b ≡ over (whole_choice s) b₀ → answer_bytes a b ≡ answer_bytes (job_fields s) (whole_choice s)
   written_bytes a b b₀ p r =
@@ -51,20 +47,25 @@ module _ (job workspace answer : List ℕ) where
   unfolding too_short
   roomy l h = any_not _ _ (le-ltb (length answer) least_answer l) (any_not _ _ (le-ltb (length workspace) least_workspace h) any_none)
 
+  -- what refuses leaves all else, and promises nothing
+  refusing : {number : ℕ} {answer' : List ℕ} → number ≡ call_number job (length workspace) (length answer) → answer' ≡ answer_after job (length workspace) answer → (number ≡ 0 → ⊥)
+      → Answers job workspace answer number workspace answer'
+  refusing n w some =
+      record {
+        numbered = n;
+        written = w;
+        refused = λ _. refl;
+        kept = refl;
+        read = λ z. absurd (some z);
+        pinned = λ z. absurd (some z);
+        promised = λ z. absurd (some z);
+        bounded = λ z. absurd (some z);
+      }
+
   -- 31
   pub answers_short : too_short (length workspace) (length answer) ≡ true → Answers job workspace answer 31 workspace answer
   unfolding call_number answer_after
-  answers_short t =
-      record {
-        numbered = sym (first_here 30 _ _ t);
-        written = rw t;
-        refused = λ _. refl;
-        kept = refl;
-        read = λ z. absurd (omega (arith, z));
-        pinned = λ z. absurd (omega (arith, z));
-        promised = λ z. absurd (omega (arith, z));
-        bounded = λ z. absurd (omega (arith, z));
-      }
+  answers_short t = refusing (sym (first_here 30 _ _ t)) (rw t) (λ z. omega (arith, z))
 
   -- a refusal
   refusal : (n : ℕ) → (n ≡ 0 → ⊥) → bytes_by n job ≡ refusal_bytes n
@@ -75,16 +76,8 @@ module _ (job workspace answer : List ℕ) where
       → answer' ≡ over (refusal_bytes number) answer → Answers job workspace answer number workspace answer'
   unfolding call_number answer_after answer_of
   answers_refused number answer' t is some e =
-      record {
-        numbered = sym (first_skip 31 _ _ t ∙ first_found (job_number job) [] (λ z. some (is ∙ z)) ∙ sym is);
-        written = rw t (e ∙ ap (λ (x : List ℕ). over x answer) (sym (refusal number some) ∙ ap (λ (k : ℕ). bytes_by k job) is));
-        refused = λ _. refl;
-        kept = refl;
-        read = λ z. absurd (some z);
-        pinned = λ z. absurd (some z);
-        promised = λ z. absurd (some z);
-        bounded = λ z. absurd (some z);
-      }
+      refusing (sym (first_skip 31 _ _ t ∙ first_found (job_number job) [] (λ z. some (is ∙ z)) ∙ sym is))
+      (rw t (e ∙ ap (λ (x : List ℕ). over x answer) (sym (refusal number some) ∙ ap (λ (k : ℕ). bytes_by k job) is))) some
 
   -- an answer
   number_none : too_short (length workspace) (length answer) ≡ false → job_number job ≡ 0 → call_number job (length workspace) (length answer) ≡ 0

@@ -44,7 +44,7 @@ use Rattle.run_contract.proofs.Follows.{state_of}
 use Rattle.run_contract.specs.declared.FinishResult.{FinishResult}
 use Rattle.run_contract.specs.Calls as Calls
 use Rattle.run_record.specs.Numbers.{sweep_number, finish_number}
-use Rattle.run_contract.specs.Calls.{Settings, open_number_of, open_rank, open_run, start_factor, used, finish_result, finish_choice, Opens, Finishes}
+use Rattle.run_contract.specs.Calls.{Settings, open_number_of, open_rank, open_run, start_factor, used, Opens, Finishes}
 use Rattle.answer_record.specs.declared.answer.Answer.{Answer}
 use Rattle.job_record.specs.Fields.{wagons, entry_count, row, column, value}
 use Rattle.job_record.specs.Number.{job_number}
@@ -74,13 +74,9 @@ front f l d n h =
     tabulate_get_d (take n (fill f n l)) n d f (length-take-le n (fill f n l) (rw (length_fill f l n) h)) (λ j k. get_or-take n (fill f n l) j d k ∙ filled f l d n h j k)
 
 module _ (s : List ℕ) (e : job_number s ≡ 0) where
-  n_of : (job_of s).n ≡ wagons s
+  table_sizes : (j : Job) → values_in j ≡ job_of s → (j.n ≡ wagons s) × (j.count ≡ entry_count s)
   unfolding job_by
-  n_of = refl
-
-  count_of : (job_of s).count ≡ entry_count s
-  unfolding job_by
-  count_of = refl
+  table_sizes j is = (ap (λ (x : JobValues). x.n) is, ap (λ (x : JobValues). x.count) is)
 
   -- H and c at the fronts of slices that they were stored into
   pub at_fronts : {rows₀ cols₀ : List ℕ} {values₀ c₀ : List ℤ} {rows cols : List ℕ} {values c : List ℤ} → Stored s rows₀ cols₀ values₀ c₀ rows cols values c → TableRoom rows₀ cols₀ values₀ c₀ → AtFronts s rows cols values c
@@ -106,8 +102,7 @@ module _ (s : List ℕ) (e : job_number s ≡ 0) where
   -- and cut from there
   pub cut : {rows cols : List ℕ} {values c : List ℤ} → AtFronts s rows cols values c → (j : Job) → values_in j ≡ job_of s → OwnCosts s j (cost_table j.n j.count (take j.count rows) (take j.count cols) (take j.count values) (take j.n c))
   cut {rows} {cols} {values} {c} a j is =
-      let n : j.n ≡ wagons s = ap (λ (x : JobValues). x.n) is ∙ n_of in
-      let count : j.count ≡ entry_count s = ap (λ (x : JobValues). x.count) is ∙ count_of in
+      let (n, count) = table_sizes j is in
       record {
         accepted = e;
         job_is = is;
@@ -125,20 +120,16 @@ module _ (s : List ℕ) (e : job_number s ≡ 0) where
   pub fronts_fit : (j : Job) → values_in j ≡ job_of s → (j.count ≤ most_entries) × (j.n ≤ most_wagons)
   fronts_fit j is =
       let f = fields s e in
-      let n : j.n ≡ wagons s = ap (λ (x : JobValues). x.n) is ∙ n_of in
-      let count : j.count ≡ entry_count s = ap (λ (x : JobValues). x.count) is ∙ count_of in
+      let (n, count) = table_sizes j is in
       (omega (arith, f.short), omega (arith, f.few))
 
-  draws_of : (job_of s).draw_count * job_rank s ≡ job_drawn s
-  unfolding job_by
-  draws_of = refl
-
   pub drawn_is : (count rank : ℕ) → count ≡ (job_of s).draw_count → rank ≡ job_rank s → (count * rank ≡ job_drawn s) × (count * rank ≤ most_drawn)
-  drawn_is count rank c r = let is : count * rank ≡ job_drawn s = rw (c, r) draws_of in (is, rw is (drawn_fits s e))
+  unfolding job_by
+  drawn_is count rank c r = let is : count * rank ≡ job_drawn s = rw (c, r) in (is, rw is (drawn_fits s e))
 
   pub job_n : (j : Job) → values_in j ≡ job_of s → j.n ≡ (job_costs s).n
   unfolding job_costs
-  job_n j is = ap (λ (x : JobValues). x.n) is ∙ n_of
+  job_n j is = (table_sizes j is).0
 
   -- the states, cut from the front of the slice
   pub states_cut : (n : ℕ) (states states₀ : List ℕ) → n ≡ (job_costs s).n → states ≡ over (job_states s) states₀ → take n states ≡ job_states s
@@ -149,10 +140,6 @@ module _ (s : List ℕ) (e : job_number s ≡ 0) where
   free_of_lem : (job_of s).free ≡ free_wagons s
   unfolding job_by
   free_of_lem = refl
-
-  pins_of : (job_of s).pins ≡ pin_count s
-  unfolding job_by
-  pins_of = refl
 
   pub job_free : (j : Job) → values_in j ≡ job_of s → j.free ≡ length (free_of (job_costs s).n (job_states s))
   job_free j is = ap (λ (x : JobValues). x.free) is ∙ free_of_lem ∙ sym (many_free s e)
@@ -204,13 +191,11 @@ module _ (s : List ℕ) (e : job_number s ≡ 0) where
             constant_is = made.constant_is ∙ rw (same, is);
           }
 
-  none_pinned : (j : Job) → values_in j ≡ job_of s → j.pins ≡ 0 → pin_count s ≡ 0
-  none_pinned j is none = sym pins_of ∙ sym (ap (λ (x : JobValues). x.pins) is) ∙ none
-
   -- as they are, where no wagon is pinned
   module _ {j : Job} {t : CostTable} (o : OwnCosts s j t) (none : j.pins ≡ 0) where
     no_pin_lem : pin_count s ≡ 0
-    no_pin_lem = none_pinned j o.job_is none
+    unfolding job_by
+    no_pin_lem = sym (ap (λ (x : JobValues). x.pins) o.job_is) ∙ none
 
     pub unpinned_run : t ≡ run_costs s
     unpinned_run = o.costs_are ∙ sym (no_pins s e no_pin_lem)
@@ -301,11 +286,6 @@ same_settings : {t t' : CostTable} {j j' : JobValues} {start start' : List Float
     ≡ Calls.settings_of t' j'.rank j'.rule j'.rule_number j'.most j'.minimum j'.objective_tolerance j'.stationarity_tolerance j'.start start'
 same_settings p q r = rw (p, q, r)
 
-all_same : {run run' : Run} {t t' : CostTable} {width width' draw_count drawCount' : ℕ} {draws draws' factor factor' : List Float} {b b' : List ℕ} {dual dual' : List Float} {workspace workspace' : List ℕ} {answer : Result FinishResult ℕ}
-    → run ≡ run' → t ≡ t' → width ≡ width' → draw_count ≡ drawCount' → draws ≡ draws' → factor ≡ factor'
-    → Finishes run t width draw_count draws factor b dual workspace answer b' dual' workspace' → Finishes run' t' width' drawCount' draws' factor' b dual workspace answer b' dual' workspace'
-all_same p q r k l m f = rw (← p, ← q, ← r, ← k, ← l, ← m) f
-
 module _ {s : List ℕ} {j : Job} {costs : CostTable} {start : List Float} (d : Decoded s j costs start) where
   -- what an open is asked for, by the codes that it is handed
   abbrev asked : ℕ → ℕ → Settings
@@ -378,14 +358,6 @@ module _ {s : List ℕ} {j : Job} {costs : CostTable} {start : List Float} (d : 
   unfolding job_draws
   drawn_long = length_tabulate (job_draw s) (job_drawn s)
 
-  result_is : finish_result (record_of (stopped (run_costs s) s)) (run_costs s) (job_of s).width (job_of s).draw_count (job_draws s) (stopped (run_costs s) s).factor ≡ job_result (run_costs s) s
-  unfolding job_result
-  result_is = refl
-
-  choice_is : finish_choice (record_of (stopped (run_costs s) s)) (run_costs s) (job_of s).width (job_of s).draw_count (job_draws s) (stopped (run_costs s) s).factor ≡ job_choice (run_costs s) s
-  unfolding job_choice
-  choice_is = refl
-
   -- nor the finish
   pub finishes_now : {run : Run} {draws factor : List Float} (b : List ℕ) (dual : List Float) (workspace : List ℕ) → run ≡ record_of (stopped (run_costs s) s) → draws ≡ job_draws s → factor ≡ (stopped (run_costs s) s).factor
       → most_wagons ≤ length b → most_signs ≤ length dual → search_workspace ≤ length workspace
@@ -400,21 +372,13 @@ module _ {s : List ℕ} {j : Job} {costs : CostTable} {start : List Float} (d : 
       → most_wagons ≤ length b → most_signs ≤ length dual → search_workspace ≤ length workspace
       → Finishes run costs j.width j.draw_count draws factor b dual workspace answer b' dual' workspace'
       → (answer ≡ Ok (job_result (run_costs s) s)) × (b' ≡ over (job_choice (run_costs s) s) b)
-  finished {run} {draws} {factor} {b} {b'} {dual} {dual'} {workspace} {workspace'} {answer} is ds made br dr wr f =
-      let run₀ = record_of (stopped (run_costs s) s) in
+  unfolding job_result job_choice
+  finished {draws = draws} {factor} {b} {b'} {dual} {workspace = workspace} is ds made br dr wr f =
       let factor₀ = (stopped (run_costs s) s).factor in
-      let width = (job_of s).width in
-      let draw_count = (job_of s).draw_count in
-      let g : Finishes run₀ (run_costs s) width draw_count (job_draws s) factor₀ b dual workspace answer b' dual' workspace' =
-      all_same is d.costs_are (ap (λ (x : JobValues). x.width) d.job_is) (ap (λ (x : JobValues). x.draw_count) d.job_is) ds made f in
-      let n = few s d.accepted in
-      let lengths = Calls.finish_lengths (job_draws s) factor₀ b dual workspace in
-      let none = finishes s d.accepted lengths (omega (arith, drawn_long)) (omega (arith, factor_whole s d.accepted)) (omega arith) (omega arith) wr in
-      let (made', chosen, multiplied) = g.accepted (g.numbered ∙ none) in
-      let whole : take (used run₀) factor₀ ≡ factor₀ = take_all (used run₀) factor₀ (omega (arith, stopped_used)) in (
-        made' ∙ ap (λ (x : List Float). Ok (finish_result run₀ (run_costs s) width draw_count (job_draws s) x)) whole ∙ ap Ok result_is,
-        chosen ∙ ap (λ (x : List Float). over (finish_choice run₀ (run_costs s) width draw_count (job_draws s) x) b) whole ∙ ap (λ (x : List ℕ). over x b) choice_is,
-      )
+      let whole : take (used (record_of (stopped (run_costs s) s))) factor₀ ≡ factor₀ = take_all _ factor₀ (omega (arith, stopped_used)) in
+      let (given, chosen, _) =
+      rw (is, d.costs_are, ap (λ (x : JobValues). x.width) d.job_is, ap (λ (x : JobValues). x.draw_count) d.job_is, ds, made, whole) at (f.accepted (f.numbered ∙ finishes_now b dual workspace is ds made br dr wr)) in
+      (given, chosen)
 
   -- the size of the factor
   pub sizes : (rank : ℕ) → rank ≡ job_rank s → (j.free ≤ most_wagons) × ((j.free + 1) * rank ≤ most_factor) × ((j.free + 1) * rank ≡ factor_size s)

@@ -4,7 +4,7 @@
 --     figures_fit    with the constant, too, an i64 holds the figures
 --     held           the fields of a job's answer
 use Prim.Native.Nat.{ℕ, zero, suc, ◌+◌, ◌*◌, ◌^◌, ◌≤◌, ◌<◌}
-use native.Mathlib.Nat.{lt_of_le_of_lt, pow-suc}
+use native.Mathlib.Nat.{lt_of_le_of_lt}
 use native.Mathlib.Omega.{arith}
 use mathlib.Core.Path.{◌≡◌, refl}
 use mathlib.Core.List.{List}
@@ -35,8 +35,8 @@ use Rattle.tables.specs.CostTable.{quadratic, linear}
 use Rattle.run_contract.specs.Calls.{finish_result, finish_multipliers}
 use Rattle.run_contract.specs.PlainRun.{record_of}
 use Rattle.run_contract.proofs.Finalized.{finalized}
-use Rattle.job_reader.specs.Bytes.{big_endian}
 use Rattle.job_record.specs.Number.{job_number}
+use Rattle.job_record.proofs.FieldByField.{number_below}
 use Rattle.job_record.specs.Values.{settings_place, job_states, job_by, job_of}
 use Rattle.answer_record.specs.Answer.{Held}
 use Rattle.record_call.specs.Record.{job_costs, reduced_costs, run_costs, pinned_cost, job_draws, stopped, job_result, job_choice, job_fields}
@@ -84,13 +84,6 @@ rounds_low : {n : ℕ} {h : Table} {c : ℕ → ℤ} → Hall most_wagons most_e
 rounds_low hall rank factor draws draw_count zero = rw (unsearched hall rank factor draws draw_count).2 (omega arith)
 rounds_low hall rank factor draws draw_count (suc width) = rounds_some hall rank factor draws draw_count (suc width) (omega arith)
 
--- ---- a number of so many bytes
-
-read_low : (s : List ℕ) → ((i : ℕ) → get_or s i 0 < 256) → (at n : ℕ) → big_endian s at n < 256 ^ n
-unfolding big_endian
-read_low s bytes at zero = omega arith
-read_low s bytes at (suc n) = rw pow-suc (omega (arith, read_low s bytes at n, bytes (at + n)))
-
 -- ---- an accepted job
 
 module _ (s : List ℕ) (e : job_number s ≡ 0) where
@@ -108,7 +101,7 @@ module _ (s : List ℕ) (e : job_number s ≡ 0) where
 
   most_low : ((i : ℕ) → get_or s i 0 < 256) → (job_of s).most < 2 ^ 32
   unfolding job_by
-  most_low bytes = read_low s bytes (settings_place s + 10) 4
+  most_low bytes = number_below s (settings_place s + 10) 4 bytes
 
   -- each double is a sum or a difference, rounded
   relaxed_fits : T (fits binary64 (job_result (run_costs s) s).relaxed_objective)

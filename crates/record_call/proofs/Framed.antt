@@ -15,7 +15,6 @@ use Rattle.job_reader.proofs.Encode.{length_bytes_of, read_bytes}
 use Rattle.job_record.specs.Number.{job_number}
 use Rattle.answer_record.specs.Answer.{frame_bytes, count_bytes, float_bytes, eighth_bytes, answer_bytes, refusal_bytes}
 use Rattle.answer_record.specs.declared.answer.Answer.{Answer}
-use Rattle.answer_record.proofs.Sizes.{length_frame, length_count, length_float, length_eighth}
 use Rattle.limits.specs.Limits.{least_answer}
 use Rattle.record_call.specs.Record.{job_fields, whole_choice, bytes_by, answer_of, least_workspace, too_short, answer_after}
 use Rattle.record_call.proofs.Freed.{job_hall}
@@ -23,8 +22,8 @@ use Rattle.record_call.proofs.Answering.{roomy}
 use Rattle.record_call.proofs.Promise.{n_is, choice_size}
 
 answer_size : (a : Answer) (b : List ℕ) → a.n ≤ length b → length (answer_bytes a b) ≡ 60 + a.n
-unfolding answer_bytes
-answer_size a b h = simp (length-append, length_frame, length_count, length_float, length_eighth, length-take-le a.n b h)
+unfolding answer_bytes frame_bytes count_bytes float_bytes eighth_bytes
+answer_size a b h = simp (length-append, length_bytes_of, length-take-le a.n b h)
 
 answer_front : (a : Answer) (b out : List ℕ) → 56 + a.n < 2 ^ 32 → big_endian (over (answer_bytes a b) out) 0 4 ≡ 56 + a.n
 unfolding answer_bytes frame_bytes count_bytes float_bytes eighth_bytes bytes_of big_endian

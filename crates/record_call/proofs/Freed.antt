@@ -3,15 +3,16 @@
 --     run_n                 how many wagons are free
 --     no_pins               where no wagon is pinned, the run's (H, c) is the job's, the constant 0, and b the finish's
 use Prim.Native.Nat.{ℕ, ◌+◌, ◌<◌, ◌≤◌}
-use mathlib.Core.Path.{◌≡◌, refl, sym, ap, ◌∙◌}
+use mathlib.Core.Path.{◌≡◌, sym, ap, ◌∙◌}
 use mathlib.Core.Bool.{true, false}
 use mathlib.Core.List.{List}
+use native.Mathlib.Nat.{le_of_eq}
 use native.Mathlib.Omega.{arith}
-use lib.ListN.{length, get_or, replicate, length-map}
-use lib.IntN.{ℤ, pos, nat_abs}
+use lib.ListN.{length, replicate, length-map}
+use lib.IntN.{ℤ, pos}
 use Rattle.laws.specs.Turns.{up_to}
 use Rattle.laws.specs.Lists.{elem, elem_z, tabulate}
-use Rattle.laws.proofs.Made.{length_tabulate, get_d_tabulate, tabulate_get_d, tabulate_replicate}
+use Rattle.laws.proofs.Made.{length_tabulate, get_d_tabulate, tabulate_whole, tabulate_replicate}
 use Rattle.limits.specs.Limits.{most_wagons, most_entries, most_magnitude}
 use Rattle.tables.specs.Table.{table_of}
 use Rattle.tables.specs.Check.{hall_number, Hall}
@@ -27,8 +28,7 @@ use Rattle.run_contract.proofs.Lengths.{length_choice}
 use Rattle.job_record.specs.Fields.{wagons, entry_count, row, column, value, free_state, pins_place}
 use Rattle.job_record.specs.Number.{job_number}
 use Rattle.job_record.specs.Values.{pin_count, free_wagons, states_of, job_states, job_of, job_cost}
-use Rattle.laws.proofs.Totals.{total_ext}
-use Rattle.job_record.proofs.Same.{order_same, mirror_same}
+use Rattle.job_record.proofs.Same.{order_same, mirror_same, magnitude_same}
 use Rattle.job_record.proofs.Pinning.{length_states}
 use Rattle.job_record.proofs.Accepted.{states_free}
 use Rattle.job_record.proofs.Halls.{hall}
@@ -46,17 +46,10 @@ listed n count row column value c =
     let v : (i : ℕ) → i < count → elem_z (tabulate value count) i ≡ value i = λ i l. get_d_tabulate value count i (pos 0) l in
     let d : (i : ℕ) → i < n → elem_z (tabulate c n) i ≡ c i = λ i l. get_d_tabulate c n i (pos 0) l in
     rw (
-      order_same (elem (tabulate row count)) (elem (tabulate column count)) row column value value count r k n,
-      mirror_same (elem (tabulate row count)) (elem (tabulate column count)) row column (elem_z (tabulate value count)) value count r k v,
-      total_ext count (λ i. nat_abs (elem_z (tabulate value count) i)) (λ i. nat_abs (value i)) (λ i l. ap nat_abs (v i l)),
-      total_ext n (λ i. nat_abs (elem_z (tabulate c n) i)) (λ i. nat_abs (c i)) (λ i l. ap nat_abs (d i l)),
+      order_same (elem (tabulate row count)) (elem (tabulate column count)) row column count r k n,
+      mirror_same (elem (tabulate row count)) (elem (tabulate column count)) row column count r k v,
+      magnitude_same n count v d,
     )
-
-exact : {a b : ℕ} → a ≡ b → b ≤ a
-exact e = omega (arith, e)
-
-whole_list : {A : Type 0} (xs : List A) (n : ℕ) (d : A) → length xs ≡ n → tabulate (λ i. get_or xs i d) n ≡ xs
-whole_list xs n d e = sym (tabulate_get_d xs n d (λ i. get_or xs i d) e (λ i l. refl))
 
 pub same_costs : {n n' count count' : ℕ} {rows rows' cols cols' : List ℕ} {values values' c c' : List ℤ} → n ≡ n' → count ≡ count' → rows ≡ rows' → cols ≡ cols' → values ≡ values' → c ≡ c'
     → cost_table n count rows cols values c ≡ cost_table n' count' rows' cols' values' c'
@@ -88,8 +81,8 @@ costs_there s =
     let t = job_costs s in
     let free = free_of t.n (job_states s) in
     let ps = reduced_places (quadratic t) free in
-    table_there (run_costs s) (exact (length-map ps (λ p. p.0))) (exact (length-map ps (λ p. p.1))) (exact (length-map ps (λ p. value_in (quadratic t) free p.0 p.1)))
-    (exact (length_tabulate _ (length free)))
+    table_there (run_costs s) (le_of_eq (sym (length-map ps (λ p. p.0)))) (le_of_eq (sym (length-map ps (λ p. p.1))))
+    (le_of_eq (sym (length-map ps (λ p. value_in (quadratic t) free p.0 p.1)))) (le_of_eq (sym (length_tabulate _ (length free))))
 
 pub choice_long : (s : List ℕ) → length (job_choice (run_costs s) s) ≡ (run_costs s).n
 unfolding job_choice record_of
@@ -148,10 +141,10 @@ module _ (s : List ℕ) (e : job_number s ≡ 0) where
         let t = job_costs s in
         let h = job_hall in
         same_costs (many_all t.n (job_states s) all_free) (count_all t.n (job_states s) all_free small h.in_range h.rising)
-        (rows_all t.n (job_states s) all_free small h.in_range h.rising ∙ whole_list t.rows t.count 0 (rows_long s))
-        (cols_all t.n (job_states s) all_free small h.in_range h.rising ∙ whole_list t.cols t.count 0 (cols_long s))
-        (values_all t.n (job_states s) all_free small h.in_range h.rising ∙ whole_list t.values t.count (pos 0) (values_long s))
-        (costs_all t.n (job_states s) all_free (quadratic t) (linear t) ∙ whole_list t.c t.n (pos 0) (costs_long s))
+        (rows_all t.n (job_states s) all_free small h.in_range h.rising ∙ tabulate_whole t.rows t.count 0 (rows_long s))
+        (cols_all t.n (job_states s) all_free small h.in_range h.rising ∙ tabulate_whole t.cols t.count 0 (cols_long s))
+        (values_all t.n (job_states s) all_free small h.in_range h.rising ∙ tabulate_whole t.values t.count (pos 0) (values_long s))
+        (costs_all t.n (job_states s) all_free (quadratic t) (linear t) ∙ tabulate_whole t.c t.n (pos 0) (costs_long s))
 
     pub constant_none : pinned_cost s ≡ pos 0
     unfolding pinned_cost
@@ -160,7 +153,7 @@ module _ (s : List ℕ) (e : job_number s ≡ 0) where
     pub whole_none : whole_choice s ≡ job_choice (run_costs s) s
     unfolding whole_choice
     whole_none =
-        lifted_all (job_costs s).n (job_states s) all_free (job_choice (run_costs s) s) (exact (states_whole s)) (choice_long s ∙ ap (λ (t : CostTable). t.n) no_pins)
+        lifted_all (job_costs s).n (job_states s) all_free (job_choice (run_costs s) s) (le_of_eq (sym (states_whole s))) (choice_long s ∙ ap (λ (t : CostTable). t.n) no_pins)
 
     pub own_result : job_result (run_costs s) s ≡ job_result (job_costs s) s
     own_result = ap (λ (t : CostTable). job_result t s) no_pins

@@ -9,11 +9,10 @@ use mathlib.Core.List.{List}
 use lib.ListN.{length, get_or, take}
 use lib.Seq.{take_all}
 use lib.IntN.{ℤ, pos, ◌+ℤ◌, +ℤ_idr}
-use lib.Ieee.{Float}
 use Rattle.laws.specs.Lists.{over}
 use Rattle.laws.proofs.Sums.{sum_ext}
 use Rattle.laws.proofs.Made.{get_d_tabulate}
-use Rattle.tables.specs.Table.{Table, value_at}
+use Rattle.tables.specs.Table.{value_at}
 use Rattle.finalize.specs.Demand3.{Demand3}
 use Rattle.pinned.specs.Pinned.{lifted}
 use Rattle.pinned.proofs.Lifting.{length_lifted}
@@ -49,15 +48,10 @@ module _ (s : List ℕ) where
 
 -- ---- the answer of a job
 
-moved : {n : ℕ} {h : Table} {c : ℕ → ℤ} {rank : ℕ} {factor draws : List Float} {draw_count width : ℕ} {b b' : List ℕ} {floor floor' rounded rounded' cost cost' : ℤ} {rounds rounds' : ℕ}
-    → b' ≡ b → floor' ≡ floor → rounded' ≡ rounded → cost' ≡ cost → rounds' ≡ rounds
-    → Demand3 n h c rank factor draws draw_count width b floor rounded cost rounds → Demand3 n h c rank factor draws draw_count width b' floor' rounded' cost' rounds'
-moved p q r s t d = rw (p, q, r, s, t) d
-
-pins_moved : {n : ℕ} {h : Table} {c : ℕ → ℤ} {states : List ℕ} {rank : ℕ} {factor draws : List Float} {draw_count width : ℕ} {b b' : List ℕ} {floor floor' rounded rounded' cost cost' : ℤ} {rounds rounds' : ℕ}
-    → b' ≡ b → floor' ≡ floor → rounded' ≡ rounded → cost' ≡ cost → rounds' ≡ rounds
-    → PinnedDemand3 n h c states rank factor draws draw_count width b floor rounded cost rounds → PinnedDemand3 n h c states rank factor draws draw_count width b' floor' rounded' cost' rounds'
-pins_moved p q r s t d = rw (p, q, r, s, t) d
+-- a demand of choice and figures, of others that are the same
+moved : (demand : List ℕ → ℤ → ℤ → ℤ → ℕ → Type 0) {b b' : List ℕ} {floor floor' rounded rounded' cost cost' : ℤ} {rounds rounds' : ℕ} → b' ≡ b → floor' ≡ floor → rounded' ≡ rounded → cost' ≡ cost → rounds' ≡ rounds
+    → demand b floor rounded cost rounds → demand b' floor' rounded' cost' rounds'
+moved demand p q r s t d = rw (p, q, r, s, t) d
 
 module _ (s : List ℕ) (e : job_number s ≡ 0) where
   own_demand : 1 ≤ (job_of s).width → Demand3 (job_costs s).n (quadratic (job_costs s)) (linear (job_costs s)) (stopped (job_costs s) s).rank (stopped (job_costs s) s).factor (job_draws s) (job_of s).draw_count (job_of s).width
@@ -100,7 +94,7 @@ module _ (s : List ℕ) (e : job_number s ≡ 0) where
     pub pins_promise : 1 ≤ (job_of s).width → PinsPromised s left
     unfolding job_fields pinned_cost
     pins_promise some =
-        pins_moved choice_read_lem (ap (λ (a : Answer). a.floor) fields_read_lem) (ap (λ (a : Answer). a.rounded_cost) fields_read_lem) (ap (λ (a : Answer). a.cost) fields_read_lem)
+        moved (PinnedDemand3 _ _ _ _ _ _ _ _ _) choice_read_lem (ap (λ (a : Answer). a.floor) fields_read_lem) (ap (λ (a : Answer). a.rounded_cost) fields_read_lem) (ap (λ (a : Answer). a.cost) fields_read_lem)
         (ap (λ (a : Answer). a.rounds) fields_read_lem)
         (pinned_finish (job_hall s e) (job_states s) (omega (arith, states_whole s)) (stopped (run_costs s) s).rank (stopped (run_costs s) s).factor (job_draws s) (job_of s).draw_count (job_of s).width some
         (run_finish s e) (whole_choice s) whole_front)
@@ -110,13 +104,10 @@ module _ (s : List ℕ) (e : job_number s ≡ 0) where
       abbrev own : CostTable
       own = job_costs s
 
-      plus_none : (z w : ℤ) → z ≡ w +ℤ pos 0 → z ≡ w
-      plus_none z w q = q ∙ +ℤ_idr w
-
       field : (f : Answer → ℤ) (w : ℤ) → f (fields_of own.n (pos 0) (job_result own s)) ≡ w +ℤ pos 0 → f (Read.fields_read left) ≡ w
-      field f w q = plus_none _ w (ap f (fields_read_lem ∙ own_fields s e none) ∙ q)
+      field f w q = ap f (fields_read_lem ∙ own_fields s e none) ∙ q ∙ +ℤ_idr w
 
       pub promise : 1 ≤ (job_of s).width → Promised s left
       promise some =
-          moved (choice_read_lem ∙ own_choice s e none) (field (λ a. a.floor) (job_result own s).floor refl) (field (λ a. a.rounded_cost) (job_result own s).rounded_cost refl)
+          moved (Demand3 _ _ _ _ _ _ _ _) (choice_read_lem ∙ own_choice s e none) (field (λ a. a.floor) (job_result own s).floor refl) (field (λ a. a.rounded_cost) (job_result own s).rounded_cost refl)
           (field (λ a. a.cost) (job_result own s).cost refl) (ap (λ (a : Answer). a.rounds) (fields_read_lem ∙ own_fields s e none)) (own_demand some)

@@ -1,7 +1,7 @@
 -- When open, sweep and finish refuse nothing. Assumes nothing.
 use Prim.Native.Nat.{ℕ, zero, suc, ◌+◌, ◌*◌, ◌≤◌, ◌<◌}
-use mathlib.Core.Path.{◌≡◌, refl, sym, ap, ◌∙◌}
-use mathlib.Core.Bool.{Bool, true, false, not, ◌&&◌}
+use mathlib.Core.Path.{◌≡◌, refl, ap, ◌∙◌}
+use mathlib.Core.Bool.{Bool, true, false, not}
 use native.Mathlib.Omega.{arith}
 use lib.Dec.{ltb, eqb}
 use lib.ListN.{length}
@@ -9,8 +9,8 @@ use lib.Ieee.{Float}
 use borrow.Author.Tests.{le-ltb, eq-eqb, ne_eqb, eqb-true}
 use Rattle.laws.specs.Refusal.{short}
 use Rattle.laws.proofs.Refusal.{first_end, first_next, first_skip}
-use Rattle.std.proofs.lemmas.Bool.{and_left}
-use Rattle.laws.proofs.Any.{any_none, any_not, or_none, and_right}
+use Rattle.std.proofs.lemmas.Bool.{and_left, or_from, and_right}
+use Rattle.laws.proofs.Any.{false_and, any_none, any_not}
 use Rattle.tables.specs.Check.{short_table}
 use Rattle.run_record.specs.declared.Run.{Run}
 use Rattle.tables.specs.CostTable.{CostTable}
@@ -28,11 +28,6 @@ unfolding short
 long true needed lent h = refl
 long false needed lent h = le-ltb lent needed h
 
-and_none : (a b : Bool) → (a ≡ true → b ≡ true → ⊥) → (a && b) ≡ false
-and_none true true h = absurd (h refl refl)
-and_none true false h = refl
-and_none false b h = refl
-
 -- ---- tables
 
 pub table_there : (t : CostTable) → t.count ≤ length t.rows → t.count ≤ length t.cols → t.count ≤ length t.values → t.n ≤ length t.c → table_short t ≡ false
@@ -47,8 +42,8 @@ table_there t r k v c =
 pub rule_passes : (code : ℕ) (number : Float) → code ≤ 4 → (code ≡ 4 → is_momentum number ≡ true) → rule_refused code number ≡ false
 unfolding rule_refused
 rule_passes code number h m =
-    or_none (ltb 4 code) _ (le-ltb 4 code h)
-    (and_none (eqb code 4) (not (is_momentum number)) (λ four bad. let no : true ≡ false = sym bad ∙ ap not (m (eqb-true code 4 four)) in let z : ◌≡◌ {A = ℕ} 0 1 = cc in omega arith))
+    or_from (ltb 4 code) _ (le-ltb 4 code h)
+    (false_and (eqb code 4) (not (is_momentum number)) (λ four. ap not (m (eqb-true code 4 four))))
 
 pub momentum_passes : (code : ℕ) (number : Float) → code ≤ 4 → (code ≡ 4 → is_momentum number ≡ true) → bad_momentum (rule_of code number) ≡ false
 momentum_passes zero number h m = refl
@@ -63,7 +58,7 @@ momentum_passes (suc (suc (suc (suc (suc k))))) number h m = absurd (omega arith
 pub rank_passes : (rank start : ℕ) → rank ≤ most_rank → (start ≡ 1 → rank ≡ 0 → ⊥) → open_rank_refused rank start ≡ false
 unfolding open_rank_refused
 rank_passes rank start h g =
-    or_none (ltb most_rank rank) _ (le-ltb most_rank rank h) (and_none (eqb rank 0) (eqb start 1) (λ a b. g (eqb-true start 1 b) (eqb-true rank 0 a)))
+    or_from (ltb most_rank rank) _ (le-ltb most_rank rank h) (false_and (eqb rank 0) (eqb start 1) (λ a. ne_eqb start 1 (λ b. g b (eqb-true rank 0 a))))
 
 pub open_passes : (t : CostTable) (rank rule : ℕ) (number : Float) (most start numbers factor : ℕ) → table_short t ≡ false → cost_table_number t ≡ 0
     → start_length start (t.n + 1) (rank_meant (t.n + 1) rank) most ≤ numbers → (t.n + 1) * rank_meant (t.n + 1) rank ≤ factor
@@ -110,7 +105,7 @@ sweep_passes run t factor there fs stage sound table rule =
 pub width_passes : (width draw_count : ℕ) → width ≤ most_width → 1 ≤ draw_count → draw_count ≤ most_draws → width_refused width draw_count ≡ false
 unfolding width_refused bad_draws
 width_passes width draw_count w some few =
-    or_none (ltb most_width width) _ (le-ltb most_width width w) (or_none (eqb draw_count 0) _ (ne_eqb draw_count 0 (λ e. omega (arith, e))) (le-ltb most_draws draw_count few))
+    or_from (ltb most_width width) _ (le-ltb most_width width w) (or_from (eqb draw_count 0) _ (ne_eqb draw_count 0 (λ e. omega (arith, e))) (le-ltb most_draws draw_count few))
 
 pub finish_passes : (run : Run) (t : CostTable) (width draw_count : ℕ) (lent : FinishLengths) → table_short t ≡ false
     → draw_count * run.rank ≤ lent.draws → run.size * run.rank ≤ lent.factor → t.n ≤ lent.b → t.n + 1 ≤ lent.dual → search_workspace ≤ lent.workspace

@@ -6,15 +6,16 @@ use mathlib.Core.List.{List}
 use Prim.Native.Nat.{ℕ, zero, suc, ◌+◌, ◌<◌, ◌≤◌, max}
 use native.Mathlib.Omega.{arith}
 use native.Mathlib.Decide.{dec_lt}
-use lib.ListN.{length, get_or, replicate, length-replicate, get_or-replicate}
+use lib.ListN.{length, get_or, replicate}
 use lib.Dec.{eqb, leb, ltb}
-use borrow.Author.Tests.{eq-eqb, ne_eqb, eqb-false, ltb-false, leb-false, lt-leb, le-leb, le-ltb}
+use borrow.Author.Tests.{eq-eqb, ne_eqb, eqb-false, ltb-false, leb-false, lt-leb, le-ltb}
 use Rattle.std.proofs.Math.Bool.{or_comm}
 use Rattle.laws.specs.Lists.{elem, any_below}
 use Rattle.laws.specs.Turns.{up_to}
 use Rattle.laws.proofs.Any.{below_none, below_at, below_false, below_next, any_head, any_rest, any_not, any_none}
+use Rattle.tables.specs.Table.{Table, InRange}
 use Rattle.reduced.specs.Indices.{greatest, outside, twice, index_refused, put_each, Within, Once, Mapped}
-use Rattle.reduced.proofs.Put.{Last, found, none, put_last}
+use Rattle.reduced.proofs.Put.{Last, found, none, put_fresh}
 
 -- ---- 20, part by part
 
@@ -30,19 +31,10 @@ module _ (size : ℕ) (indices : List ℕ) where
 -- the greatest is outside exactly where an index is
 module _ (size : ℕ) where
   max_outside : (a b : ℕ) → leb size (max a b) ≡ cond (leb size b) true (leb size a)
-  max_outside a b = go (dec_lt b size) (dec_lt a size)
-    where
-      go : Dec (b < size) → Dec (a < size) → leb size (max a b) ≡ cond (leb size b) true (leb size a)
-      go (no h) d = rw (le-leb size b (omega arith)) (le-leb size (max a b) (omega arith))
-      go (yes h) (no k) = rw (lt-leb size b h, le-leb size a (omega arith)) (le-leb size (max a b) (omega arith))
-      go (yes h) (yes k) = rw (lt-leb size b h, lt-leb size a k) (lt-leb size (max a b) (omega arith))
+  max_outside a b = grind arith
 
   one_outside : (b : ℕ) → leb size (max 0 b) ≡ cond (leb size b) true false
-  one_outside b = go (dec_lt b size)
-    where
-      go : Dec (b < size) → leb size (max 0 b) ≡ cond (leb size b) true false
-      go (no h) = rw (le-leb size b (omega arith)) (le-leb size (max 0 b) (omega arith))
-      go (yes h) = rw (lt-leb size b h) (lt-leb size (max 0 b) (omega arith))
+  one_outside b = grind arith
 
   most_outside : (index : ℕ → ℕ) (n : ℕ) → leb size (up_to (λ j most. max most (index j)) (suc n) 0) ≡ any_below (suc n) (λ j. leb size (index j))
   unfolding up_to any_below
@@ -64,6 +56,9 @@ module _ (size : ℕ) where
 
 pub within_up : {n m : ℕ} {indices : List ℕ} → n ≤ m → Within n indices → Within m indices
 within_up h w = record { below = λ j l. omega (arith, w.below j l) }
+
+pub range_up : {n m : ℕ} {t : Table} → n ≤ m → InRange n t → InRange m t
+range_up h r = record { rows_in = λ k b. omega (arith, r.rows_in k b); cols_in = λ k b. omega (arith, r.cols_in k b) }
 
 module _ (map : List ℕ) where
   pub twice_once : twice map ≡ false → Once map
@@ -89,9 +84,7 @@ module _ (map : List ℕ) where
   module _ {size : ℕ} (w : Within size map) (j : ℕ) (h : j < length map) {seen : List Bool} {index : ℕ}
       (marks : seen ≡ put_each (elem map) (λ _. true) j (replicate size false)) (here : index ≡ elem map j) where
     mark : Last (elem map) (λ _. true) j (elem map j) false (get_or seen index false)
-    mark =
-        let l = put_last {A = Bool} (elem map) (λ _. true) j (replicate size false) (elem map j) false (rw (length-replicate {A = Bool} size false) (w.below j h)) in
-        rw (marks, here) (rw (get_or-replicate {A = Bool} size (elem map j) false false (w.below j h)) at l)
+    mark = rw here (put_fresh (elem map) (λ _. true) j size (elem map j) false false (w.below j h) marks)
 
     pub twice_next : {twice : Bool} → twice ≡ any_below j (λ k. any_below k (λ i. eqb (elem map i) (elem map k)))
         → twice || get_or seen index false ≡ any_below (j + 1) (λ k. any_below k (λ i. eqb (elem map i) (elem map k)))

@@ -3,7 +3,7 @@
 use mathlib.Core.Path.{◌≡◌, refl, sym, ap, ◌∙◌}
 use mathlib.Core.Bool.{Bool, true, false}
 use mathlib.Core.List.{List, []}
-use Prim.Native.Nat.{ℕ, ◌≤◌}
+use Prim.Native.Nat.{ℕ}
 use native.Mathlib.Omega.{arith}
 use lib.ListN.{length}
 use lib.Dec.{ltb}
@@ -21,16 +21,7 @@ use Rattle.reduced.specs.Indices.{index_refused}
 use Rattle.std.specs.Prelude.{Ok, Err}
 use Rattle.reduced.specs.Submatrix.{Slices, slices_of, table_in, value_in, reduced_places, slices_short, input_number, submatrix_number, Reduces, Input, Acceptable}
 use Rattle.reduced.specs.Scatter.{Reducible}
-use Rattle.reduced.proofs.Distinct.{index_mapped, mapped_index, within_up}
-
--- ---- 31
-
-module _ {most_sign_entries count : ℕ} {s : Slices} where
-  pub slices_lent : slices_short most_sign_entries count s ≡ false → count ≤ most_sign_entries → Lent count s.rows s.cols s.values
-  slices_lent e h = table_lent e h
-
-  pub lent_slices : count ≤ most_sign_entries → Lent count s.rows s.cols s.values → slices_short most_sign_entries count s ≡ false
-  lent_slices h l = lent_table h l
+use Rattle.reduced.proofs.Distinct.{index_mapped, mapped_index, within_up, range_up}
 
 -- ---- the returns
 
@@ -101,10 +92,7 @@ module _ {most_size most_sign_entries size count : ℕ} {from : Slices} {map fix
   input_reducible i =
       record {
         entries = i.few;
-        in_range = record {
-          rows_in = λ k h. omega (arith, i.in_range.rows_in k h, i.mapped.small);
-          cols_in = λ k h. omega (arith, i.in_range.cols_in k h, i.mapped.small);
-        };
+        in_range = range_up i.mapped.small i.in_range;
         rising = i.rising;
         map_within = within_up i.mapped.small i.mapped.map_within;
         map_once = i.mapped.map_once;
@@ -115,8 +103,8 @@ pub judged_asks : {size count : ℕ} {from : Slices} {map fixed : List ℕ} {to 
     → Lent count from.rows from.cols from.values × Reducible most_size most_sign_entries (table_in count from) map × Room 0 count to.rows to.cols to.values
 judged_asks {from = from} {to = to} j z =
     let i = input_accepted {from = from} (sym j.number ∙ z) in
-    let l = slices_lent {s = to} j.to_long i.few in (
-      slices_lent {s = from} j.from_long i.few,
+    let l = table_lent j.to_long i.few in (
+      table_lent j.from_long i.few,
       input_reducible i,
       record { rows_room = omega (arith, l.rows_there); cols_room = omega (arith, l.cols_there); values_room = omega (arith, l.values_there) },
     )
@@ -131,14 +119,14 @@ module _ {most_size most_sign_entries size count : ℕ} {from : Slices} {map fix
       let e₂ = first_rest (31 if slices_short most_sign_entries count to) _ e₁ in
       let i = input_accepted {from = from} (first_head (input_number most_size most_sign_entries size count from.rows from.cols map fixed) [] e₂) in
       record {
-        from_lent = slices_lent {s = from} (clear _ 30 (first_head (31 if slices_short most_sign_entries count from) _ e)) i.few;
-        to_lent = slices_lent {s = to} (clear _ 30 (first_head (31 if slices_short most_sign_entries count to) _ e₁)) i.few;
+        from_lent = table_lent (clear _ 30 (first_head (31 if slices_short most_sign_entries count from) _ e)) i.few;
+        to_lent = table_lent (clear _ 30 (first_head (31 if slices_short most_sign_entries count to) _ e₁)) i.few;
         input = i;
       }
 
   pub submatrix_passes : Acceptable most_size most_sign_entries size count from map fixed to → submatrix_number most_size most_sign_entries size count from map fixed to ≡ 0
   unfolding submatrix_number
   submatrix_passes a =
-      first_skip 31 _ _ (lent_slices {s = from} a.input.few a.from_lent)
-      ∙ first_skip 31 _ _ (lent_slices {s = to} a.input.few a.to_lent)
+      first_skip 31 _ _ (lent_table a.input.few a.from_lent)
+      ∙ first_skip 31 _ _ (lent_table a.input.few a.to_lent)
       ∙ first_next _ _ (input_passes a.input) ∙ first_end

@@ -6,7 +6,7 @@ use Prim.Native.Nat.{ℕ, zero, suc, ◌+◌, ◌<◌, ◌≤◌}
 use native.Mathlib.Omega.{arith}
 use native.Mathlib.Numerals.{add-one}
 use native.Mathlib.Decide.{ℕ_discrete}
-use lib.ListN.{length, get_or, set, take, drop, replicate, length-set}
+use lib.ListN.{length, get_or, set, take, drop, replicate, length-set, length-replicate, get_or-replicate}
 use lib.Seq.{length-take-le, get_or-set_same, get_or-set_other, set-append_left}
 use Rattle.laws.specs.Turns.{up_to}
 use Rattle.laws.specs.Rows.{map_first}
@@ -25,26 +25,19 @@ module _ {A : Type 0} (index : ℕ → ℕ) (value : ℕ → A) where
   length_put zero l = refl
   length_put (suc n) l = length-set (put_each index value n l) (index n) (value n) ∙ length_put n l
 
+  not_later : (n k i : ℕ) → (index n ≡ k → ⊥) → (i < n → index i ≡ k → ⊥) → i < suc n → index i ≡ k → Dec (i ≡ n) → ⊥
+  not_later n k i other rest b s (yes q) = other (ap index (sym q) ∙ s)
+  not_later n k i other rest b s (no q) = rest (omega arith) s
+
   later : (n k : ℕ) (d x : A) → (index n ≡ k → ⊥) → Last index value n k d x → Last index value (suc n) k d x
-  later n k d x other (found j h e rest) = found j (omega arith) e (λ i a b s. go i a b s (ℕ_discrete i n))
-    where
-      go : (i : ℕ) → j < i → i < suc n → index i ≡ k → Dec (i ≡ n) → ⊥
-      go i a b s (yes q) = other (ap index (sym q) ∙ s)
-      go i a b s (no q) = rest i a (omega arith) s
-  later n k d x other (none rest) = none (λ i b s. go i b s (ℕ_discrete i n))
-    where
-      go : (i : ℕ) → i < suc n → index i ≡ k → Dec (i ≡ n) → ⊥
-      go i b s (yes q) = other (ap index (sym q) ∙ s)
-      go i b s (no q) = rest i (omega arith) s
+  later n k d x other (found j h e rest) = found j (omega arith) e (λ i a b s. not_later n k i other (rest i a) b s (ℕ_discrete i n))
+  later n k d x other (none rest) = none (λ i b s. not_later n k i other (rest i) b s (ℕ_discrete i n))
 
   -- the turn of a loop that has put n of them into l, which now is m
   pub put_next : (n : ℕ) (l : List A) {m : List A} {i : ℕ} {x : A} → m ≡ put_each index value n l → i ≡ index n → x ≡ value n
       → set m i x ≡ put_each index value (n + 1) l
   unfolding up_to
   put_next n l e f g = rw (add-one, e, f, g)
-
-  pub put_all : (n k : ℕ) (l : List A) {m : List A} → m ≡ put_each index value n l → n ≤ k → k ≤ n → m ≡ put_each index value k l
-  put_all n k l e up down = let same : k ≡ n = omega arith in rw same e
 
   -- the place k after n of them
   pub put_last : (n : ℕ) (l : List A) (k : ℕ) (d : A) → k < length l → Last index value n k (get_or l k d) (get_or (put_each index value n l) k d)
@@ -58,6 +51,11 @@ module _ {A : Type 0} (index : ℕ → ℕ) (value : ℕ → A) where
           rw (e, get_or-set_same (put_each index value n l) k (value n) d (rw (length_put n l) h)) (found n (omega arith) e (λ i a b s. absurd (omega arith)))
       go (no e) before =
           rw (get_or-set_other (put_each index value n l) (index n) k (value n) d (λ s. e (sym s))) (later n k (get_or l k d) _ e before)
+
+  -- and where one value a was at each of m places
+  pub put_fresh : (n m k : ℕ) (a d : A) {l : List A} → k < m → l ≡ put_each index value n (replicate m a) → Last index value n k a (get_or l k d)
+  put_fresh n m k a d h is =
+      let l = put_last n (replicate m a) k d (rw (length-replicate {A = A} m a) h) in rw is (rw (get_or-replicate {A = A} m k a d h) at l)
 
   -- a place that no index is stays
   pub put_beyond : (n : ℕ) (l : List A) (k : ℕ) (d : A) → ((i : ℕ) → i < n → index i < k) → get_or (put_each index value n l) k d ≡ get_or l k d

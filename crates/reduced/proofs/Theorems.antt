@@ -14,13 +14,10 @@ use Rattle.tables.proofs.Mirrors.{value_here, stored_true, stored_here}
 use Rattle.tables.proofs.Kept.{place_at, places_have, row_listed, col_listed, value_listed, places_rising}
 use Rattle.tables.proofs.Slices.{Same, written_same}
 use Rattle.limits.specs.Limits.{most_sign_entries, most_size}
-use Rattle.std.specs.Prelude.{Result, Ok}
+use Rattle.std.specs.Prelude.{Ok}
 use Rattle.reduced.specs.Submatrix.{Slices, table_in, kept_in, value_in, reduced_places, Reduces, Acceptable, Stands}
 use Rattle.reduced.proofs.Numbers.{submatrix_accepted, input_reducible}
 use Rattle.reduced.proofs.Entries.{reduced_few}
-
-counted : {n m : ℕ} → ◌≡◌ {A = Result ℕ ℕ} (Ok n) (Ok m) → n ≡ m
-counted e = cc
 
 -- the kept places of the reduced table, and what the table they come from holds there
 module _ {t : Table} (ri : Rising t) (map : List ℕ) where
@@ -55,7 +52,7 @@ module _ {size count : ℕ} {from : Slices} {map fixed : List ℕ} {to : Slices}
   ok = submatrix_accepted (sym call.numbered)
 
   many : n ≡ length (reduced_places (table_in count from) map)
-  many = counted (call.accepted refl).0
+  many = cc ((call.accepted refl).0)
 
   few : length (reduced_places (table_in count from) map) ≤ count
   few = reduced_few (input_reducible ok.input)

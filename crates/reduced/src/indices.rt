@@ -10,6 +10,7 @@ use limits::MOST_SIZE;
 use refusal::Refusal;
 
 // The greatest index, 0 where there is none. Not the library's `max`: that takes 2,846 instructions for 512 indices, this pass 254.
+#[tactic(auto, unfolding(crate::specs::Indices::greatest, laws::specs::Turns::up_to))]
 fn greatest(indices: &[u16]) -> u16
     ensures { result ≡ greatest indices.now }
 {
@@ -31,6 +32,7 @@ fn any_outside(size: usize, indices: &[u16]) -> bool
 }
 
 // Whether an index is in the map twice: `seen` marks those passed. It goes on to the end: 512 indices take 2,687 instructions, and 4,214 with a return in the loop.
+#[tactic(auto, unfolding(crate::specs::Indices::twice, laws::specs::Lists::any_below, laws::specs::Turns::up_to))]
 fn any_twice(variable_map: &[u16]) -> bool
     requires { Within most_size variable_map.now }
     ensures { result ≡ twice variable_map.now }

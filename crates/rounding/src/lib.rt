@@ -15,7 +15,7 @@ ghost use Rattle.tables.specs.Table.{InRange, magnitude_of};
 ghost use Rattle.rounding.specs.Rounding.{plus_byte, rounded_sign, draw_signs, signs_of, rounded_sols, draw_objective, rounded_sol, rounded_objective};
 ghost use Rattle.tables.specs.Entries.{listed};
 
-use factor::rows::{at_row, copy, normalize, row};
+use factor::rows::{at_row, normalize, row};
 use factor::sums::dot;
 use local_search::least::keep_better;
 use run_limits::Draws;
@@ -30,6 +30,7 @@ fn sign_byte(product: f64) -> u8
 }
 
 // The signs of the rows' products with the direction.
+#[tactic(auto, using(laws::proofs::Made::tabulate_all), unfolding(laws::specs::Lists::tabulate))]
 fn set_signs(factor: &[f64], direction: &[f64], rank: usize, m: usize, signs: &mut [u8])
     requires { (m * rank ≤ length factor.now) × (length direction.now ≡ rank) × (length signs.old ≡ m) }
     ensures { signs.new ≡ tabulate (rounded_sign factor.now rank direction.now) m }
@@ -40,6 +41,7 @@ fn set_signs(factor: &[f64], direction: &[f64], rank: usize, m: usize, signs: &m
 }
 
 // The signs of one draw; `direction` is left at the draw divided by its norm.
+#[tactic(auto, unfolding(crate::specs::Rounding::draw_signs))]
 pub fn round_draw(
     factor: &[f64],
     draw: &[f64],
@@ -52,7 +54,7 @@ pub fn round_draw(
     ensures signs_after { signs.new ≡ draw_signs factor.now rank m draw.now }
     ensures direction_after { direction.new ≡ unit draw.now }
 {
-    copy(direction, draw);
+    direction.copy_from_slice(draw);
     normalize(direction);
     set_signs(factor, direction, rank, m, signs);
 }
@@ -81,6 +83,7 @@ fn round_at(
 
 // The signs of each of the first draws, m for each, one draw after the other; a longer slice keeps its tail. What is left in
 // `direction` is free.
+#[tactic(auto, using(crate::proofs::Least::sols_next), unfolding(crate::specs::Rounding::rounded_sols))]
 pub fn compute_rounded_sols(
     factor: &[f64],
     rank: usize,
@@ -118,6 +121,7 @@ fn evaluate_draw(
 }
 
 // The first draw of least objective: its signs, and the objective in eighths. What is left in `direction` and `signs` is free.
+#[tactic(auto, using(laws::proofs::Integer::held), unfolding(crate::specs::Rounding::rounded_sol, crate::specs::Rounding::rounded_objective, crate::specs::Rounding::first_least))]
 pub fn compute_rounded_sol(
     table: Entries,
     factor: &[f64],

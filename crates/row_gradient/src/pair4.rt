@@ -26,6 +26,7 @@ fn subtract_rest(row: Row, factor: &[f64], vertex: usize, first: usize, sums: &m
 }
 
 // The gradients of row `vertex`, of the entries `row`, and of the next, of the entries `other`.
+#[tactic(auto, using(factor::proofs::ByColumns::block_start_lem))]
 pub fn gradients(row: Row, other: Row, factor: &[f64], vertex: usize, g: &mut [f64], h: &mut [f64])
     requires g_len { (length g.old ≡ 4) × (length h.old ≡ 4) × (vertex < 65536) }
     requires columns_within { ColumnsWithin row.cols.now 4 factor.now }

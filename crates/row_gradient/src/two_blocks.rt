@@ -22,6 +22,7 @@ fn put_sums<const N: usize>(g: &mut [f64], offset: usize, sums: &[f64; N])
 }
 
 // The gradient. The rank is the length of g; inlined, so that the compiler sees it where the caller names it.
+#[tactic(auto, using(factor::proofs::ByColumns::block_start_lem))]
 #[inline(always)]
 pub fn two_blocks<const N: usize, const M: usize>(
     row: Row,

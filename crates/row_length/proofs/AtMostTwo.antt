@@ -14,7 +14,7 @@ use lib.Pow.{pow_mono}
 use lib.Ieee.{Float, nan, inf, fin, binary64, fits, is_nan, to_bits}
 use lib.Ieee.Bits.{of_bits-fits, to_bits-of_bits, nan_bits_is, nan_bits_above}
 use lib.Ieee.Scale.{finite}
-use Rattle.laws.proofs.Made.{below_or_not}
+use Rattle.std.proofs.lemmas.Bool.{cases_lt}
 use Rattle.ieee.specs.Floats.{bits_of, double_of}
 use Rattle.ieee.specs.Scale.{in_units, units_of_bits}
 use Rattle.row_length.specs.Length.{AtMostTwo}
@@ -22,19 +22,13 @@ pub use Rattle.row_length.proofs.TwoBits.{two_bits}
 
 -- ---- in units
 
-last : (y t : ℕ) → y ≡ 1023 → t ≡ 0 → (2 ^ 52 + t) * 2 ^ y ≤ 2 * 2 ^ 1074
-last y t e z = subst (λ (s : ℕ). (2 ^ 52 + s) * 2 ^ y ≤ 2 * 2 ^ 1074) (sym z) (subst (λ (k : ℕ). (2 ^ 52 + 0) * 2 ^ k ≤ 2 * 2 ^ 1074) (sym e) (lit≤ tt))
-
-wide : (t : ℕ) → t < 2 ^ 52 → 2 ^ 52 + t ≤ 2 ^ 53
-wide t l = omega arith
-
 fields_low : (x t : ℕ) → x * 2 ^ 52 + t ≤ two_bits → t < 2 ^ 52 → in_units x t ≤ 2 * 2 ^ 1074
 fields_low zero t h l = le_trans (le_of_lt l) (lit≤ tt)
-fields_low (suc y) t h l = by (below_or_not y 1023)
+fields_low (suc y) t h l = by (cases_lt y 1023)
   where
     by : (y < 1023) ⊎ (1023 ≤ y) → (2 ^ 52 + t) * 2 ^ y ≤ 2 * 2 ^ 1074
-    by (inl b) = le_trans (mul-le-mul (wide t l) (pow_mono {j = 1022} (omega arith))) (lit≤ tt)
-    by (inr b) = last y t (omega arith) (omega arith)
+    by (inl b) = le_trans (mul-le-mul {n₂ = 2 ^ 53} (omega arith) (pow_mono {j = 1022} (omega arith))) (lit≤ tt)
+    by (inr b) = let e : y ≡ 1023 = omega arith in let z : t ≡ 0 = omega arith in rw (e, z) (lit≤ tt)
 
 bits_low : (b : ℕ) → b ≤ two_bits → units_of_bits b ≤ 2 * 2 ^ 1074
 bits_low b h = fields_low (b / 2 ^ 52) (b % 2 ^ 52) (omega arith) (mod-lt b (lit< tt))

@@ -12,16 +12,12 @@ use Rattle.laws.specs.Sum.{total}
 use Rattle.laws.proofs.Sums.{total_at}
 use Rattle.laws.proofs.Totals.{total_ext, total_scale}
 use Rattle.ieee.proofs.Squares.{lt_of_square}
-use Rattle.float_error.proofs.Errors.{Under, whole, over, weaker, plus, through, then, product, relative, relative_right, squared}
+use Rattle.float_error.proofs.Errors.{Under, whole, pure, over, weaker, plus, through, then, product, relative, relative_right, squared}
 
 totals : (e t n : ℕ) (f g : ℕ → ℕ) → ((j : ℕ) → j < n → Under e t (f j) (g j)) → Under e (n * t) (total n f) (total n g)
 unfolding total
 totals e t zero f g all = record { le = zero-le }
 totals e t (suc n) f g all = weaker e (suc n * t) (le_refl e) (omega arith) (plus (totals e t n f g (λ j h. all j (omega arith))) (all n (omega arith)))
-
--- with no absolute part
-pure : {e a b : ℕ} (k : ℕ) → Under e 0 a b → Under e 0 (a * k) (b * k)
-pure {e} {a} {b} k u = record { le = omega (arith, mul-le-mul_right k u.le) }
 
 -- what is given of the numbers of one row
 pub record Given (U σ S N I n : ℕ) (G X : ℕ → ℕ) : Type 0 where

@@ -17,7 +17,7 @@ use lib.Seq.{get_or-take, length-take-le}
 use Rattle.laws.specs.Rows.{row_of}
 use Rattle.laws.proofs.Sums.{total_at}
 use Rattle.laws.proofs.Made.{all_kept}
-use Rattle.laws.proofs.Parts.{row_within}
+use Rattle.laws.proofs.Parts.{row_within, row_front}
 use Rattle.ieee.specs.Floats.{at, zero64, eight64, eighth_of}
 use Rattle.ieee.specs.Eighths.{negative}
 use Rattle.ieee.proofs.Eighths.{eighth_exact}
@@ -33,7 +33,6 @@ use Rattle.row_length.specs.Length.{FiniteUpTo, AtMostTwo, UnitLength, SweepInpu
 use Rattle.float_error.proofs.Values.{Worth, worth_of, units_are, is_finite}
 use Rattle.float_error.proofs.Bits.{whole_units_lem}
 use Rattle.row_length.proofs.Theorem.{rewritten_length, standing_same, swept_length, swept_low}
-use Rattle.row_length.proofs.Rows.{row_front}
 
 -- ---- an eighth of a whole number, in units
 
@@ -72,27 +71,24 @@ module _ (t : Table) (m rank : ℕ) (factor : List Float) (accepted : Accepted m
   pub rule3_length : (i : ℕ) → i < m → rewrites (prepared_cols t) (prepared_values t) (work_starts t m) rank factor i ≡ true
       → UnitLength (row_of rank (stepped CoordNoStep (prepared_rows t) (prepared_cols t) (prepared_values t) (work_starts t m) m rank factor) i)
   unfolding stepped
-  rule3_length = rewritten_length (prepared_cols t) (prepared_values t) (work_starts t m) m rank factor input
+  rule3_length = rewritten_length input
 
   pub rule3_standing : (i : ℕ) → i < m → rewrites (prepared_cols t) (prepared_values t) (work_starts t m) rank factor i ≡ false
       → row_of rank (stepped CoordNoStep (prepared_rows t) (prepared_cols t) (prepared_values t) (work_starts t m) m rank factor) i ≡ row_of rank factor i
   unfolding stepped
-  rule3_standing = standing_same (prepared_cols t) (prepared_values t) (work_starts t m) m rank factor input
+  rule3_standing = standing_same input
 
   pub rule3_size : length (stepped CoordNoStep (prepared_rows t) (prepared_cols t) (prepared_values t) (work_starts t m) m rank factor) ≡ m * rank
   unfolding stepped
-  rule3_size = swept_length (prepared_cols t) (prepared_values t) (work_starts t m) m rank factor input
-
-  at_row : (k : ℕ) → k < m * rank → AtMostTwo (at (sweep_to (prepared_cols t) (prepared_values t) (work_starts t m) rank zero64 factor m) k)
-  at_row k h =
-      let some : 0 < rank = rank_some k m rank h in
-      subst (λ (l : ℕ). AtMostTwo (at (sweep_to (prepared_cols t) (prepared_values t) (work_starts t m) rank zero64 factor m) l)) (div-add-mod' k rank)
-      (swept_low (prepared_cols t) (prepared_values t) (work_starts t m) m rank factor input (k / rank) (k % rank) ((div-lt_iff_lt-mul some).1 h) (mod-lt k some))
+  rule3_size = swept_length input
 
   -- every number is finite and at most 2 in magnitude again, so that all this holds of the next sweep
   pub rule3_low : (k : ℕ) → k < m * rank → AtMostTwo (at (stepped CoordNoStep (prepared_rows t) (prepared_cols t) (prepared_values t) (work_starts t m) m rank factor) k)
   unfolding stepped
-  rule3_low = at_row
+  rule3_low k h =
+      let some : 0 < rank = rank_some k m rank h in
+      subst (λ (l : ℕ). AtMostTwo (at (sweep_to (prepared_cols t) (prepared_values t) (work_starts t m) rank zero64 factor m) l)) (div-add-mod' k rank)
+      (swept_low input (k / rank) (k % rank) ((div-lt_iff_lt-mul some).1 h) (mod-lt k some))
 
 -- ---- the slice that a sweep is lent: m rows, and what lies past them
 

@@ -10,7 +10,7 @@ use lib.Pow.{pow_pos, pow_mono}
 use lib.Ieee.{Float, nan, inf, fin, binary64, fits, round}
 use lib.Ieee.Fits.{round-fits}
 use lib.Ieee.Positive.{positive, positive_of_value, positive-finite, value_pos}
-use Rattle.laws.proofs.Made.{below_or_not}
+use Rattle.std.proofs.lemmas.Bool.{cases_lt}
 use Rattle.ieee.specs.Sqrt.{sqrt_of}
 use Rattle.ieee.specs.Scale.{radicand}
 use Rattle.ieee.specs.Nearest.{units_of, Nearer, NearestRoot}
@@ -31,7 +31,7 @@ grow : (n : ℕ) → Floor n → Floor (suc n)
 grow n f = ⊎_elim
     (λ h. record { w = f.w; under = omega (arith, f.under); over = h })
     (λ h. record { w = suc f.w; under = h; over = omega (arith, f.over) })
-    (below_or_not (suc n) (suc f.w * suc f.w))
+    (cases_lt (suc n) (suc f.w * suc f.w))
 
 floor : (n : ℕ) → Floor n
 floor zero = record { w = 0; under = lit≤ tt; over = lit< tt }
@@ -51,7 +51,7 @@ between n w Y N u o c = ⊎_elim
     (λ e. record { up = inl (omega (arith, e)); lo = inl (omega arith) })
     (λ l. let less : N + Y < 2 * suc w = lt_of_square (lt_of_lt_of_le (c.than_below l) (omega (arith, o))) in record { up = inr (omega arith); lo = inl (omega arith) })
     (eq-or-lt_of_le h))
-    (below_or_not N Y)
+    (cases_lt N Y)
 
 up_join : (K KN KY Kw Y w : ℕ) → 1 ≤ K → KN + KY ≤ 2 * Kw + K → Kw ≤ KY + (1 * Y + K) → Y ≤ 2 * w + 2 → KN ≤ Kw + (4 * w + 4 * K)
 up_join K KN KY Kw Y w p a b c = omega arith

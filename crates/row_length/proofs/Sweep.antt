@@ -22,7 +22,8 @@ use Rattle.ieee.specs.Sqrt.{sqrt_of}
 use Rattle.factor.specs.Shapes.{Shaped}
 use Rattle.factor.specs.Norms.{squared_norm}
 use Rattle.coordinate_sweep.specs.Sweep.{exact_row, wrote, update_row, gradient_at, row_to, row_by, swept_row, sweep_to}
-use Rattle.coordinate_sweep.proofs.TwoRows.{length_updated, get_d_other, shaped_still}
+use Rattle.factor.proofs.Shaping.{reshaped}
+use Rattle.coordinate_sweep.proofs.TwoRows.{length_updated, get_d_other}
 use Rattle.row_length.specs.Length.{rewrites}
 use Rattle.float_error.proofs.Values.{AtMost}
 use Rattle.row_length.proofs.Norm.{Entry}
@@ -32,13 +33,9 @@ use Rattle.row_length.proofs.Rows.{row_same, length_set, get_d_same, row_other, 
 
 -- ---- what a row becomes
 
-still : eq zero64 zero64 ≡ true
-unfolding eq of_bits
-still = refl
-
 written : (g row : List Float) (norm : Float) → wrote norm ≡ true → update_row zero64 g norm row ≡ exact_row g (one64 /ᶠ norm) row
-unfolding update_row
-written g row norm e = rw (e, still)
+unfolding update_row eq of_bits
+written g row norm e = rw e
 
 standing : (g row : List Float) (norm : Float) → wrote norm ≡ false → update_row zero64 g norm row ≡ row
 unfolding update_row
@@ -143,7 +140,7 @@ module _ (cols : List ℕ) (values : List Float) (starts : List ℕ) (m rank : �
 
       next_bounded : Bounded next
       next_bounded = record {
-        shaped = shaped_still cols values starts factor next m rank b.shaped (length_set rank i factor new (row_in i h) new_length);
+        shaped = reshaped b.shaped (length_set rank i factor new (row_in i h) new_length);
         small = λ k j l o. go k j l o (ℕ_discrete k i);
       }
         where

@@ -17,10 +17,9 @@ use Rattle.laws.proofs.Parts.{length_row_of, row_within}
 use Rattle.ieee.specs.Floats.{at, zero64}
 use Rattle.coordinate_sweep.specs.Sweep.{sweep_to}
 use Rattle.float_error.specs.Units.{whole_units}
-use Rattle.row_length.specs.Length.{FiniteUpTo, AtMostTwo, squared_length, one, allowed, UnitLength, SweepInput, rewrites}
+use Rattle.row_length.specs.Length.{FiniteUpTo, AtMostTwo, squared_length, allowed, UnitLength, SweepInput, rewrites}
 use Rattle.float_error.proofs.Values.{AtMost, own_units, sign_of, is_finite}
 use Rattle.row_length.proofs.Norm.{square_at}
-use Rattle.row_length.proofs.Chain.{Unit}
 use Rattle.row_length.proofs.Row.{Done}
 use Rattle.row_length.proofs.Rows.{row_element}
 use Rattle.row_length.proofs.Sweep.{Bounded, sweep_bounded, sweep_done, sweep_standing}
@@ -36,20 +35,14 @@ by_bits row d =
     total_ext (length row) (λ j. whole_units (at row j) * whole_units (at row j)) (square_at row)
     (λ j h. ap (λ (u : ℕ). u * u) (whole_units_lem (at row j) (d.held j h) (d.in_reach j h)))
 
-most_of : (z : ℕ) → Unit (2 ^ 1074) z → z ≤ one + allowed
-most_of z u = le_of_mul-le-mul_left {k = 2 ^ 40} (le_trans u.most (lit≤ tt)) (lit< tt)
-
-least_of : (z : ℕ) → Unit (2 ^ 1074) z → one ≤ z + allowed
-least_of z u = le_of_mul-le-mul_left {k = 2 ^ 40} (le_trans u.least (le_of_eq (sym (mul-add (2 ^ 40) z allowed)))) (lit< tt)
-
 done_length : (row : List Float) → Done row → UnitLength row
 done_length row d = record {
   all_finite = d.in_reach;
-  most = subst (λ (z : ℕ). z ≤ one + allowed) (sym (by_bits row d)) (most_of (total (length row) (square_at row)) d.unit);
-  least = subst (λ (z : ℕ). one ≤ z + allowed) (sym (by_bits row d)) (least_of (total (length row) (square_at row)) d.unit);
+  most = rw (by_bits row d) (le_of_mul-le-mul_left {k = 2 ^ 40} (le_trans d.unit.most (lit≤ tt)) (lit< tt));
+  least = rw (by_bits row d) (le_of_mul-le-mul_left {k = 2 ^ 40} (le_trans d.unit.least (le_of_eq (sym (mul-add (2 ^ 40) _ allowed)))) (lit< tt));
 }
 
-module _ (cols : List ℕ) (values : List Float) (starts : List ℕ) (m rank : ℕ) (factor : List Float) (s : SweepInput cols values starts m rank factor) where
+module _ {cols : List ℕ} {values : List Float} {starts : List ℕ} {m rank : ℕ} {factor : List Float} (s : SweepInput cols values starts m rank factor) where
   start : Bounded cols values starts m rank factor
   start = record {
     shaped = s.shaped;

@@ -7,21 +7,22 @@ use native.Mathlib.Omega.{arith}
 use borrow.Author.Tests.{ltb-false, le-ltb, eqb-true, eqb-false, not-false}
 use lib.Dec.{ltb, eqb}
 use lib.Ieee.{Float}
+use mathlib.Core.List.{[], ◌∷◌}
 use lib.ListN.{length}
+use Rattle.laws.specs.Refusal.{◌if◌, first}
 use Rattle.laws.proofs.Refusal.{clear, first_head, first_rest}
 use Rattle.std.proofs.lemmas.Bool.{or_parts}
 use Rattle.laws.proofs.Any.{any_head, any_rest, any_not, any_none}
 use Rattle.limits.specs.Limits.{most_wagons, most_entries, most_magnitude, most_rank, most_width}
 use Rattle.tables.specs.Table.{Lent}
 use Rattle.tables.specs.Check.{Hall}
-use Rattle.tables.proofs.Checks.{hall_accepted}
+use Rattle.tables.proofs.Checks.{hall_accepted, long_enough}
 use Rattle.run_record.specs.declared.Run.{Run}
 use Rattle.tables.specs.CostTable.{CostTable, quadratic, linear}
 use Rattle.run_limits.specs.Momentum.{is_momentum}
 use Rattle.run_limits.specs.Start.{is_signs, draws_follow, start_count, start_length}
 use Rattle.run_limits.specs.Draws.{bad_draws}
 use Rattle.run_record.specs.Numbers.{table_short, factor_refused, factor_short, record_refused, cost_table_number, sweep_short, sweep_number, member_number, draws_short, choice_short, FinishLengths, finish_short, width_refused, finish_number, open_rank_refused, start_short, open_factor_short, open_short, open_number, rule_refused, exchange_number, bad_momentum}
-use Rattle.run_record.proofs.Short.{tested}
 use Rattle.run_record.proofs.Holds.{table_lent, costs_lent}
 use Rattle.run_limits.proofs.Ranks.{meant_low, meant_some}
 use Rattle.run_limits.proofs.Counts.{draws_some, draws_few}
@@ -74,7 +75,7 @@ size_of a = eqb-true _ _ (not-false _ a.size_test)
 
 factor_long : (run : Run) (t : CostTable) (lent : ℕ) → HallOf t → Agrees run t.n → factor_short t.n run.size run.rank lent ≡ false → used run ≤ lent
 unfolding factor_short factor_refused
-factor_long run t lent hall a e = tested _ _ _ (any_not _ _ (few_wagons t hall) (any_not _ _ a.size_test (any_not _ _ a.some_test (any_not _ _ a.few_test any_none)))) e
+factor_long run t lent hall a e = long_enough e (any_not _ _ (few_wagons t hall) (any_not _ _ a.size_test (any_not _ _ a.some_test (any_not _ _ a.few_test any_none))))
 
 -- ---- open
 
@@ -108,8 +109,8 @@ module _ (o : Settings) (factor : ℕ) where
         rule_few = ltb-false 4 o.rule (or_parts (ltb 4 o.rule) _ rule_good).0;
         rank_some = meant_some (open_size o) o.rank;
         rank_few = meant_low (open_size o) o.rank (omega (arith, hall.wagons)) (taken_low o.rank o.start rank-good);
-        numbers_room = tested _ _ _ (any_not _ _ few (any_not _ _ rank-good (any_not _ _ kind-good any_none))) (any_head _ _ (any_rest _ _ s));
-        factor_room = tested _ _ _ (any_not _ _ few (any_not _ _ rank-good any_none)) (any_head _ _ (any_rest _ _ (any_rest _ _ s)));
+        numbers_room = long_enough (any_head _ _ (any_rest _ _ s)) (any_not _ _ few (any_not _ _ rank-good (any_not _ _ kind-good any_none)));
+        factor_room = long_enough (any_head _ _ (any_rest _ _ (any_rest _ _ s))) (any_not _ _ few (any_not _ _ rank-good any_none));
       }
 
 -- ---- sweep
@@ -126,11 +127,12 @@ pub record Sweeping (run : Run) (t : CostTable) (factor : ℕ) : Type 0 where
   pub factor_room : used run ≤ factor
 
 module _ (run : Run) (t : CostTable) (factor : ℕ) where
-  fit : sweep_short run t factor ≡ false → record_refused run t.n ≡ false → cost_table_number t ≡ 0 → Sweeping run t factor
+  fit : (31 if sweep_short run t factor) ≡ 0 → first (33 if record_refused run t.n ∷ cost_table_number t ∷ 18 if bad_momentum run.rule ∷ []) ≡ 0 → Sweeping run t factor
   unfolding sweep_short
-  fit s r h =
-      let a = agrees run t.n r in
-      let hall : HallOf t = hall_accepted h in
+  fit enough past =
+      let s = clear (sweep_short run t factor) 30 enough in
+      let a = agrees run t.n (clear (record_refused run t.n) 32 (first_head _ _ past)) in
+      let hall : HallOf t = hall_accepted (first_head _ _ (first_rest _ _ past)) in
       let table : table_short t ≡ false = any_head _ _ s in
       record {
         slices = table_lent t table hall.entries;
@@ -145,16 +147,12 @@ module _ (run : Run) (t : CostTable) (factor : ℕ) where
 
   pub sweep_accepted : sweep_number run t factor ≡ 0 → Sweeping run t factor
   unfolding sweep_number
-  sweep_accepted ok =
-      let past = first_rest _ _ (first_rest _ _ ok) in
-      fit (clear (sweep_short run t factor) 30 (first_head _ _ ok)) (clear (record_refused run t.n) 32 (first_head _ _ past)) (first_head _ _ (first_rest _ _ past))
+  sweep_accepted ok = fit (first_head _ _ ok) (first_rest _ _ (first_rest _ _ ok))
 
   -- a run among several, stopped or not, is as fit
   pub member_accepted : member_number run t factor ≡ 0 → Sweeping run t factor
   unfolding member_number
-  member_accepted ok =
-      let past = first_rest _ _ ok in
-      fit (clear (sweep_short run t factor) 30 (first_head _ _ ok)) (clear (record_refused run t.n) 32 (first_head _ _ past)) (first_head _ _ (first_rest _ _ past))
+  member_accepted ok = fit (first_head _ _ ok) (first_rest _ _ ok)
 
 -- ---- finish
 
@@ -195,10 +193,10 @@ module _ (run : Run) (t : CostTable) (width draw_count : ℕ) (lent : FinishLeng
           width_few = ltb-false _ _ (or_parts (ltb most_width width) (bad_draws draw_count) settings).0;
           draws_some = draws_some draw_count draws;
           draws_few = draws_few draw_count draws;
-          draws_room = tested _ _ _ (any_not _ _ draws (any_not _ _ a.some_test (any_not _ _ a.few_test any_none))) (any_head _ _ s₁);
+          draws_room = long_enough (any_head _ _ s₁) (any_not _ _ draws (any_not _ _ a.some_test (any_not _ _ a.few_test any_none)));
           factor_room = rw (sym (add-one t.n), sym (size_of a)) room;
-          b_room = tested _ _ _ few (any_head _ _ (any_head _ _ s₃));
-          multipliers_room = rw (sym (add-one t.n)) (tested _ _ _ few (any_head _ _ (any_rest _ _ (any_head _ _ s₃))));
+          b_room = long_enough (any_head _ _ (any_head _ _ s₃)) few;
+          multipliers_room = rw (sym (add-one t.n)) (long_enough (any_head _ _ (any_rest _ _ (any_head _ _ s₃))) few);
           space_room = ltb-false _ _ (any_head _ _ (any_rest _ _ s₃));
         };
       }

@@ -12,7 +12,6 @@ use mathlib.Core.Bool.{Bool, true, false, not, cond}
 use mathlib.Core.List.{List, [], ◌∷◌, ◌++◌}
 use mathlib.Core.Logic.{◌⊎◌, inl, inr}
 use mathlib.Core.Option.{Option, some, none}
-use native.Mathlib.Nat.{mul-suc}
 use native.Mathlib.Numerals.{add-one}
 use native.Mathlib.Omega.{arith}
 use borrow.Author.Tests.{not-true}
@@ -20,7 +19,7 @@ use lib.Ieee.{Float, le}
 use lib.ListN.{length, get_or, take, length-append}
 use Rattle.std.specs.Prelude.{Ok}
 use Rattle.laws.specs.Lists.{only_if, kept}
-use Rattle.laws.proofs.Made.{below_or_not}
+use Rattle.std.proofs.lemmas.Bool.{cases_lt}
 use Rattle.ieee.specs.Floats.{tiny, zero64}
 use Rattle.coordinate_sweep.specs.Sweep.{standing_to}
 use Rattle.step_rules.specs.declared.StepRule.{StepRule}
@@ -30,6 +29,7 @@ use Rattle.step_rules.proofs.Standing.{standing_in_few}
 use Rattle.run_record.specs.declared.Run.{Run}
 use Rattle.run_sweep.specs.Work.{Work}
 use Rattle.run_sweep.specs.Sweep.{State, advanced, run_after}
+use Rattle.run_sweep.proofs.Loop.{one_more}
 use Rattle.run_contract.specs.Calls.{Settings, Opens, used, finish_result}
 use Rattle.run_contract.specs.Schedule.{coordinate_momentum}
 use Rattle.run_contract.specs.PlainRun.{Plain, Call, plain_open, with_rule, rows_left, record_of, plain_after, FinishCall, finish_of, Seen, plain_seen, plain_trace}
@@ -41,7 +41,7 @@ use Rattle.run_contract.proofs.EachSweep.{of_list}
 
 -- ---- one sweep: its pairs are as many as the rows that it leaves
 
-length_only : {A : Type 0} (b : Bool) (x : A) → length (only_if (not b) x) ≡ cond b 0 1
+pub length_only : {A : Type 0} (b : Bool) (x : A) → length (only_if (not b) x) ≡ cond b 0 1
 length_only true x = refl
 length_only false x = refl
 
@@ -114,12 +114,6 @@ numbered_append : (n k : ℕ) (xs ys : List Made) → Numbered n xs → k ≡ n 
 numbered_append n k [] ys a e b = let z : k ≡ n = omega arith in subst (λ (m : ℕ). Numbered m ys) z b
 numbered_append n k (s ∷ xs) ys a e b = (a.0, numbered_append (suc n) k xs ys a.1 (omega arith) b)
 
-one_more : (total size sweeps left total' size' sweeps' : ℕ) → total' ≡ total + left → size' ≡ size → sweeps' ≡ sweeps + 1 → left ≤ size
-    → total ≤ size * sweeps → total' ≤ size' * sweeps'
-one_more total size sweeps left total' size' sweeps' t z w few l =
-    let s : size * (sweeps + 1) ≡ size * sweeps + size = rw (add-one sweeps) (mul-suc size sweeps) in
-    rw (t, z, w) (omega arith)
-
 grown_join : (p q r : Plain) (xs ys : List Made) → Grown p q xs → Grown q r ys → Grown p r (xs ++ ys)
 grown_join p q r xs ys a b =
     let n = pairs_append xs ys in
@@ -142,8 +136,7 @@ grown_one w p =
       sweeps_are = omega (arith, turned_sweeps w p);
       size_is = turned_size w p;
       numbers_are = (add-one p.sweeps, tt);
-      few_stay = one_more p.standing p.size p.sweeps (rows_left w p) (turned w p).standing (turned w p).size (turned w p).sweeps (turned_standing w p) (turned_size w p)
-          (turned_sweeps w p) (left_few w p);
+      few_stay = λ l. rw (turned_standing w p, turned_size w p, turned_sweeps w p) (one_more p.standing p.size p.sweeps (rows_left w p) l (left_few w p));
     }
 
 grown_rule : (p : Plain) (rule : StepRule) → Grown p (with_rule p rule) []
@@ -217,7 +210,7 @@ at_only false x e = let no : ◌≡◌ {A = ℕ} 0 1 = cc in absurd (omega arith
 at_kept : {A : Type 0} (keep : ℕ → Bool) (f : ℕ → A) (n i : ℕ) → i < n → keep i ≡ true → Among (f i) (kept keep f n)
 unfolding kept
 at_kept keep f zero i l k = absurd (omega arith)
-at_kept keep f (suc n) i l k = by (λ b. at_kept keep f n i b k) (below_or_not i n)
+at_kept keep f (suc n) i l k = by (λ b. at_kept keep f n i b k) (cases_lt i n)
   where
     by : (i < n → Among (f i) (kept keep f n)) → (i < n) ⊎ (n ≤ i) → Among (f i) (kept keep f n ++ only_if (keep n) (f n))
     by below (inl b) = among_left (f i) (kept keep f n) (only_if (keep n) (f n)) (below b)

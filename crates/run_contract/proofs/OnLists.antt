@@ -2,7 +2,7 @@
 -- ones included, is seen as 01's plain run has it. By induction on the list. Assumes nothing.
 use Prim.Native.Nat.{ℕ, zero, suc, ◌*◌, ◌≤◌}
 use mathlib.Core.Path.{◌≡◌, refl, sym, ap, ◌∙◌, subst}
-use mathlib.Core.Bool.{Bool, true, false, cond}
+use mathlib.Core.Bool.{cond}
 use mathlib.Core.List.{List, ◌∷◌, ◌++◌, append-nil}
 use mathlib.Core.Option.{Option, some, none}
 use native.Mathlib.Omega.{arith}
@@ -14,6 +14,7 @@ use borrow.Author.Tests.{eq-eqb, ne_eqb}
 use Rattle.std.specs.Result.{result_unwrap_or}
 use Rattle.std.specs.Prelude.{Result, Ok, Err}
 use Rattle.laws.specs.Lists.{over}
+use Rattle.laws.proofs.Any.{cond_same}
 use Rattle.run_record.specs.declared.Run.{Run}
 use Rattle.run_record.specs.declared.Stage.TheVariants.{Open, Stopped}
 use Rattle.tables.specs.CostTable.{quadratic, linear}
@@ -56,10 +57,6 @@ Keeps p q = (length q.factor ≡ length p.factor) × (q.size ≡ p.size) × (q.r
 
 pub whole_kept : (p q : Plain) → Keeps p q → Whole p → Whole q
 whole_kept p q k w = k.0 ∙ w ∙ (cc)
-
-either : (b : Bool) → cond {A = Option Given} b none none ≡ none
-either true = refl
-either false = refl
 
 keeps_turned : (w : Work) (p : Plain) → Keeps p (turned w p)
 unfolding state_of record_of run_after advanced swept_factor
@@ -116,7 +113,7 @@ module _ (p : Plain) (call : SweepCall) (factor : List Float) (number : ℕ) (ru
 
   sweep_seen : seen_of number none run' (kept_after p.factor call.factor_length factor') ≡ plain_seen p (sweep call)
   unfolding plain_seen
-  sweep_seen = rw (sweep_left.0, sweep_left.1, sweep_number_lem, either (eqb (plain_number p (sweep call)) 0))
+  sweep_seen = rw (sweep_left.0, sweep_left.1, sweep_number_lem, cond_same {A = Option Given} (eqb (plain_number p (sweep call)) 0) none)
 
 -- ---- a finish call from a plain run's state
 
@@ -205,7 +202,7 @@ module _ (p : Plain) (call : ExchangeCall) (number : ℕ) (run' : Run) (w : Whol
       ap (λ (r : Run). seen_of number none r p.factor) exchange_left.0
       ∙ ap (λ (v : List Float). seen_of number none (record_of (plain_after p (exchange call))) v) exchange_left.1
       ∙ ap (λ (m : ℕ). seen_at m none (plain_after p (exchange call))) exchange_number_lem
-      ∙ ap (λ (g : Option Given). seen_at (plain_number p (exchange call)) g (plain_after p (exchange call))) (sym (either (eqb (plain_number p (exchange call)) 0)))
+      ∙ ap (λ (g : Option Given). seen_at (plain_number p (exchange call)) g (plain_after p (exchange call))) (sym (cond_same (eqb (plain_number p (exchange call)) 0) none))
 
 -- ---- the list
 
@@ -236,15 +233,19 @@ follows (exchanges {call = call} {calls = calls} {seen = seen} number run' says 
     ∙ ap (λ (x : Seen). x ∷ seen) (exchange_seen p call number run' w says')
     ∙ ap (λ (xs : List Seen). plain_seen p (exchange call) ∷ xs) (follows chain (plain_after p (exchange call)) left.2 left.0 (f ∙ left.1))
 
+-- an accepted open: its record, and the factor that it leaves, are the plain run's
+pub opened_one : (o : Settings) (lent : List Float) (run : Run) (left : List Float) → Opens o lent (Ok run) left
+    → (run ≡ record_of (plain_open o)) × (take (used run) left ≡ (plain_open o).factor) × Whole (plain_open o)
+unfolding record_of
+opened_one o lent run left opens =
+    let one = plain_open_lem o lent (Ok run) left opens in
+    let ok = one.0 run refl in
+    let started : run ≡ record_of (plain_open o) = ap (λ (r : Result Run ℕ). result_unwrap_or r run) (one.1 ok).0 in
+    (started, ap (λ (h : Run). take (used h) left) started ∙ (one.1 ok).1, open_whole o (length lent) ok)
+
 -- from an accepted open, whatever start, rule, settings and tables
 pub plain_run : (o : Settings) (factor factor' : List Float) (run : Run) (calls : List Call) (seen : List Seen)
     → Opens o factor (Ok run) factor'
     → Chain run (take (used run) factor') calls seen
     → seen ≡ plain_trace (plain_open o) calls
-unfolding record_of
-plain_run o factor factor' run calls seen opens chain =
-    let opened = plain_open_lem o factor (Ok run) factor' opens in
-    let ok = opened.0 run refl in
-    let started : run ≡ record_of (plain_open o) = ap (λ (r : Result Run ℕ). result_unwrap_or r run) (opened.1 ok).0 in
-    follows chain (plain_open o) (open_whole o (length factor) ok) started
-    (ap (λ (h : Run). take (used h) factor') started ∙ (opened.1 ok).1)
+plain_run o factor factor' run calls seen opens chain = let one = opened_one o factor run factor' opens in follows chain (plain_open o) one.2 one.0 one.1

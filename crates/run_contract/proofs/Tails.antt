@@ -6,9 +6,10 @@ use mathlib.Core.List.{List}
 use native.Mathlib.Omega.{arith}
 use lib.Ieee.{Float}
 use lib.ListN.{length, take, drop}
-use lib.Seq.{drop_at, get_or-drop, length-take-le}
+use lib.Seq.{get_or-drop, length-take-le}
 use Rattle.std.specs.Prelude.{Result}
-use Rattle.laws.specs.Lists.{over, elem}
+use Rattle.laws.specs.Lists.{elem}
+use Rattle.laws.proofs.Parts.{over_tail}
 use Rattle.limits.specs.Limits.{search_workspace}
 use Rattle.run_record.specs.declared.Run.{Run}
 use Rattle.run_record.specs.declared.Stage.{Stage}
@@ -22,10 +23,6 @@ use Rattle.run_contract.specs.PlainRun.{plain_open}
 use Rattle.run_contract.proofs.Accepting.{sweep_accepted}
 use Rattle.run_contract.proofs.Lengths.{length_stepped, length_choice, length_multipliers}
 use Rattle.run_contract.proofs.Opening.{open_whole}
-
--- behind a front of n
-over_tail : {A : Type 0} (front xs ys : List A) (n : ℕ) → length front ≡ n → ys ≡ over front xs → drop n ys ≡ drop n xs
-over_tail front xs ys n e is = ap (drop n) is ∙ drop_at front (drop (length front) xs) n e ∙ ap (λ (k : ℕ). drop k xs) e
 
 -- ---- open
 

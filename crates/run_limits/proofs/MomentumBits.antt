@@ -38,13 +38,10 @@ long : (n : ℕ) → 2 ^ 1074 ≤ n → 1074 < size n
 long n h = lt_of_not-le (λ s. lt_irrefl n (lt_of_lt_of_le (size-lt n) (le_trans (pow_mono {j = 1074} s) h)))
 
 -- 53 digits are left of one that has more
-last_place : (s : ℕ) → 1074 < s → 52 + (s - 53) < s
-last_place s h = omega arith
-
 leading : (n : ℕ) → 1074 < size n → 2 ^ 52 ≤ n / 2 ^ (size n - 53)
 leading n h =
     let k = size n - 53 in
-    let l : 2 ^ 52 * 2 ^ k ≤ n = le_trans (le_of_eq (sym (pow-add 2 52 k))) (size_reaches n (52 + k) (last_place (size n) h)) in
+    let l : 2 ^ 52 * 2 ^ k ≤ n = le_trans (le_of_eq (sym (pow-add 2 52 k))) (size_reaches n (52 + k) (omega arith)) in
     le_trans (le_of_eq (sym (shl-shr (2 ^ 52) k))) (shr_mono k l)
 
 from_one : (n : ℕ) → 2 ^ 1074 ≤ n → one_bits ≤ magnitude_bits n

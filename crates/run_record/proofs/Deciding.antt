@@ -153,20 +153,16 @@ is_first k (c ∷ rest) p n = by (eqb k c.number) refl p n (is_first k rest)
     by true e p n more = here p (eqb-true k c.number e)
     by false e p n more = later n.0 (more p n.1)
 
+-- what is said of a clause and of the rest, where neither has the number that is asked for
+apart : {a : Bool} {p q : Type 0} (b : Bool) → (b || a) ≡ false → cond b (Unit {0}) ((p → ⊥) × q) → (a ≡ false) × (p → ⊥) × q
+apart true z n = absurd (false≢true (sym z))
+apart false z n = (z, n.0, n.1)
+
 -- where none holds, 0 is
 is_zero : {k : ℕ} {clauses : List Clause} → FirstOf k clauses → is_among 0 clauses ≡ false → NoneBefore 0 clauses → k ≡ 0
 is_zero (no_more e) z n = e
-is_zero {k} (here {c} {rest} p e) z n = by (eqb 0 c.number) z n
-  where
-    by : (b : Bool) → (b || is_among 0 rest) ≡ false → cond b (Unit {0}) ((c.condition → ⊥) × NoneBefore 0 rest) → k ≡ 0
-    by true z n = absurd (false≢true (sym z))
-    by false z n = absurd (n.0 p)
-is_zero {k} (later {c} {rest} m more) z n = by (eqb 0 c.number) z n (is_zero more)
-  where
-    by : (b : Bool) → (b || is_among 0 rest) ≡ false → cond b (Unit {0}) ((c.condition → ⊥) × NoneBefore 0 rest)
-        → (is_among 0 rest ≡ false → NoneBefore 0 rest → k ≡ 0) → k ≡ 0
-    by true z n rest' = absurd (false≢true (sym z))
-    by false z n rest' = rest' z n.1
+is_zero (here {c} p e) z n = absurd ((apart (eqb 0 c.number) z n).1 p)
+is_zero (later {c} m more) z n = let d = apart (eqb 0 c.number) z n in is_zero more d.0 d.2
 
 pub answered : {k : ℕ} {clauses : List Clause} → FirstOf k clauses → distinct clauses ≡ true → is_among 0 clauses ≡ false → Answered k clauses
 answered {k} {clauses} f d z =

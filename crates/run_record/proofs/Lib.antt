@@ -1,4 +1,3 @@
-pub mod Short
 pub mod Ranked
 pub mod Holds
 pub mod Deciding

@@ -111,7 +111,7 @@ pub fn open_rank_refused(rank: usize, start: u8) -> bool
 }
 
 // 31 of the start's numbers.
-#[tactic(auto, unfolding(crate::specs::Numbers::start_short, laws::specs::Refusal::any_of, laws::specs::Refusal::short))]
+#[tactic(auto, unfolding(crate::specs::Numbers::start_short, laws::specs::Refusal::any_of, laws::specs::Refusal::short), using(crate::proofs::Ranked::taken_low))]
 fn start_short(n: usize, asked: OpenSettings, numbers: usize) -> bool
     ensures { result ≡ start_short n asked.rank asked.most asked.start numbers }
 {
@@ -129,7 +129,7 @@ fn start_short(n: usize, asked: OpenSettings, numbers: usize) -> bool
 }
 
 // 31 of the factor that an open writes.
-#[tactic(auto, unfolding(crate::specs::Numbers::open_factor_short, laws::specs::Refusal::any_of, laws::specs::Refusal::short))]
+#[tactic(auto, unfolding(crate::specs::Numbers::open_factor_short, laws::specs::Refusal::any_of, laws::specs::Refusal::short), using(crate::proofs::Ranked::taken_low))]
 fn open_factor_short(n: usize, asked: OpenSettings, factor: usize) -> bool
     ensures { result ≡ open_factor_short n asked.rank asked.start factor }
 {

@@ -107,7 +107,7 @@ fn record_number(run: Run, hall: LentHall) -> Result<(), Refusal>
 }
 
 // What a sweep refuses.
-#[tactic(auto, unfolding(crate::specs::Numbers::sweep_number, crate::specs::Numbers::sweep_short, laws::specs::Refusal::first, laws::specs::Refusal::or_else))]
+#[tactic(auto, unfolding(crate::specs::Numbers::sweep_number, crate::specs::Numbers::sweep_short, laws::specs::Refusal::first, laws::specs::Refusal::or_else), using(laws::proofs::Any::any_head))]
 pub fn sweep_number(run: Run, hall: LentHall, factor: usize) -> Result<(), Refusal>
     ensures { numbered result ≡ sweep_number run (costs_of hall.entry) factor }
 {
@@ -121,7 +121,7 @@ pub fn sweep_number(run: Run, hall: LentHall, factor: usize) -> Result<(), Refus
 }
 
 // What a turn refuses of a run among several, stopped or not.
-#[tactic(auto, unfolding(crate::specs::Numbers::member_number, crate::specs::Numbers::sweep_short, laws::specs::Refusal::first, laws::specs::Refusal::or_else))]
+#[tactic(auto, unfolding(crate::specs::Numbers::member_number, crate::specs::Numbers::sweep_short, laws::specs::Refusal::first, laws::specs::Refusal::or_else), using(laws::proofs::Any::any_head))]
 pub fn member_number(run: Run, hall: LentHall, factor: usize) -> Result<(), Refusal>
     ensures { numbered result ≡ member_number run (costs_of hall.entry) factor }
 {
@@ -140,7 +140,7 @@ fn width_refused(width: usize, draw_count: usize) -> bool
 }
 
 // What a finish refuses.
-#[tactic(auto, unfolding(crate::specs::Numbers::finish_number, laws::specs::Refusal::first, laws::specs::Refusal::or_else))]
+#[tactic(auto, unfolding(crate::specs::Numbers::finish_number, crate::specs::Numbers::finish_short, laws::specs::Refusal::first, laws::specs::Refusal::or_else), using(laws::proofs::Any::any_head))]
 pub fn finish_number(
     run: Run,
     hall: LentHall,
@@ -172,7 +172,7 @@ fn rule_refused(rule: u8, number: f64) -> bool
 }
 
 // What an open refuses.
-#[tactic(auto, unfolding(crate::specs::Numbers::open_number, laws::specs::Refusal::first, laws::specs::Refusal::or_else))]
+#[tactic(auto, unfolding(crate::specs::Numbers::open_number, crate::specs::Numbers::open_short, laws::specs::Refusal::first, laws::specs::Refusal::or_else), using(laws::proofs::Any::any_head))]
 pub fn open_number(
     hall: LentHall,
     asked: OpenSettings,

@@ -14,7 +14,7 @@ use Rattle.run_record.specs.declared.Stage.{Stage}
 use Rattle.run_record.specs.declared.Stage.TheVariants.{Open, Stopped}
 use Rattle.run_record.specs.declared.Run.{Run}
 use Rattle.laws.specs.Refusal.{any_of}
-use Rattle.factor.specs.Shapes.{Shaped}
+use Rattle.factor.proofs.Shaping.{reshaped}
 use Rattle.step_rules.proofs.Standing.{standing_in_few}
 use Rattle.run_record.specs.Numbers.{is_stopped}
 use Rattle.run_sweep.specs.Work.{Work}
@@ -57,7 +57,7 @@ unfolding stage_after
 full_stops found false stage e = refl
 full_stops found true stage e = absurd (at_most (eqb found 0) stage e)
 
-one_more : (standing size sweeps left : ℕ) → standing ≤ size * sweeps → left ≤ size → standing + left ≤ size * (sweeps + 1)
+pub one_more : (standing size sweeps left : ℕ) → standing ≤ size * sweeps → left ≤ size → standing + left ≤ size * (sweeps + 1)
 one_more standing size sweeps left l m = let s : size * (sweeps + 1) ≡ size * sweeps + size = rw (add-one sweeps) (mul-suc size sweeps) in omega arith
 
 -- so an open run has a sweep left, after each sweep too, and at most all rows stand
@@ -92,17 +92,6 @@ turn w k made run run' factor factor' whole l open' left few swept after inv = (
 pub after_factor : (run : Run) (w : Work) (left : ℕ) {run' : Run} {factor factor' : List Float} → run' ≡ run_after run w factor left → factor' ≡ factor
     → run' ≡ run_after run w factor' left
 after_factor run w left e f = e ∙ ap (λ (v : List Float). run_after run w v left) (sym f)
-
--- and by the rows that it left
-pub after_left : (run : Run) (w : Work) (factor : List Float) {run' : Run} {left left' : ℕ} → run' ≡ run_after run w factor left → left' ≡ left
-    → run' ≡ run_after run w factor left'
-after_left run w factor e f = e ∙ ap (λ (n : ℕ). run_after run w factor n) (sym f)
-
--- a factor of the same length is of the same shape
-pub reshaped : {cols : List ℕ} {values : List Float} {starts : List ℕ} {factor factor' : List Float} {m rank : ℕ} → Shaped cols values starts factor m rank → length factor' ≡ length factor
-    → Shaped cols values starts factor' m rank
-reshaped s l =
-    record { paired = s.paired; started = s.started; rising = s.rising; ended = s.ended; columns = s.columns; whole = l ∙ s.whole }
 
 -- a sweep leaves size and rank, and lengths: it can go on
 pub still : {w : Work} (run : Run) (left : ℕ) {run' : Run} {factor factor' : List Float} {product moved dual product' moved' dual' : ℕ} → run' ≡ run_after run w factor' left

@@ -18,6 +18,7 @@ use tables::lent::LentTable;
 // 01's local search from the first signs of `start`, as many as the table has; any byte but 0 is −. The signs of the answer go to `out`, as 0 and 1;
 // its objective in eighths and the rounds are answered.
 // The workspace holds a level: 1,024 words at least; a longer one keeps its tail.
+#[tactic(auto, using(crate::proofs::Numbers::call_ready))]
 pub fn beam_search(
     table: LentTable,
     width: usize,

@@ -10,6 +10,7 @@ use sign_words::pack::sign_digit;
 use tables::entries::Entries;
 
 // The first signs of `start`, as many as `kept` holds, each as 0 or 1.
+#[tactic(auto, unfolding(laws::specs::Lists::tabulate))]
 fn read_signs(start: &[u8], kept: &mut [u8])
     requires { length kept.old ≤ length start.now }
     ensures { kept.new ≡ sign_bytes (length kept.old) start.now }
@@ -20,6 +21,7 @@ fn read_signs(start: &[u8], kept: &mut [u8])
 }
 
 // Searches from the first signs of `start`, as many as `kept` holds, which takes the answer's.
+#[tactic(auto, using(crate::proofs::Calls::bytes_binary))]
 pub fn search_from(
     table: Entries,
     width: usize,

@@ -10,7 +10,7 @@ use run_record::numbers::exchange_number;
 use step_rules::rule_of;
 
 // Exchanges the rule of an open run and its number: the record after it. The next sweep is made by the new rule, and the stop tests follow it.
-#[tactic(auto, unfolding(run_contract::specs::Calls::exchanged))]
+#[tactic(auto, unfolding(run_contract::specs::Calls::exchanged), using(run_contract::proofs::Accepting::exchange_rule_few))]
 pub fn exchange_rule(run: Run, rule: u8, number: f64) -> Result<Run, Refusal>
     ensures { Exchanges run rule number (numbered result) (result_unwrap_or result run) }
 {

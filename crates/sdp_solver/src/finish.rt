@@ -20,6 +20,7 @@ use tables::lent::LentHall;
 // diagonal's sum would stand beside the relaxed objective, which has it in it. The slices that are written are three `&mut`, for the reason at `finalize`.
 // What is read stays five parameters, as in `finish`: `Finishes` names each apart, so that a struct of them would spare no clause, and each of the four callers
 // would write its literal in the place of the arguments.
+#[tactic(auto, using(run_contract::proofs::Accepting::finish_accepted))]
 pub fn finish_accepted(
     run: Run,
     hall: LentHall,

@@ -58,6 +58,7 @@ pub fn sweep_accepted(run: Run, hall: LentHall, k: u32, factor: &mut [f64]) -> R
 }
 
 // The sweep call by value: the record after it.
+#[tactic(auto, using(run_contract::proofs::Accepting::sweep_accepted))]
 pub fn sweep_run(run: Run, hall: LentHall, k: u32, factor: &mut [f64]) -> Result<Run, Refusal>
     ensures { Sweeps run (costs_of hall.entry) k factor.old (numbered result) (result_unwrap_or result run) factor.new }
 {

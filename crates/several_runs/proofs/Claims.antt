@@ -23,8 +23,8 @@ use Rattle.run_contract.proofs.Follows.{stopped_stays, sweeps_add}
 use Rattle.several_runs.specs.Turn.{Tables, run_at, only_open, open_below, share, share_of}
 use Rattle.several_runs.specs.Shared.{TurnCall, TurnSeen, TurnChain, runs_left, factors_left, kept_at, OpenedAll, work_at, shared_number, shared_share, gets, shared_after, shared_end, accepted_in, got, Makes, alone_at, Shared, OnEveryList}
 use Rattle.several_runs.proofs.Plains.{Left, left_stops, sweeps_made, sweeps_left, most_stops, stopped_same, open_left}
-use Rattle.several_runs.proofs.Counted.{open_below_le, open_below_some, turn_many, count_few}
-use Rattle.several_runs.proofs.OnTurns.{several_runs, then_seen, turn_good, count_good, after_accepted, after_refused}
+use Rattle.several_runs.proofs.Counted.{open_below_le, open_below_some, turn_many}
+use Rattle.several_runs.proofs.OnTurns.{several_runs, then_seen, turn_good, few_runs, after_accepted, after_refused}
 
 -- ---- an open run gets a sweep
 
@@ -40,7 +40,7 @@ open_gets count t at call i l e ok =
     let records : ℕ → Run = (λ j. record_of (at j)) in
     let some = open_below_some records count i l e in
     let many = turn_many call.sweeps (turn_good call.sweeps count records t call.factors_length ok) in
-    let few = count_few count (count_good call.sweeps count records t call.factors_length ok) in
+    let few = few_runs call.sweeps count records t call.factors_length ok in
     let below = open_below_le records count in
     subst (λ (stage : Stage). 1 ≤ only_open stage (share call.sweeps (open_below records count) (open_below records i))) (sym e)
     (share_some call.sweeps (open_below records count) (open_below records i) some (omega arith))

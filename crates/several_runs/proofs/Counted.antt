@@ -44,10 +44,6 @@ one_le Stopped = omega arith
 pub found_few : (at : ℕ → Run) (i : ℕ) {found one : ℕ} → found ≡ open_below at i → one ≡ only_open (at i).stage 1 → i ≤ most_runs → found + one ≤ most_runs + 1
 found_few at i e f l = let a = open_below_le at i in let b = one_le (at i).stage in omega (arith, a, b, e, f)
 
--- an open run is one of them
-pub open_some : {stage : Stage} {k : ℕ} → stage ≡ Open → only_open stage 1 ≤ k → 1 ≤ k
-open_some {stage} {k} e l = subst (λ (s : Stage). only_open s 1 ≤ k) e l
-
 -- eight sweeps or more, eight runs or fewer
 pub turn_many : (sweeps : ℕ) → bad_turn sweeps ≡ false → least_turn ≤ sweeps
 unfolding bad_turn
@@ -67,7 +63,7 @@ unfolding open_below
 open_counts at n i l = total_at n i (λ j. only_open (at j).stage 1) l
 
 pub open_below_some : (at : ℕ → Run) (n i : ℕ) → i < n → (at i).stage ≡ Open → 1 ≤ open_below at n
-open_below_some at n i l e = open_some e (open_counts at n i l)
+open_below_some at n i l e = subst (λ (s : Stage). only_open s 1 ≤ open_below at n) e (open_counts at n i l)
 
 -- ---- by the library's `filter` and `count`
 

@@ -1,14 +1,14 @@
 -- A turn's number, both ways: where it isn't 0, the turn is turned down so as 02 says, and what turns it down is its number. Assumes nothing.
-use Prim.Native.Nat.{ℕ, zero, suc, ◌<◌, ◌≤◌}
+use Prim.Native.Nat.{ℕ, zero, suc, ◌<◌}
 use mathlib.Core.Path.{◌≡◌, refl, sym, ◌∙◌}
 use mathlib.Core.Bool.{Bool, true, false, false≢true}
 use mathlib.Core.List.{[], ◌∷◌}
 use native.Mathlib.Omega.{arith}
-use lib.Dec.{ltb, eqb}
 use borrow.Author.Tests.{ltb-true, eqb-true, eqb-false}
 use Rattle.std.proofs.lemmas.Bool.{false_from_ne_true, true_from_ne_false}
 use Rattle.laws.specs.Refusal.{or_else, first_of, any_of}
 use Rattle.laws.proofs.Refusal.{first_here, first_skip, first_last, each, found, none_of}
+use Rattle.laws.proofs.Any.{any_head}
 use Rattle.limits.specs.Limits.{most_runs, least_turn, most_turn}
 use Rattle.run_record.specs.declared.Run.{Run}
 use Rattle.several_runs.specs.Turn.{Tables, bad_turn, bad_count, number_at, turn_number}
@@ -20,31 +20,24 @@ use Rattle.several_runs.proofs.Counted.{turn_many, turn_few, count_few}
 in_range : (sweeps : ℕ) → bad_turn sweeps ≡ false → InRange sweeps
 in_range sweeps e = (turn_many sweeps e, turn_few sweeps e)
 
+-- of two tests one is true
+either : (a b : Bool) → any_of (a ∷ b ∷ []) ≡ true → (a ≡ true → ⊥) → (b ≡ true → ⊥) → ⊥
+unfolding any_of
+either true b e not_a not_b = not_a refl
+either false true e not_a not_b = not_b refl
+either false false e not_a not_b = false≢true e
+
 out_of_range : (sweeps : ℕ) → bad_turn sweeps ≡ true → InRange sweeps → ⊥
-unfolding bad_turn any_of
-out_of_range sweeps e r = by (ltb sweeps least_turn) refl (ltb most_turn sweeps) refl e
-  where
-    by : (low : Bool) → ltb sweeps least_turn ≡ low → (high : Bool) → ltb most_turn sweeps ≡ high → any_of (low ∷ high ∷ []) ≡ true → ⊥
-    by true l high h e = omega (arith, ltb-true sweeps least_turn l, r.0)
-    by false l true h e = omega (arith, ltb-true most_turn sweeps h, r.1)
-    by false l false h e = false≢true e
+unfolding bad_turn
+out_of_range sweeps e r = either _ _ e (λ l. omega (arith, ltb-true sweeps least_turn l, r.0)) (λ h. omega (arith, ltb-true most_turn sweeps h, r.1))
 
 some_runs : (count : ℕ) → bad_count count ≡ false → SomeRuns count
-unfolding bad_count any_of
-some_runs count e = (by (eqb count 0) refl e, count_few count e)
-  where
-    by : (none : Bool) → eqb count 0 ≡ none → any_of (none ∷ ltb most_runs count ∷ []) ≡ false → 1 ≤ count
-    by true n e = absurd (false≢true (sym e))
-    by false n e = omega (arith, eqb-false count 0 n)
+unfolding bad_count
+some_runs count e = (omega (arith, eqb-false count 0 (any_head _ _ e)), count_few count e)
 
 not_some : (count : ℕ) → bad_count count ≡ true → SomeRuns count → ⊥
-unfolding bad_count any_of
-not_some count e r = by (eqb count 0) refl (ltb most_runs count) refl e
-  where
-    by : (none : Bool) → eqb count 0 ≡ none → (many : Bool) → ltb most_runs count ≡ many → any_of (none ∷ many ∷ []) ≡ true → ⊥
-    by true n many m e = omega (arith, eqb-true count 0 n, r.0)
-    by false n true m e = omega (arith, ltb-true most_runs count m, r.1)
-    by false n false m e = false≢true e
+unfolding bad_count
+not_some count e r = either _ _ e (λ n. omega (arith, eqb-true count 0 n, r.0)) (λ m. omega (arith, ltb-true most_runs count m, r.1))
 
 -- ---- the first run that is refused
 

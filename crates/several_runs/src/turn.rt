@@ -15,6 +15,7 @@ use refusal::Refusal;
 use run_record::Run;
 
 // A turn that nothing refuses: each run makes up to its share.
+#[tactic(auto, using(crate::proofs::OnTurns::few_runs))]
 pub fn turn_accepted(
     run_count: usize,
     runs: [Run; MOST_RUNS],

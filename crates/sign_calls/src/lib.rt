@@ -19,6 +19,7 @@ use sign_words::size::sign_words;
 
 // The number of ones in the exclusive or of two choices of m signs: of all their words as lent, so a set bit behind the last sign counts too. Words
 // behind those of m signs are not read.
+#[tactic(auto, using(crate::proofs::Accepting::distance_accepted, crate::proofs::Accepting::first_words, table_calls::proofs::Accepting::accepted_is, table_calls::proofs::Accepting::refused_is))]
 pub fn distance(m: usize, x: &[u64], y: &[u64]) -> Result<u64, Refusal>
     ensures { in_numbers result ≡ distance_answer (distance_number m x.now y.now) (ones_apart (sign_words m) x.now y.now) }
 {
@@ -28,6 +29,7 @@ pub fn distance(m: usize, x: &[u64], y: &[u64]) -> Result<u64, Refusal>
 }
 
 // The first m signs, any byte but 0 for −, into the words that a choice of m signs takes, unused bits 0.
+#[tactic(auto, using(crate::proofs::Accepting::pack_room, crate::proofs::Accepting::packs_accepted))]
 pub fn pack_signs(m: usize, signs: &[u8], words: &mut [u64]) -> Result<(), Refusal>
     ensures { PacksSigns m signs.now words.old (numbered result) words.new }
 {

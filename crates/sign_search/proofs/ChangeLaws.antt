@@ -22,7 +22,7 @@ use Rattle.tables.specs.Table.{Table, sign, sign_at}
 use Rattle.tables.specs.Flip.{flip_share, flip_term}
 use Rattle.std.proofs.lemmas.Int.{unsigned_abs-mul, fits_signed_from_abs}
 use Rattle.laws.proofs.Integer.{parts, differences, ring, times_one, abs_add, abs_cond}
-use Rattle.laws.proofs.MapFirst.{get_d_map_first, length_fill}
+use Rattle.laws.proofs.MapFirst.{get_d_map_first, length_fill, fill_again}
 use Rattle.laws.proofs.Sums.{only_zero, sum_more, sum_bounded, total_le}
 use Rattle.tables.proofs.Shares.{abs_sign, sign_vector}
 use Rattle.tables.proofs.Flips.{flip_entries}
@@ -88,12 +88,6 @@ filled f (suc m) [] (y ∷ ys) room e is tail = let o : ◌≡◌ {A = ℕ} (suc
 filled f (suc m) (x ∷ xs) (y ∷ ys) room e is tail =
     ap₂ ◌∷◌ (is 0 (omega arith)) (filled (λ i. f (suc i)) m xs ys (omega arith) (omega arith) (λ i h. is (suc i) (omega arith)) tail)
 
-refilled : (f g : ℕ → ℤ) (m : ℕ) (l : List ℤ) → fill f m (fill g m l) ≡ fill f m l
-unfolding map_first
-refilled f g zero l = refl
-refilled f g (suc m) [] = refl
-refilled f g (suc m) (x ∷ xs) = ap (λ (r : List ℤ). f 0 ∷ r) (refilled (λ i. f (suc i)) (λ i. g (suc i)) m xs)
-
 module _ (t : Table) (x : List ℕ) (changes changes' : List ℤ) where
   pub changes_laid : Changes t x changes' → length changes' ≡ length changes → drop (length x) changes' ≡ drop (length x) changes → changes' ≡ changes_over t x changes
   unfolding changes_over
@@ -109,7 +103,7 @@ module _ (t : Table) (x : List ℕ) (changes changes' : List ℤ) where
   -- it makes no difference that the list was cleared first
   pub over_cleared : (after : List ℤ) → changes' ≡ fill (λ i. pos 0) (length x) changes → after ≡ changes_over t x changes' → after ≡ changes_over t x changes
   unfolding changes_over
-  over_cleared after e q = q ∙ rw e (refilled (change_in t x) (λ i. pos 0) (length x) changes)
+  over_cleared after e q = q ∙ rw e (fill_again (change_in t x) (λ i. pos 0) (length x) changes)
 
 -- where a row's sum is laid down, the tail stays
 pub turned_tail : (m row i : ℕ) (held next : ℤ) (before after : List ℤ) → row < m → RowTurned row i held next before after → drop m after ≡ drop m before
@@ -146,11 +140,11 @@ module _ (t : Table) (x : List ℕ) where
     laid = ap (λ (z : ℤ). get_or changes row (pos 0) +ℤ z) (sym (rw (eq-eqb row row refl))) ∙ p.sums row p.row_in
 
     pub row_room : row < length changes
-    row_room = omega (arith, p.row_in, p.many)
+    row_room = omega arith
 
     pub laid_fits : k ≤ t.count → SFits w64 (get_or changes row (pos 0) +ℤ held)
     laid_fits h =
-        rw laid (fits_signed_from_abs w64 (sum k (term row)) (lt_of_le_of_lt (sum_bounded 4 t.count k (term row) size (term_small row) h) (omega (arith, ok.small))))
+        rw laid (fits_signed_from_abs w64 (sum k (term row)) (lt_of_le_of_lt (sum_bounded 4 t.count k (term row) size (term_small row) h) (omega arith)))
 
     laid_sums : (i : ℕ) → i < length x → get_or (set changes row (get_or changes row (pos 0) +ℤ held)) i (pos 0) ≡ sum k (term i)
     laid_sums i l = go (ℕ_discrete i row)
@@ -179,10 +173,10 @@ module _ (t : Table) (x : List ℕ) where
     module _ (h : k < t.count) (same : row ≡ t.row k) where
       more_small : nat_abs (held +ℤ term row k) ≤ 4 * total (suc k) size
       unfolding total
-      more_small = omega (arith, abs_add held (term row k), p.small, term_small row k)
+      more_small = omega (arith, abs_add held (term row k), term_small row k)
 
       pub more_fits : SFits w64 (held +ℤ term row k)
-      more_fits = fits_signed_from_abs w64 (held +ℤ term row k) (omega (arith, more_small, total_le t.count (suc k) size h, ok.small))
+      more_fits = fits_signed_from_abs w64 (held +ℤ term row k) (omega (arith, more_small, total_le t.count (suc k) size h))
 
       pub summed_more : (z : ℤ) → z ≡ held +ℤ term row k → Summed t x (k + 1) row z changes
       summed_more z e = record {

@@ -13,12 +13,13 @@ use lib.Signed.{lt_z}
 use lib.ListN.{length, take, drop, get_or, length-take, length-drop}
 use mir.Syntax.{w64}
 use mir.Val.{SFits}
+use Rattle.laws.proofs.Any.{cond_self, cond_same}
 use Rattle.sign_words.specs.Packed.{unpacked, Tidy}
 use Rattle.sign_words.proofs.PackedLaws.{length_unpacked, unpacked_flip}
 use Rattle.local_search.specs.LocalSearch.{All, keep_best, children_of}
 use Rattle.local_search.specs.Level.{Choice, below, child_of, word_child, level_of, decoded, sign_level, TidyChoice, TidyLevel}
 use Rattle.local_search.specs.SignSearch.{improving, improves_c, flip_c}
-use Rattle.local_search.specs.Children.{change_of, flip_w, listed_children, ListedSafe, parent_of, Expands, Kept, Appends, Appended}
+use Rattle.local_search.specs.Children.{change_of, flip_w, listed_children, ListedSafe, parent_of, Kept, Appends, Appended}
 use Rattle.local_search.proofs.SignLaws.{improving_ext}
 use Rattle.local_search.proofs.SearchLaws.{next_level_is}
 use Rattle.local_search.proofs.ExpandLaws.{part_long, parent_is}
@@ -27,7 +28,7 @@ use Rattle.tables.specs.Table.{Table}
 use Rattle.sign_search.specs.Search.{change_in}
 use Rattle.sign_search.specs.Within.{Bounds, near, stays_near}
 use Rattle.sign_search.specs.Clauses.{Changes, exists_in, table_children, TableSafe, RowExpands, RowAppends, LevelExpands, NextLevel}
-use Rattle.sign_search.proofs.NearLaws.{whole, never, near_start, near_nowhere, within_first, within_behind, improving_none, improving_cut}
+use Rattle.sign_search.proofs.NearLaws.{near_start, near_nowhere, within_first, within_behind, improving_none, improving_cut}
 
 -- ---- children that are taken over one by one
 
@@ -66,24 +67,12 @@ module _ (t : Table) (m : ℕ) (o : ℤ) (w : List ℕ) (changes : List ℤ) (is
   packed_children held =
       map_improving (decoded m) exists (flip_w changes) (exists_in t b) (flip_c (change_in t)) parent (parent_of o (unpacked m w)) b.flips (λ i h. (same_test i h, same_child held i h))
       ∙ sym (improving_cut (exists_in t b) (flip_c (change_in t)) (parent_of o (unpacked m w)) b.flips m few
-      (λ i p q. ap (λ (c : Bool). cond (lt_z (change_in t (unpacked m w) i) (pos 0)) c false) (within_behind b (unpacked m w) i p) ∙ never (lt_z (change_in t (unpacked m w) i) (pos 0))))
+      (λ i p q. ap (λ (c : Bool). cond (lt_z (change_in t (unpacked m w) i) (pos 0)) c false) (within_behind b (unpacked m w) i p) ∙ cond_same (lt_z (change_in t (unpacked m w) i) (pos 0)) false))
 
   listed_safe : TableSafe t (parent_of o (unpacked m w)) → ListedSafe changes b.flips o
   listed_safe safe i h =
       let inside : i < length (unpacked m w) = omega (arith, length_unpacked m w) in
       subst (λ (z : ℤ). SFits w64 (o +ℤ z)) (sym (is.are i inside)) (safe i inside)
-
-  pub row_expands : (count width objectives signs : ℕ) → RowExpands t (length w) (parent_of o (unpacked m w)) count width (length changes) objectives signs
-      → Expands changes b.flips parent count width objectives signs
-  row_expands count width objectives signs p = record {
-    some = p.some;
-    used = p.used;
-    objectives_room = p.objectives_room;
-    signs_room = p.signs_room;
-    signs_held = omega (arith, p.signs_held, length_unpacked m w);
-    changes_many = omega (arith, p.changes_room, length_unpacked m w);
-    safe = listed_safe p.safe;
-  }
 
   pub row_kept : (width c₁ c₂ : ℕ) (o₁ o₂ : List ℤ) (s₁ s₂ : List ℕ) → m ≤ 64 * length w
       → Kept width (level_of (length w) c₁ o₁ s₁) near_children (level_of (length w) c₂ o₂ s₂) c₂
@@ -104,10 +93,10 @@ module _ (t : Table) (m : ℕ) (o : ℤ) (w : List ℕ) (changes : List ℤ) (is
   pub row_appends : (first objectives signs : ℕ) → first ≤ b.flips → RowAppends t (length w) (parent_of o (unpacked m w)) (length changes) objectives signs
       → Appends changes first parent objectives signs
   row_appends first objectives signs h p = record {
-    objectives_room = omega (arith, p.objectives_room, length_unpacked m w);
+    objectives_room = omega (arith, length_unpacked m w);
     signs_room = (let fewer : first ≤ length (unpacked m w) = omega (arith, length_unpacked m w) in le_trans (mul-le-mul_right (length w) fewer) p.signs_room);
-    signs_held = omega (arith, p.signs_held, length_unpacked m w);
-    changes_many = omega (arith, p.changes_room, length_unpacked m w);
+    signs_held = omega (arith, length_unpacked m w);
+    changes_many = omega (arith, length_unpacked m w);
     safe = λ i q. listed_safe p.safe i (omega arith);
   }
 
@@ -124,13 +113,13 @@ module _ (t : Table) (m : ℕ) (o : ℤ) (w : List ℕ) (changes : List ℤ) (is
           ap (λ (k : ℕ). listed_children changes k parent) (f ∙ ap (λ (c : Bool). cond c 0 b.flips) (eq-eqb b.most 0 z))
           ∙ none_listed
           ∙ sym (improving_none exists (flip_w changes) parent b.flips (λ i h. ap (λ (c : Bool). cond (lt_z (get_or changes i (pos 0)) (pos 0)) c false)
-          (ap (λ (y : List ℕ). near b.most y (unpacked m w) i) e ∙ near_nowhere (unpacked m w) i b.most (omega (arith, length_unpacked m w)) z) ∙ never (lt_z (get_or changes i (pos 0)) (pos 0))))
+          (ap (λ (y : List ℕ). near b.most y (unpacked m w) i) e ∙ near_nowhere (unpacked m w) i b.most (omega (arith, length_unpacked m w)) z) ∙ cond_same (lt_z (get_or changes i (pos 0)) (pos 0)) false))
       go (no d) =
           ap (λ (k : ℕ). listed_children changes k parent) (f ∙ ap (λ (c : Bool). cond c 0 b.flips) (ne_eqb b.most 0 d))
           ∙ improving_ext (improves_c (change_of changes)) exists (flip_w changes) (flip_w changes) parent b.flips
           (λ i h. (
             sym (ap (λ (c : Bool). cond (lt_z (get_or changes i (pos 0)) (pos 0)) c false)
-                (ap (λ (y : List ℕ). near b.most y (unpacked m w) i) e ∙ near_start (unpacked m w) i b.most (omega (arith, length_unpacked m w)) d) ∙ whole (lt_z (get_or changes i (pos 0)) (pos 0))),
+                (ap (λ (y : List ℕ). near b.most y (unpacked m w) i) e ∙ near_start (unpacked m w) i b.most (omega (arith, length_unpacked m w)) d) ∙ cond_self (lt_z (get_or changes i (pos 0)) (pos 0))),
             refl,
           ))
 
@@ -140,7 +129,7 @@ module _ (t : Table) (m : ℕ) (o : ℤ) (w : List ℕ) (changes : List ℤ) (is
   unfolding sign_level
   row_appended first c os s e f h held k = record {
     level = ap (map (decoded m)) (k.level ∙ first_children first e f) ∙ packed_children held;
-    room = omega (arith, k.room);
+    room = omega arith;
   }
 
   pub row_first_tidy : (first c : ℕ) (os : List ℤ) (s : List ℕ) → b.from ≡ unpacked m w → first ≡ cond (eqb b.most 0) 0 b.flips → m ≤ 64 * length w
@@ -171,8 +160,8 @@ parent_expands t n m os s k room o count width kept changes objectives signs e h
       changes_room = rw many p.changes_room;
       objectives_room = p.objectives_room;
       signs_room = rw long p.signs_room;
-      signs_held = omega (arith, many, long, p.signs_held);
-      words_few = omega (arith, long, p.words_few);
+      signs_held = omega arith;
+      words_few = omega arith;
       table = rw many p.table;
       safe = subst (λ (c : Choice). TableSafe t (decoded m c)) (sym (parent_is n os s k room o e)) (all_sign_choices (TableSafe t) n m k count os s h p.from_objectives_room p.safe);
     }

@@ -98,13 +98,13 @@ module _ {m : ℕ} {t : Table} (ok : Mirrors m t) where
         let b : nat_abs (objective_of t (sign_at x)) ≤ 2 * magnitude_of t =
         sum_bounded 2 t.count t.count (objective_term t (sign_at x)) (λ l. nat_abs (t.value l))
         (λ l. abs_share (t.row l) (t.column l) (elem x (t.row l)) (elem x (t.column l)) (t.value l)) (omega arith) in
-        omega (arith, b)
+        omega arith
 
     floor_abs : nat_abs (floor_of t) ≤ most_sign_magnitude
     floor_abs =
         let b : nat_abs (floor_of t) ≤ 1 * magnitude_of t =
         sum_bounded 1 t.count t.count (floor_term t) (λ l. nat_abs (t.value l)) (λ l. abs_least (t.row l) (t.column l) (t.value l)) (omega arith) in
-        omega (arith, b)
+        omega arith
 
     pub objective_fits : (x : List ℕ) → SFits w64 (objective_in t x)
     objective_fits x = fits_signed_from_abs w64 (objective_in t x) (lt_of_le_of_lt (objective_abs x) (omega arith))

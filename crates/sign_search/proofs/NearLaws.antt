@@ -1,5 +1,5 @@
 -- How far a choice with one sign flipped lies from another, and which children stay within the bounds. Assumes nothing.
-use Prim.Native.Nat.{ℕ, zero, suc, ◌+◌, ◌*◌, ◌-◌, ◌^◌, ◌≤◌, ◌<◌}
+use Prim.Native.Nat.{ℕ, zero, suc, ◌+◌, ◌-◌, ◌^◌, ◌≤◌, ◌<◌}
 use native.Mathlib.Decide.{dec_lt}
 use native.Mathlib.Omega.{arith}
 use borrow.Author.Tests.{lt-ltb, le-ltb, le-leb, lt-leb, eq-eqb}
@@ -9,11 +9,12 @@ use mathlib.Core.Path.{◌≡◌, refl, sym, ap, ap₂, ◌∙◌, subst}
 use lib.Dec.{eqb, leb}
 use lib.IntN.{ℤ}
 use lib.ListN.{length}
+use Rattle.laws.proofs.Any.{cond_self, cond_same}
 use Rattle.laws.specs.Lists.{elem}
 use Rattle.laws.specs.Sum.{total}
 use Rattle.laws.proofs.Totals.{total_ext, total_mono, total_zero, total_const}
 use Rattle.sign_words.specs.Signs.{flip_byte, flip_sign, sign_digit}
-use Rattle.sign_words.specs.Packed.{packed, unpacked, Tidy}
+use Rattle.sign_words.specs.Packed.{packed, unpacked}
 use Rattle.sign_words.specs.Distance.{ones_apart, places_apart}
 use Rattle.std.proofs.lemmas.Bool.{cond_both}
 use Rattle.sign_words.proofs.PackedLaws.{length_unpacked, packed_unpacked, flip_sign_here, flip_sign_there}
@@ -25,7 +26,7 @@ use Rattle.local_search.specs.Children.{change_of, flip_w, Kept}
 use Rattle.local_search.proofs.LevelLaws.{flipped_length}
 use Rattle.local_search.proofs.SignLaws.{improving_ext}
 use Rattle.sign_search.specs.Within.{Bounds, bounds, near, within, apart_at, goes_back, stays_near}
-use Rattle.sign_search.specs.Clauses.{BoundsFit, BothPacked}
+use Rattle.sign_search.specs.Clauses.{BothPacked}
 
 -- ---- a sum of which one part changes
 
@@ -92,17 +93,17 @@ module _ (x p : List ℕ) (i : ℕ) (h : i < length x) where
     near_edge low high = go (eqb (sign_digit (elem x i)) (sign_digit (elem p i))) refl
       where
         go : (b : Bool) → eqb (sign_digit (elem x i)) (sign_digit (elem p i)) ≡ b → leb (places_apart (flip_sign i x) p) most ≡ cond b false true
-        go true e = let same : differ x p i ≡ 0 = ap (λ (b : Bool). cond b 0 1) e in lt-leb (places_apart (flip_sign i x) p) most (omega (arith, moved, turned, same))
-        go false e = let other : differ x p i ≡ 1 = ap (λ (b : Bool). cond b 0 1) e in le-leb (places_apart (flip_sign i x) p) most (omega (arith, moved, turned, other))
+        go true e = let same : differ x p i ≡ 0 = ap (λ (b : Bool). cond b 0 1) e in lt-leb (places_apart (flip_sign i x) p) most (omega (arith, moved, turned))
+        go false e = let other : differ x p i ≡ 1 = ap (λ (b : Bool). cond b 0 1) e in le-leb (places_apart (flip_sign i x) p) most (omega (arith, moved, turned))
 
 -- ---- the start itself
 
-total_none : (n : ℕ) (f : ℕ → ℕ) → ((j : ℕ) → f j ≡ 0) → total n f ≡ 0
-total_none n f z = total_ext n f (λ j. 0) (λ j q. z j) ∙ total_zero n
+differ_self : (x : List ℕ) (i : ℕ) → differ x x i ≡ 0
+differ_self x i = ap (λ (b : Bool). cond b 0 1) (eq-eqb (sign_digit (elem x i)) (sign_digit (elem x i)) refl)
 
 pub apart_self : (x : List ℕ) → places_apart x x ≡ 0
 unfolding places_apart
-apart_self x = total_none (length x) (differ x x) (λ j. ap (λ (b : Bool). cond b 0 1) (eq-eqb (sign_digit (elem x j)) (sign_digit (elem x j)) refl))
+apart_self x = total_ext (length x) (differ x x) (λ j. 0) (λ j q. differ_self x j) ∙ total_zero (length x)
 
 -- a child of the start lies one sign away
 pub near_start : (x : List ℕ) (i most : ℕ) → i < length x → (most ≡ 0 → ⊥) → near most x x i ≡ true
@@ -110,10 +111,7 @@ near_start x i most h some = near_inside x x i h most (omega (arith, apart_self 
 
 pub near_nowhere : (x : List ℕ) (i most : ℕ) → i < length x → most ≡ 0 → near most x x i ≡ false
 unfolding near
-near_nowhere x i most h e = lt-leb (places_apart (flip_sign i x) x) most (omega (arith, moved x x i h, turned x x i h, apart_self x, alone))
-  where
-    alone : differ x x i ≡ 0
-    alone = ap (λ (b : Bool). cond b 0 1) (eq-eqb (sign_digit (elem x i)) (sign_digit (elem x i)) refl)
+near_nowhere x i most h e = lt-leb (places_apart (flip_sign i x) x) most (omega (arith, moved x x i h, turned x x i h, apart_self x, differ_self x i))
 
 -- ---- the children that a level takes in
 
@@ -136,14 +134,6 @@ improving_cut {X} exists flip x k (suc n) h z = go (dec_lt n k) (λ (l : k ≤ n
         ap (λ (b : Bool). improving exists flip n x ++ cond b (flip n x ∷ []) []) (z n (omega arith) (omega arith))
         ∙ append-nil (improving exists flip n x) ∙ f (omega arith)
 
-pub whole : (b : Bool) → cond b true false ≡ b
-whole true = refl
-whole false = refl
-
-pub never : (b : Bool) → cond b false false ≡ false
-never true = refl
-never false = refl
-
 module _ (width flips : ℕ) (before after : List Choice) (changes : List ℤ) (c : Choice) (count : ℕ) where
   kept_same : (exists exists' : Choice → ℕ → Bool) → ((i : ℕ) → i < flips → exists c i ≡ exists' c i)
       → Kept width before (improving exists (flip_w changes) flips c) after count → Kept width before (improving exists' (flip_w changes) flips c) after count
@@ -157,7 +147,7 @@ module _ (width flips : ℕ) (before after : List Choice) (changes : List ℤ) (
         → Kept width before (improving (stays_near changes most p x) (flip_w changes) flips c) after count
     all_near t k =
         kept_same (improves_c (change_of changes)) (stays_near changes most p x)
-        (λ i h. sym (ap (λ (b : Bool). cond (improves_c (change_of changes) c i) b false) (t i h) ∙ whole (improves_c (change_of changes) c i))) k
+        (λ i h. sym (ap (λ (b : Bool). cond (improves_c (change_of changes) c i) b false) (t i h) ∙ cond_self (improves_c (change_of changes) c i))) k
 
     -- those that go back
     pub back_near : ((i : ℕ) → i < flips → near most p x i ≡ apart_at x p i) → Kept width before (improving (goes_back changes x p) (flip_w changes) flips c) after count
@@ -172,7 +162,7 @@ module _ (width flips : ℕ) (before after : List Choice) (changes : List ℤ) (
   unfolding keep_best
   none_near most p x t same room = record {
     level = same ∙ ap (keep_best below width before)
-        (sym (improving_none (stays_near changes most p x) (flip_w changes) c flips (λ i h. ap (λ (b : Bool). cond (improves_c (change_of changes) c i) b false) (t i h) ∙ never (improves_c (change_of changes) c i))));
+        (sym (improving_none (stays_near changes most p x) (flip_w changes) c flips (λ i h. ap (λ (b : Bool). cond (improves_c (change_of changes) c i) b false) (t i h) ∙ cond_same (improves_c (change_of changes) c i) false)));
     room = room;
   }
 
@@ -198,16 +188,3 @@ words_apart x row origin b p q =
     ap₂ (ones_apart (length row)) (packed_unpacked (length x) row p b.row_tidy ∙ ap (packed (length row)) b.row_is)
     (packed_unpacked (length x) origin q b.start_tidy ∙ ap (λ (n : ℕ). packed n (unpacked (length x) origin)) (sym b.as_many))
     ∙ packed_apart (length row) x (unpacked (length x) origin) (sym (length_unpacked (length x) origin)) b.signs_held
-
--- a parent that the search has moved to, and the start
-pub both_packed : (m : ℕ) (x row origin : List ℕ) (flips : ℕ) → length x ≡ m → x ≡ unpacked m row → BoundsFit flips origin (length row) m → Tidy m row → m ≤ 64 * length row → length row < 65536
-    → BothPacked x row origin
-both_packed m x row origin flips long is b tidy held few =
-    record {
-      row_is = ap (λ (n : ℕ). unpacked n row) long ∙ sym is;
-      as_many = sym b.as_long;
-      signs_held = omega (arith, long, held);
-      words_few = few;
-      row_tidy = subst (λ (n : ℕ). Tidy n row) (sym long) tidy;
-      start_tidy = subst (λ (n : ℕ). Tidy n origin) (sym long) b.start_tidy;
-    }

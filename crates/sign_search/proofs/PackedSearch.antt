@@ -25,14 +25,14 @@ module _ (t : Table) (n m : ℕ) (room : m ≤ 64 * n) where
   out_again : {w x : List ℕ} → Holds w x → unpacked m w ≡ x
   out_again {w} {x} h =
       ap (unpacked m) h.words
-      ∙ subst (λ (k : ℕ). unpacked k (packed n x) ≡ x) h.many (unpacked_packed n x (omega (arith, h.many)) h.binary)
+      ∙ subst (λ (k : ℕ). unpacked k (packed n x) ≡ x) h.many (unpacked_packed n x (omega arith) h.binary)
 
   orders : (a b x y : List ℕ) → Holds a x → Holds b y → lower (objective_in t) (unpacked m a) (unpacked m b) ≡ lower (objective_in t) x y
   orders a b x y p q = ap₂ (lower (objective_in t)) (out_again p) (out_again q)
 
   flips : (w x : List ℕ) (i : ℕ) → i < m → Holds w x → Holds (flip_in i w) (flip_sign i x)
   flips w x i h p = record {
-    words = ap (flip_in i) p.words ∙ flip_packed n x i (omega (arith, p.many)) (omega (arith, p.many));
+    words = ap (flip_in i) p.words ∙ flip_packed n x i (omega arith) (omega arith);
     many = flipped_length i x ∙ p.many;
     binary = binary_flip i x p.binary;
   }

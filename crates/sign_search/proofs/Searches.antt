@@ -5,6 +5,7 @@ use mathlib.Core.List.{List}
 use mathlib.Core.Path.{◌≡◌, refl, sym, ap, ap₂, ◌∙◌, subst}
 use lib.IntN.{ℤ}
 use lib.ListN.{length}
+use Rattle.laws.proofs.Any.{cond_self}
 use Rattle.std.specs.List.{AllZip}
 use Rattle.local_search.specs.Level.{Choice, flip_sign}
 use Rattle.local_search.specs.LocalSearch.{searched}
@@ -18,7 +19,7 @@ use Rattle.tables.specs.Table.{Table, floor_of}
 use Rattle.sign_search.specs.Within.{Bounds, bounds, within}
 use Rattle.sign_search.specs.Search.{objective_in, change_in, height_in, beam_search, limited_search}
 use Rattle.sign_search.specs.Clauses.{Sound, exists_in, searched_in, Found-by, Found-within}
-use Rattle.sign_search.proofs.NearLaws.{whole, within_free}
+use Rattle.sign_search.proofs.NearLaws.{within_free}
 use Rattle.sign_search.proofs.Lawful.{lawful, objective_fits, height_low}
 
 improves_first : (a b : Bool) → cond a b false ≡ true → a ≡ true
@@ -45,7 +46,7 @@ pub found_within : (t : Table) (b : Bounds) (W : ℕ) (start : List ℕ) (o : �
     → Found-within t b W start found.objective rounds found.signs
 unfolding limited_search
 found_within t b W start o found rounds ok is e r =
-    let carried = carried_search (length start) (objective_in t) (change_in t) (floor_of t) (height_in t) (lawful ok.mirrors) (keeping (change_in t) (within b)) W (height_in t start) start (parent_of o start) (refl, is, refl) in
+    let carried = carried_search (lawful ok.mirrors) (keeping (change_in t) (within b)) W (height_in t start) start (parent_of o start) (refl, is, refl) in
     let same : found.signs ≡ (limited_search t (within b) W start).answer = ap (λ (c : Choice). c.signs) e ∙ carried.0.0 in
     record {
       answer_is = same;
@@ -74,7 +75,7 @@ module _ (t : Table) (W : ℕ) (start : List ℕ) where
   same_test : (x y : List ℕ) → Same x y → (i : ℕ) → i < m → keeping (change_in t) (within free) x i ≡ improves (change_in t) y i
   same_test x y s i h =
       ap (λ (c : Bool). cond (improves (change_in t) x i) c false) (within_free m start x i h s.1)
-      ∙ whole (improves (change_in t) x i) ∙ ap (λ (z : List ℕ). improves (change_in t) z i) s.0
+      ∙ cond_self (improves (change_in t) x i) ∙ ap (λ (z : List ℕ). improves (change_in t) z i) s.0
 
   same_children : (x y : List ℕ) → Same x y → AllZip Same (improving (keeping (change_in t) (within free)) flip_sign m x) (improving (improves (change_in t)) flip_sign m y)
   same_children x y s =

@@ -17,7 +17,7 @@ use mir.Val.{SFits}
 use Rattle.laws.specs.Sum.{sum, only}
 use Rattle.std.proofs.lemmas.Int.{unsigned_abs-mul, fits_signed_from_abs}
 use Rattle.laws.proofs.Integer.{abs_cond, parts, differences, ring, square_one, times_one, abs_add}
-use Rattle.laws.proofs.Sums.{sum_more, sum_ext, sum_zero, sum_add, sum_scale, sum_only, sum_bounded}
+use Rattle.laws.proofs.Sums.{sum_more, sum_ext, sum_zero, sum_add, sum_scale, sum_only, sum_past, sum_bounded}
 use Rattle.limits.specs.Limits.{most_sign_magnitude}
 use Rattle.tables.specs.Table.{Table, Symmetric, SignVector, Rising, magnitude_of, value_at, sign_at}
 use Rattle.tables.specs.Flip.{flipped, flip_change, flip_term}
@@ -115,15 +115,6 @@ module _ (t : Table) (x : List ℕ) (ok : Mirrors (length x) t) (i : ℕ) (h : i
 
 -- ---- summed over the entries
 
-sum_past : (f : ℕ → ℤ) (k n : ℕ) → k ≤ n → ((l : ℕ) → k ≤ l → l < n → f l ≡ pos 0) → sum n f ≡ sum k f
-unfolding sum
-sum_past f k zero p none = let e : zero ≡ k = omega arith in ap (λ (j : ℕ). sum j f) e
-sum_past f k (suc n) p none = go (ℕ_discrete k (suc n)) (λ (h : k ≤ n). sum_past f k n h (λ l a b. none l a (omega arith)))
-  where
-    go : Dec (k ≡ suc n) → (k ≤ n → sum n f ≡ sum k f) → sum (suc n) f ≡ sum k f
-    go (yes e) rest = ap (λ (j : ℕ). sum j f) (sym e)
-    go (no d) rest = ap₂ ◌+ℤ◌ (rest (omega arith)) (none n (omega arith) (omega arith)) ∙ +ℤ_idr (sum k f)
-
 module _ (t : Table) (x : List ℕ) (i : ℕ) where
   -- an entry of another row adds nothing; one of row i adds its value times the weight to its column's
   term_elsewhere : (j k : ℕ) → (t.row k ≡ i → ⊥) → turn_term t x i j k ≡ pos 0
@@ -212,7 +203,7 @@ changes_flipped t x i before after z ok h p u is = record {
   where
     go : (j : ℕ) → j < length x → Dec (j ≡ i) → get_or (set after i z) j (pos 0) ≡ change_in t (flip_sign i x) j
     go j l (yes e) =
-        rw e (get_or-set_same after i z (pos 0) (omega (arith, u.many, p.many)) ∙ is ∙ ap neg_ℤ (p.are i h) ∙ sym (change_own t x ok i h))
+        rw e (get_or-set_same after i z (pos 0) (omega arith) ∙ is ∙ ap neg_ℤ (p.are i h) ∙ sym (change_own t x ok i h))
     go j l (no d) =
         get_or-set_other after i j z (pos 0) d ∙ u.sums j l
         ∙ ap₂ ◌+ℤ◌ (p.are j l) (weighed_all t x i j)
@@ -228,7 +219,7 @@ pub rising_climbs : (t : Table) → Rising t → Climbs t.count t.row
 rising_climbs t r = record { climb = go }
   where
     step : (k : ℕ) → suc k < t.count → t.row k ≤ t.row (suc k)
-    step k h = ⊎_elim (λ l. omega arith) (λ e. omega (arith, e.0)) (r.rise k h)
+    step k h = ⊎_elim (λ l. omega arith) (λ e. omega arith) (r.rise k h)
 
     go : (k l : ℕ) → k ≤ l → l < t.count → t.row k ≤ t.row l
     go k zero p q = let e : k ≡ 0 = omega arith in rw e (omega arith)

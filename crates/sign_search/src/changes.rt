@@ -98,6 +98,7 @@ fn sum_rows(table: Entries, signs: &[u8], changes: &mut [i64])
 }
 
 // The changes by flipping each sign, in one pass over the entries; what stands behind them stays.
+#[tactic(auto, using(crate::proofs::ChangeLaws::cleared, crate::proofs::ChangeLaws::over_cleared, crate::proofs::ChangeLaws::changes_laid, crate::proofs::ChangeLaws::changes_none))]
 pub fn changes_of(table: Entries, signs: &[u8], changes: &mut [i64])
     requires { SumsFit (length signs.now) (listed table) × (length signs.now ≤ length changes.old) }
     ensures { changes.new ≡ changes_over (listed table.entry) signs.now changes.old }

@@ -71,6 +71,7 @@ fn flip_at_hand(
 }
 
 // Goes from the choice at hand to another one, by the signs in which they differ, and takes the changes along.
+#[tactic(auto, using(sign_words::proofs::ApartLaws::apart_at, sign_words::proofs::ApartLaws::apart_flipped))]
 pub fn move_to(
     table: Entries,
     current: &mut [u8],

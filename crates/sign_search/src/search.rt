@@ -133,6 +133,7 @@ fn search_packed(
 }
 
 // The same from the signs in `current`, which takes the answer: packed into `kept` at the start, unpacked at the end.
+#[tactic(auto, using(sign_words::proofs::PackedLaws::unpacked_packed))]
 fn search_words(
     search: Search,
     kept: &mut [u64],
@@ -153,6 +154,7 @@ fn search_words(
 }
 
 // The same in as many words as a choice of so many signs takes.
+#[tactic(auto, using(sign_words::proofs::Sizes::few_words, sign_words::proofs::Sizes::enough_words))]
 fn search_room(search: Search, current: &mut [u8], level: &mut [u64]) -> Searched
     requires { Searchable (listed search.table) search.width search.objective search.leeway.flips current.old (length level.old) × Binary current.old }
     ensures { let s = search.entry in SearchLeaves (searched_in (listed s.table) (bounds s.leeway.flips s.leeway.most current.old) s.width
@@ -172,6 +174,7 @@ fn search_room(search: Search, current: &mut [u8], level: &mut [u64]) -> Searche
 
 // The search from the signs in `kept`, each 0 or 1, which takes the answer; with width 0 the start stands. It goes as far as `leeway` says. The rows of
 // a level go to `level`.
+#[tactic(auto, unfolding(crate::specs::Search::objective_in), using(crate::proofs::Searches::found_none))]
 pub fn search_within(
     table: Entries,
     width: usize,

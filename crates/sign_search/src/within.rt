@@ -80,6 +80,7 @@ fn back_child(
 }
 
 // Puts the parent's children in that go back to the start's sign, by index.
+#[tactic(auto, using(local_search::proofs::ExpandLaws::children_none))]
 fn expand_back(
     parent: Parent,
     flips: usize,

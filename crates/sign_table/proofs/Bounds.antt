@@ -1,15 +1,16 @@
 -- Sums of a sign table's values are bounded by the magnitude of (H, c).
-use mathlib.Core.Path.{◌≡◌, ◌∙◌, ap₂}
+use mathlib.Core.Path.{◌≡◌, refl, ◌∙◌, ap₂}
 use Prim.Native.Nat.{ℕ, ◌+◌, ◌*◌, ◌^◌, ◌<◌, ◌≤◌}
 use native.Mathlib.Nat.{le_trans}
 use native.Mathlib.Omega.{arith}
+use borrow.Author.Tests.{eq-eqb}
 use lib.Dec.{eqb}
 use lib.IntN.{ℤ, pos, nat_abs, ◌+ℤ◌, ◌*ℤ◌}
 use lib.Signed.{mag}
 use mir.Syntax.{w64}
 use mir.Val.{SFits, to_z, of_z}
 use mir.Facts.{to_z-of_z}
-use Rattle.laws.specs.Sum.{sum, total}
+use Rattle.laws.specs.Sum.{sum, total, only}
 use Rattle.std.proofs.lemmas.Int.{unsigned_abs-mul, fits_signed_from_abs}
 use Rattle.laws.proofs.Integer.{abs_add, held}
 use Rattle.laws.proofs.Sums.{sum_abs, total_at, total_le, Held, sum_held}
@@ -69,9 +70,12 @@ linear_small {n} {h} {c} v i b = omega (arith, total_at n i (λ x. nat_abs (c x)
 -- ---- sums that i64 holds
 
 -- a row's sum and twice its linear cost
-module _ (a : ℕ) (s r linear : ℤ) (acc : to_z w64 a ≡ s) (ok : mag r < 2 ^ 63) (is : r ≡ pos 2 *ℤ linear) (small : nat_abs s ≤ 2 ^ 60) (low : nat_abs linear ≤ 2 ^ 59) where
+module _ (row : ℕ → ℕ) (value : ℕ → ℤ) (i : ℕ) (linear : ℤ) (a : ℕ) (r : ℤ) {count k : ℕ} (acc : to_z w64 a ≡ sum k (row_term row value i)) (ok : mag r < 2 ^ 63)
+    (is : r ≡ only i i (pos 2 *ℤ linear)) (le : k ≤ count) (small : total count (λ l. nat_abs (value l)) ≤ 2 ^ 60) (low : nat_abs linear ≤ 2 ^ 59) where
   pub summed_fits : SFits w64 (to_z w64 a +ℤ to_z w64 (of_z w64 r))
-  summed_fits = rw (acc, held r ok, is) (fits_signed_from_abs w64 (s +ℤ pos 2 *ℤ linear) (omega (arith, abs_add s (pos 2 *ℤ linear), unsigned_abs-mul (pos 2) linear)))
+  summed_fits =
+      rw (acc, held r ok, is, eq-eqb i i refl)
+      (fits_signed_from_abs w64 _ (omega (arith, abs_add (sum k (row_term row value i)) (pos 2 *ℤ linear), row_abs count k row value i le, unsigned_abs-mul (pos 2) linear)))
 
-  pub summed_is : to_z w64 (of_z w64 (to_z w64 a +ℤ to_z w64 (of_z w64 r))) ≡ s +ℤ pos 2 *ℤ linear
-  summed_is = to_z-of_z summed_fits ∙ rw (acc, held r ok, is)
+  pub summed_is : to_z w64 (of_z w64 (to_z w64 a +ℤ to_z w64 (of_z w64 r))) ≡ sum k (row_term row value i) +ℤ pos 2 *ℤ linear
+  summed_is = to_z-of_z summed_fits ∙ rw (acc, held r ok, is, eq-eqb i i refl)

@@ -1,7 +1,7 @@
 -- The sign table as the code writes it: one turn of each loop.
 use mathlib.Core.Path.{◌≡◌, refl, sym, ◌∙◌, ap}
 use mathlib.Core.List.{List, [], ◌∷◌, ◌++◌}
-use mathlib.Core.Bool.{Bool, true, false, not, cond}
+use mathlib.Core.Bool.{true, false, not, cond}
 use Prim.Native.Nat.{ℕ, suc, ◌+◌, ◌^◌, ◌<◌, ◌≤◌}
 use Rattle.std.specs.Prelude.{Some, None}
 use native.Mathlib.Decide.{dec_lt}
@@ -17,16 +17,15 @@ use lib.Signed.{mag}
 use mir.Facts.{to_z-of_z}
 use Rattle.laws.specs.Sum.{sum, sum₂, only}
 use Rattle.std.proofs.lemmas.Int.{unsigned_abs-mul, fits_signed_from_abs}
-use Rattle.laws.proofs.Integer.{abs_add}
+use Rattle.laws.proofs.Integer.{abs_add, abs_cond}
 use Rattle.laws.proofs.Sums.{sum_ext, sum_abs, total_at, turn_fits, turn_is}
 use Rattle.tables.specs.Table.{Table, InRange, magnitude_of, value_at}
 use Rattle.sign_table.specs.SignTable.{absorbed, edge, row_places, places, is_zero, sign_kept, kept_of, sign_of, sign_places}
-use Rattle.sign_table.specs.Walk.{At, is_here, here_value, after_here, next_column, row_term, row_total, RowSummed, Wrote, Room, Convertible}
+use Rattle.sign_table.specs.Walk.{At, is_here, here_value, after_here, next_column, row_total, RowSummed, Wrote, Room, Convertible}
 use Rattle.sign_table.proofs.Costs.{inner, column, row, corner}
-use Rattle.sign_table.proofs.Cursor.{at_start, held_at, Next, column_or, next_column_below, next_column_lem, here_value_lem, here_next, row_summed, total_start, row_total_lem}
+use Rattle.sign_table.proofs.Cursor.{at_start, held_at, Next, column_or, next_column_below, next_column_lem, here_value_lem, here_next, row_summed, row_total_lem}
 use Rattle.tables.proofs.Writing.{wrote_none, wrote_more, wrote_same, wrote_value, wrote_edge, row_more, row_next, row_skip, row_length_lt, row_length_le}
 use Rattle.tables.proofs.Kept.{places_more, places_count, places_le}
-use Rattle.tables.proofs.Weights.{abs_only}
 use Rattle.sign_table.proofs.Bounds.{row_small, rows_held, rows_abs}
 
 -- ---- which places are kept
@@ -57,20 +56,9 @@ module _ (n : ℕ) (h : Table) (c : ℕ → ℤ) where
 here_small : (h : Table) (i j k : ℕ) → nat_abs (cond (is_here h.count h.row h.column i j k) (h.value k) (pos 0)) ≤ magnitude_of h
 here_small h i j k = go (dec_lt k h.count)
   where
-    pick : (t : Bool) → k < h.count → nat_abs (cond t (h.value k) (pos 0)) ≤ magnitude_of h
-    pick true b = total_at h.count k (λ l. nat_abs (h.value l)) b
-    pick false b = omega arith
-
     go : Dec (k < h.count) → nat_abs (cond (is_here h.count h.row h.column i j k) (h.value k) (pos 0)) ≤ magnitude_of h
-    go (yes b) = pick (is_here h.count h.row h.column i j k) b
+    go (yes b) = abs_cond (is_here h.count h.row h.column i j k) _ _ _ (total_at h.count k (λ l. nat_abs (h.value l)) b) (omega arith)
     go (no b) = rw (le-ltb k h.count (omega arith)) (omega arith)
-
-only_small : (i j : ℕ) (v : ℤ) (m : ℕ) → nat_abs v ≤ m → nat_abs (only i j v) ≤ m
-only_small i j v m b = rw (abs_only i j v) (pick (eqb i j))
-  where
-    pick : (t : Bool) → cond t (nat_abs v) 0 ≤ m
-    pick true = b
-    pick false = omega arith
 
 pub here_fits : (h : Table) (c : ℕ → ℤ) (i j k : ℕ) → magnitude_of h ≤ 2 ^ 60 → nat_abs (c i) ≤ 2 ^ 59 → SFits w64 (here_value h c i j k)
 here_fits h c i j k small low =
@@ -78,7 +66,7 @@ here_fits h c i j k small low =
       arith,
       abs_add (cond (is_here h.count h.row h.column i j k) (h.value k) (pos 0)) (only i j (pos 2 *ℤ c i)),
       here_small h i j k,
-      only_small i j (pos 2 *ℤ c i) (2 ^ 60) (omega (arith, unsigned_abs-mul (pos 2) (c i))),
+      abs_cond (eqb i j) (pos 2 *ℤ c i) (pos 0) (2 ^ 60) (omega (arith, unsigned_abs-mul (pos 2) (c i))) (omega arith),
     ))
 
 -- ---- a row up to column j
@@ -177,10 +165,6 @@ module _ {n : ℕ} {h : Table} {c : ℕ → ℤ} (v : Convertible n h c) {i : �
 
       pub whole_many : at + length (edge (not (is_zero sum')) i n) ≡ len + length (row_places (kept_of n h c) i 0 (suc n))
       whole_many = omega (arith, many, ap length row_more_is, length-append (row_places (kept_of n h c) i 0 n) (edge (not (is_zero sum')) i n))
-
--- what a row's sum asks
-pub row_asks : {h : Table} {k i : ℕ} → At h k i 0 → (sum k (row_term h.row h.value i) ≡ pos 0)
-row_asks at = total_start at
 
 -- ---- all rows but the last
 

@@ -2,15 +2,15 @@
 use mathlib.Core.Path.{◌≡◌, refl, sym, ◌∙◌, ap, ap₂}
 use mathlib.Core.Logic.{inl, inr}
 use mathlib.Core.Bool.{Bool, true, false, not, cond}
-use Prim.Native.Nat.{ℕ, zero, suc, ◌+◌, ◌<◌, ◌≤◌}
+use Prim.Native.Nat.{ℕ, suc, ◌+◌, ◌<◌, ◌≤◌}
 use Rattle.std.specs.Prelude.{Option, Some, None}
 use native.Mathlib.Decide.{ℕ_discrete, dec_lt, dec_le}
 use native.Mathlib.Omega.{arith}
 use borrow.Author.Tests.{eq-eqb, ne_eqb, lt-ltb, le-ltb, le-leb, lt-leb}
 use lib.Dec.{eqb, ltb, leb}
-use lib.IntN.{ℤ, pos, ◌+ℤ◌, ◌*ℤ◌, +ℤ_idr}
+use lib.IntN.{ℤ, pos, ◌+ℤ◌, ◌*ℤ◌}
 use Rattle.laws.specs.Sum.{sum, only}
-use Rattle.laws.proofs.Sums.{sum_ext, sum_add, sum_only, sum_swap, sum_zero}
+use Rattle.laws.proofs.Sums.{sum_ext, sum_add, sum_only, sum_swap, sum_zero, sum_past}
 use Rattle.tables.specs.Table.{Table, Before, InRange, Rising, value_at, stored_at}
 use Rattle.sign_table.specs.SignTable.{absorbed, is_zero}
 use Rattle.sign_table.specs.Walk.{At, in_row, is_here, stored_column, comes_first, next_column, here_value, after_here, row_term, row_total, RowAt, RowSummed}
@@ -34,13 +34,6 @@ not_between i j x y (inl p) (inl q) = omega arith
 not_between i j x y (inl p) (inr q) = omega arith
 not_between i j x y (inr p) (inl q) = omega arith
 not_between i j x y (inr p) (inr q) = omega arith
-
-same_row : (i j e y : ℕ) → (Before i y i j → ⊥) → j ≤ y
-same_row i j e y no-before = go (dec_le j y)
-  where
-    go : Dec (j ≤ y) → j ≤ y
-    go (yes h) = h
-    go (no h) = absurd (no-before (inr (refl, omega arith)))
 
 module _ {h : Table} (ri : Rising h) {k i j : ℕ} (at : At h k i j) where
   -- on to a later column of the row, up to entry k
@@ -88,34 +81,26 @@ module _ {h : Table} (ri : Rising h) {k i j : ℕ} (at : At h k i j) where
 
   -- entry k, in this row, is not behind
   pub column_ahead : k < h.count → h.row k ≡ i → j ≤ h.column k
-  column_ahead b r = same_row i j j (h.column k) (λ before. at.ahead k (omega arith) b (rw r before))
+  column_ahead b r = go (dec_le j (h.column k))
+    where
+      go : Dec (j ≤ h.column k) → j ≤ h.column k
+      go (yes l) = l
+      go (no n) = absurd (at.ahead k (omega arith) b (inr (r, omega arith)))
 
 -- ---- what stands at the cursor's place
 
-data Standing (h : Table) (k i j : ℕ) : Type 0 where
-  stands : k < h.count → h.row k ≡ i → h.column k ≡ j → Standing h k i j
-  empty : (k < h.count → h.row k ≡ i → h.column k ≡ j → ⊥) → Standing h k i j
+data Standing (h : Table) (k i j : ℕ) (here : Bool) : Type 0 where
+  stands : here ≡ true → k < h.count → h.row k ≡ i → h.column k ≡ j → Standing h k i j here
+  empty : here ≡ false → (k < h.count → h.row k ≡ i → h.column k ≡ j → ⊥) → Standing h k i j here
 
-standing : (h : Table) (k i j : ℕ) → Standing h k i j
+standing : (h : Table) (k i j : ℕ) → Standing h k i j (is_here h.count h.row h.column i j k)
 standing h k i j = go (dec_lt k h.count) (ℕ_discrete (h.row k) i) (ℕ_discrete (h.column k) j)
   where
-    go : Dec (k < h.count) → Dec (h.row k ≡ i) → Dec (h.column k ≡ j) → Standing h k i j
-    go (yes b) (yes r) (yes q) = stands b r q
-    go (yes b) (yes r) (no q) = empty (λ _ _ e. q e)
-    go (yes b) (no r) q = empty (λ _ e _. r e)
-    go (no b) r q = empty (λ e _ _. b e)
-
-here_yes : (h : Table) (k i j : ℕ) → k < h.count → h.row k ≡ i → h.column k ≡ j → is_here h.count h.row h.column i j k ≡ true
-here_yes h k i j b r q = rw (lt-ltb k h.count b, eq-eqb (h.row k) i r, eq-eqb (h.column k) j q)
-
-here_no : (h : Table) (k i j : ℕ) → (k < h.count → h.row k ≡ i → h.column k ≡ j → ⊥) → is_here h.count h.row h.column i j k ≡ false
-here_no h k i j d = go (dec_lt k h.count) (ℕ_discrete (h.row k) i) (ℕ_discrete (h.column k) j)
-  where
-    go : Dec (k < h.count) → Dec (h.row k ≡ i) → Dec (h.column k ≡ j) → is_here h.count h.row h.column i j k ≡ false
-    go (yes b) (yes r) (yes q) = absurd (d b r q)
-    go (yes b) (yes r) (no q) = rw (lt-ltb k h.count b, eq-eqb (h.row k) i r, ne_eqb (h.column k) j q)
-    go (yes b) (no r) q = rw (lt-ltb k h.count b, ne_eqb (h.row k) i r)
-    go (no b) r q = rw (le-ltb k h.count (omega arith))
+    go : Dec (k < h.count) → Dec (h.row k ≡ i) → Dec (h.column k ≡ j) → Standing h k i j (is_here h.count h.row h.column i j k)
+    go (yes b) (yes r) (yes q) = stands (rw (lt-ltb k h.count b, eq-eqb (h.row k) i r, eq-eqb (h.column k) j q)) b r q
+    go (yes b) (yes r) (no q) = empty (rw (lt-ltb k h.count b, eq-eqb (h.row k) i r, ne_eqb (h.column k) j q)) (λ _ _ e. q e)
+    go (yes b) (no r) q = empty (rw (lt-ltb k h.count b, ne_eqb (h.row k) i r)) (λ _ e _. r e)
+    go (no b) r q = empty (rw (le-ltb k h.count (omega arith))) (λ e _ _. b e)
 
 module _ {h : Table} (ri : Rising h) {k i j : ℕ} (at : At h k i j) where
   -- above column j, if entry k is in this row and not at j
@@ -130,16 +115,16 @@ module _ {h : Table} (ri : Rising h) {k i j : ℕ} (at : At h k i j) where
   unfolding absorbed
   here_value_lem c = ap (λ z. z +ℤ only i j (pos 2 *ℤ c i)) (go (standing h k i j))
     where
-      go : Standing h k i j → cond (is_here h.count h.row h.column i j k) (h.value k) (pos 0) ≡ value_at h i j
-      go (stands b r q) = rw (here_yes h k i j b r q) (sym (value_here ri i j k b r q))
-      go (empty d) = rw (here_no h k i j d) (sym (unstored_zero h i j (gap_free ri at j (omega arith) (above d))))
+      go : Standing h k i j (is_here h.count h.row h.column i j k) → cond (is_here h.count h.row h.column i j k) (h.value k) (pos 0) ≡ value_at h i j
+      go (stands e b r q) = rw e (sym (value_here ri i j k b r q))
+      go (empty e d) = rw e (sym (unstored_zero h i j (gap_free ri at j (omega arith) (above d))))
 
   pub here_next : At h (after_here h.count h.row h.column i j k) i (suc j)
   here_next = go (standing h k i j)
     where
-      go : Standing h k i j → At h (after_here h.count h.row h.column i j k) i (suc j)
-      go (stands b r q) = rw (here_yes h k i j b r q) (at_here ri at b r q)
-      go (empty d) = rw (here_no h k i j d) (at_gap ri at (suc j) (omega arith) (λ b r. above d b r))
+      go : Standing h k i j (is_here h.count h.row h.column i j k) → At h (after_here h.count h.row h.column i j k) i (suc j)
+      go (stands e b r q) = rw e (at_here ri at b r q)
+      go (empty e d) = rw e (at_gap ri at (suc j) (omega arith) (λ b r. above d b r))
 
 -- ---- the next kept column
 
@@ -316,25 +301,16 @@ row_end h k i ri at e =
         climb (inl q) = omega (arith, at.ahead k (omega arith) (omega arith))
         climb (inr q) = first (omega arith) (omega (arith, at.ahead k (omega arith) (omega arith)))
 
-module _ {h : Table} {k i : ℕ} where
-  pub total_start : At h k i 0 → sum k (row_term h.row h.value i) ≡ pos 0
-  total_start at = sum_ext k _ (λ l. pos 0) (λ l b. rw (ne_eqb (h.row l) i (λ e. low l (at.behind l b) e))) ∙ sum_zero k
-    where
-      low : (l : ℕ) → Before (h.row l) (h.column l) i 0 → h.row l ≡ i → ⊥
-      low l (inl p) e = omega arith
-      low l (inr p) e = omega arith
-
-sum_tail : (n k : ℕ) (f : ℕ → ℤ) → k ≤ n → ((l : ℕ) → k ≤ l → l < n → f l ≡ pos 0) → sum n f ≡ sum k f
-unfolding sum
-sum_tail zero k f a z = let e : k ≡ 0 = omega arith in rw e
-sum_tail (suc n) k f a z = go (ℕ_discrete k (suc n)) (λ b. sum_tail n k f b (λ l m m'. z l m (omega arith)))
+-- what a row's sum asks
+pub total_start : {h : Table} {k i : ℕ} → At h k i 0 → sum k (row_term h.row h.value i) ≡ pos 0
+total_start {h} {k} {i} at = sum_ext k _ (λ l. pos 0) (λ l b. rw (ne_eqb (h.row l) i (λ e. low l (at.behind l b) e))) ∙ sum_zero k
   where
-    go : Dec (k ≡ suc n) → (k ≤ n → sum n f ≡ sum k f) → sum n f +ℤ f n ≡ sum k f
-    go (yes e) ih = rw e
-    go (no d) ih = rw (ih (omega arith), z n (omega arith) (omega arith)) (+ℤ_idr (sum k f))
+    low : (l : ℕ) → Before (h.row l) (h.column l) i 0 → h.row l ≡ i → ⊥
+    low l (inl p) e = omega arith
+    low l (inr p) e = omega arith
 
 pub total_end : {h : Table} {k i : ℕ} → At h k (suc i) 0 → sum k (row_term h.row h.value i) ≡ sum h.count (row_term h.row h.value i)
-total_end {h} {k} {i} at = sym (sum_tail h.count k (row_term h.row h.value i) at.inside (λ l a b. rw (ne_eqb (h.row l) i (λ e. at.ahead l a b (inl (omega arith))))))
+total_end {h} {k} {i} at = sym (sum_past (row_term h.row h.value i) k h.count at.inside (λ l a b. rw (ne_eqb (h.row l) i (λ e. at.ahead l a b (inl (omega arith))))))
 
 -- the row's sum as the code finds it
 pub row_summed : {h : Table} {i next : ℕ} {linear total : ℤ} → Rising h → RowSummed h.count h.row h.value linear i next total

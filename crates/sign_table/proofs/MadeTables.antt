@@ -5,7 +5,7 @@ use mathlib.Core.List.{List}
 use mathlib.Core.Path.{◌≡◌, sym, ◌∙◌}
 use lib.IntN.{ℤ}
 use lib.ListN.{length, take, length-map}
-use lib.Seq.{sets, sets-eq, take_at}
+use Rattle.laws.proofs.Parts.{take_sets}
 use Rattle.limits.specs.Limits.{most_wagons, most_entries, most_magnitude, most_signs, most_sign_entries, most_sign_magnitude}
 use Rattle.tables.specs.Table.{Table, table_of}
 use Rattle.tables.specs.Check.{Hall, Accepted}
@@ -14,10 +14,6 @@ use Rattle.sign_table.specs.SignTable.{sign_of, sign_places, sign_table}
 use Rattle.sign_table.specs.Made.{made_table, TableMade}
 use Rattle.sign_table.specs.declared.made.SignTable.{SignTable}
 use Rattle.sign_table.proofs.Theorems.{hall_sign_table}
-
-module _ {A : Type 0} where
-  pub taken : (xs l : List A) (n : ℕ) → n ≡ length xs → n ≤ length l → take n (sets l 0 xs) ≡ xs
-  taken xs l n e h = rw (sets-eq xs l 0 (omega arith)) (take_at xs _ n (sym e))
 
 module _ (n : ℕ) (h : Table) (c : ℕ → ℤ) where
   -- the entries that were written, cut to their count
@@ -31,9 +27,9 @@ module _ (n : ℕ) (h : Table) (c : ℕ → ℤ) where
         w.rows_are,
         w.cols_are,
         w.values_are,
-        taken (rows_of ps) rows entries (e ∙ sym (length-map ps (λ p. p.0))) r,
-        taken (cols_of ps) cols entries (e ∙ sym (length-map ps (λ p. p.1))) k,
-        taken (values_of (sign_of n h c) ps) values entries (e ∙ sym (length-map ps (λ p. sign_of n h c p.0 p.1))) v,
+        take_sets (rows_of ps) rows entries (e ∙ sym (length-map ps (λ p. p.0))) r,
+        take_sets (cols_of ps) cols entries (e ∙ sym (length-map ps (λ p. p.1))) k,
+        take_sets (values_of (sign_of n h c) ps) values entries (e ∙ sym (length-map ps (λ p. sign_of n h c p.0 p.1))) v,
         e,
       )
 

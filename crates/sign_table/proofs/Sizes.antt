@@ -1,6 +1,7 @@
 -- The sign table of (H, c): in range, rising, mirrored, how many entries it has and of which magnitude.
 use mathlib.Core.Path.{◌≡◌, refl, sym, ◌∙◌, ap}
 use mathlib.Core.Bool.{Bool, true, false, not, cond}
+use mathlib.Core.List.{List}
 use Prim.Native.Nat.{ℕ, suc, ◌+◌, ◌*◌, ◌^◌, ◌<◌, ◌≤◌}
 use native.Mathlib.Decide.{ℕ_discrete}
 use native.Mathlib.Nat.{le_trans, mul-one}
@@ -16,14 +17,14 @@ use Rattle.laws.proofs.Sums.{sum_abs, total_at}
 use Rattle.laws.proofs.Totals.{onlyℕ, total_ext, total_mono, total_add, total_scale, total_const, total_only, total₂_suc}
 use Rattle.tables.specs.Table.{Table, InRange, Rising, Mirrored, magnitude_of, value_at, stored_at}
 use Rattle.tables.specs.Check.{Hall}
-use Rattle.sign_table.specs.SignTable.{absorbed, is_zero, kept_of, sign_of, sign_places, sign_table}
-use Rattle.sign_table.specs.Walk.{row_total, Convertible}
+use Rattle.sign_table.specs.SignTable.{absorbed, row_places, places, is_zero, kept_of, sign_of, sign_places, sign_table}
+use Rattle.sign_table.specs.Walk.{row_total, Room, Convertible}
 use Rattle.tables.proofs.Kept.{places_range, places_rising, places_mirrored, places_number, places_magnitude}
 use Rattle.tables.proofs.Weights.{kept_le, abs_only, spread, value_le}
 use Rattle.tables.proofs.Mirrors.{stored_true, stored_here, mirrored_symmetric}
 use Rattle.sign_table.proofs.Costs.{inner, column, row, sign_symmetric, absorbed_symmetric}
 use Rattle.sign_table.proofs.Cursor.{held_at, row_total_lem}
-use Rattle.sign_table.proofs.Built.{kept_inner, kept_column, kept_row, kept_corner, corner_total}
+use Rattle.sign_table.proofs.Built.{kept_inner, kept_column, kept_row, kept_corner, corner_total, all_count, room_less}
 use Rattle.sign_table.proofs.Bounds.{rows_abs}
 
 -- ---- in range, rising, mirrored
@@ -174,3 +175,8 @@ module _ {n : ℕ} {h : Table} (c : ℕ → ℤ) (r : InRange n h) where
 pub hall_convertible : {most capacity limit n : ℕ} {h : Table} {c : ℕ → ℤ} → most < 65536 → limit ≤ 2 ^ 60 → Hall most capacity limit n h c → Convertible n h c
 hall_convertible a b ok =
     record { low = omega (arith, ok.wagons); in_range = ok.in_range; rising = ok.rising; small = omega (arith, ok.magnitude) }
+
+-- room for all rows but the last, for the last, and for the corner
+pub sign_room : {n : ℕ} {h : Table} {c : ℕ → ℤ} {rows cols : List ℕ} {values : List ℤ} → Convertible n h c → Room 0 (h.count + 3 * n + 1) rows cols values
+    → Room 0 (length (places (kept_of n h c) (suc n) n) + length (row_places (kept_of n h c) n 0 n) + 1) rows cols values
+sign_room {n} {h} {c} v room = room_less room (omega (arith, all_count n h c, sign_count c v.in_range))

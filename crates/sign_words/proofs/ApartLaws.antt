@@ -3,21 +3,20 @@ use Prim.Native.Nat.{ℕ, zero, suc, ◌+◌, ◌*◌, ◌-◌, ◌/◌, ◌%◌
 use native.Mathlib.Omega.{arith}
 use mathlib.Core.List.{List}
 use mathlib.Core.Logic.{⊎_elim}
-use mathlib.Core.Path.{◌≡◌, refl, sym, ap, ◌∙◌, subst}
+use mathlib.Core.Path.{◌≡◌, sym, ap, ◌∙◌, subst}
 use lib.Bits.{bit_xor, xor_lt}
 use Rattle.std.specs.Int.Count.{trailing_of_zero}
 use lib.ListN.{length}
 use lib.Pow.{shr-shr, shr_le}
 use Rattle.laws.specs.Lists.{elem}
-use Rattle.laws.proofs.Made.{below_or_not}
 use Rattle.std.specs.Int.{bit_at, w64, trailing_zeros}
-use Rattle.std.proofs.lemmas.Bool.{cases_eq}
+use Rattle.std.proofs.lemmas.Bool.{cases_eq, cases_lt}
 use Rattle.std.proofs.lemmas.Nat.Bits.{bit_at-zero, bit_at_xor, bit_at-trailing_zeros}
 use Rattle.sign_words.specs.Packed.{sign_in, flip_in}
 use Rattle.sign_words.specs.Signs.{flip_byte}
 use Rattle.std.specs.Prelude.{Some, None}
 use Rattle.sign_words.specs.Distance.{BitApart, SignApart, none, first}
-use Rattle.sign_words.proofs.PackedLaws.{sign_at_lem, sign_lt, flipped_here, flipped_there}
+use Rattle.sign_words.proofs.PackedLaws.{sign_at_lem, sign_lt, other, flipped_here, flipped_there}
 
 -- ---- two words
 
@@ -48,13 +47,13 @@ module _ (a b from : ℕ) (a-fits : a < 2 ^ 64) (b-fits : b < 2 ^ 64) where
       let even : (bit_at a j + bit_at b j) % 2 ≡ 0 =
       sym (bit_at_xor a b j) ∙ ap (bit_at (bit_xor a b)) (sym back) ∙ sym (shifted_digit (bit_xor a b) from (j - from))
       ∙ below_lowest (bit_xor a b / 2 ^ from) (j - from) fits (omega arith) in
-      omega (arith, even)
+      omega arith
 
   pub apart_inside : from + run < 64 → BitApart a b from (Some (from + run))
   apart_inside h =
       let odd : (bit_at a (from + run) + bit_at b (from + run)) % 2 ≡ 1 =
       sym (bit_at_xor a b (from + run)) ∙ sym (shifted_digit (bit_xor a b) from run) ∙ lowest (bit_xor a b / 2 ^ from) fits (omega arith) in
-      first (from + run) (omega arith) h run_same (λ e. absurd (omega (arith, odd)))
+      first (from + run) (omega arith) h run_same (λ e. absurd (omega arith))
 
   pub apart_nowhere : 64 ≤ from + run → BitApart a b from None
   apart_nowhere h = none (λ j p q. run_same j p (omega arith))
@@ -64,7 +63,7 @@ module _ (a b from : ℕ) (a-fits : a < 2 ^ 64) (b-fits : b < 2 ^ 64) where
 module _ (a b : List ℕ) (from k : ℕ) (so_far : (j : ℕ) → from ≤ j → j < 64 * k → sign_in a j ≡ sign_in b j) where
   same_to : (r : ℕ) → r ≤ 64 → ((j : ℕ) → from - 64 * k ≤ j → j < r → bit_at (elem a k) j ≡ bit_at (elem b k) j)
       → (j : ℕ) → from ≤ j → j < 64 * k + r → sign_in a j ≡ sign_in b j
-  same_to r few same j p q = ⊎_elim (so_far j p) here (below_or_not j (64 * k))
+  same_to r few same j p q = ⊎_elim (so_far j p) here (cases_lt j (64 * k))
     where
       here : 64 * k ≤ j → sign_in a j ≡ sign_in b j
       here h =
@@ -84,14 +83,7 @@ module _ (a b : List ℕ) (from k : ℕ) (so_far : (j : ℕ) → from ≤ j → 
 -- ---- a sign in which two choices differ, flipped in one of them
 
 other_sign : (a b : ℕ) → a < 2 → b < 2 → (a ≡ b → ⊥) → flip_byte a ≡ b
-unfolding flip_byte
-other_sign zero zero p q d = absurd (d refl)
-other_sign zero (suc zero) p q d = refl
-other_sign zero (suc (suc b)) p q d = absurd (omega arith)
-other_sign (suc zero) zero p q d = refl
-other_sign (suc zero) (suc zero) p q d = absurd (d refl)
-other_sign (suc zero) (suc (suc b)) p q d = absurd (omega arith)
-other_sign (suc (suc a)) b p q d = absurd (omega arith)
+other_sign a b p q d = omega (arith, other a p)
 
 -- what is known of the sign that is found
 pub apart_at : (a b : List ℕ) {from i : ℕ} → SignApart a b from (Some i) → (from ≤ i) × (i < 64 * length a)
@@ -99,7 +91,7 @@ apart_at a b (first i onward inside same other) = (onward, inside)
 
 module _ (a b : List ℕ) (from : ℕ) (so_far : (j : ℕ) → j < from → sign_in a j ≡ sign_in b j) where
   before : (m : ℕ) → ((j : ℕ) → from ≤ j → j < m → sign_in a j ≡ sign_in b j) → (j : ℕ) → j < m → sign_in a j ≡ sign_in b j
-  before m same j h = ⊎_elim (so_far j) (λ (l : from ≤ j). same j l h) (below_or_not j from)
+  before m same j h = ⊎_elim (so_far j) (λ (l : from ≤ j). same j l h) (cases_lt j from)
 
   pub apart_flipped : (a' : List ℕ) {i : ℕ} → a' ≡ flip_in i a → SignApart a b from (Some i) → (j : ℕ) → j < i + 1 → sign_in a' j ≡ sign_in b j
   apart_flipped a' e (first i onward inside same other) j l =

@@ -15,7 +15,7 @@ use lib.ListN.{length, get_or-eq_default}
 use Rattle.laws.specs.Lists.{elem}
 use Rattle.laws.specs.Sum.{total}
 use Rattle.laws.proofs.Totals.{total_ext, total_front, total_append}
-use Rattle.laws.proofs.Made.{below_or_not}
+use Rattle.std.proofs.lemmas.Bool.{cases_lt}
 use Rattle.sign_words.specs.Signs.{sign_digit}
 use Rattle.sign_words.specs.Packed.{sign_in, packed}
 use Rattle.sign_words.specs.Distance.{ones_apart, places_apart}
@@ -86,7 +86,7 @@ total_past f m (suc n) h z =
     ⊎_elim
     (λ (l : n < m). let e : suc n ≡ m = omega arith in ap (λ (k : ℕ). total k f) e)
     (λ (l : m ≤ n). rw (z n l (omega arith), add-zero (total n f)) (total_past f m n l (λ i p q. z i p (omega arith))))
-    (below_or_not n m)
+    (cases_lt n m)
 
 -- of two packed choices: the number of places where they differ
 pub packed_apart : (n : ℕ) (x y : List ℕ) → length x ≡ length y → length x ≤ 64 * n → ones_apart n (packed n x) (packed n y) ≡ places_apart x y

@@ -4,16 +4,16 @@ use native.Mathlib.Nat.{zero-lt-suc}
 use native.Mathlib.Omega.{arith}
 use mathlib.Core.List.{List}
 use mathlib.Core.Logic.{⊎_elim}
-use mathlib.Core.Path.{◌≡◌, refl, sym, ap, ap₂, ◌∙◌, subst}
+use mathlib.Core.Path.{◌≡◌, refl, sym, ap, ap₂, ◌∙◌}
 use lib.Bits.{bit_xor, xor_lt}
 use lib.Pow.{pow-lt, pow_pos}
 use Rattle.std.specs.Int.{bit_at}
-use Rattle.std.proofs.lemmas.Bool.{cases_eq}
+use Rattle.std.proofs.lemmas.Bool.{cases_eq, cases_lt}
 use Rattle.std.proofs.lemmas.Nat.Bits.{bit_at-zero, bit_at-lt, bit_at_xor, bit_at-pow_same, bit_at-pow_other, same_from_bits_below}
 use lib.ListN.{length, set, length-set, get_or-eq_default}
 use lib.Seq.{ext_get_or, get_or-set_same, get_or-set_other}
 use Rattle.laws.specs.Lists.{elem, tabulate}
-use Rattle.laws.proofs.Made.{length_tabulate, get_d_tabulate, below_or_not}
+use Rattle.laws.proofs.Made.{length_tabulate, get_d_tabulate}
 use Rattle.sign_words.specs.Signs.{flip_byte, flip_sign, sign_digit, Binary}
 use Rattle.sign_words.specs.Packed.{sign_in, unpacked, word, digit_at, packed, flip_in, Tidy, Flipped, Packs}
 use Rattle.sign_words.proofs.Digits.{word_lt, digit_word}
@@ -74,15 +74,16 @@ same_words a b long p q e =
     same_from_bits_below 64 (elem a k) (elem b k) (p k) (q k)
     (λ j l. sym (sign_at_lem a k j l) ∙ e (64 * k + j) (omega arith) ∙ sign_at_lem b k j l))
 
+-- what holds of 0 and of each element of a list that is made by index holds of any
+all_tabulate : (P : ℕ → Type 0) (f : ℕ → ℕ) (n : ℕ) → P 0 → ((i : ℕ) → P (f i)) → (i : ℕ) → P (elem (tabulate f n) i)
+all_tabulate P f n z h i =
+    ⊎_elim (λ (q : i < n). rw (get_d_tabulate f n i 0 q) (h i))
+    (λ (q : n ≤ i). rw (get_or-eq_default (tabulate f n) 0 {n = i} (omega (arith, length_tabulate f n))) z)
+    (cases_lt i n)
+
 pub packed_words : (n : ℕ) (x : List ℕ) (k : ℕ) → elem (packed n x) k < 2 ^ 64
 unfolding packed
-packed_words n x k = ⊎_elim inside outside (below_or_not k n)
-  where
-    inside : k < n → elem (packed n x) k < 2 ^ 64
-    inside h = subst (λ (w : ℕ). w < 2 ^ 64) (sym (get_d_tabulate (λ k. word (digit_at x k) 64) n k 0 h)) (word_lt (digit_at x k) 64 (λ j. sign_digit_lt (elem x (64 * k + j))))
-
-    outside : n ≤ k → elem (packed n x) k < 2 ^ 64
-    outside h = subst (λ (w : ℕ). w < 2 ^ 64) (sym (get_or-eq_default (packed n x) 0 (omega (arith, length_packed n x)))) (pow_pos 64)
+packed_words n x = all_tabulate (λ w. w < 2 ^ 64) (λ k. word (digit_at x k) 64) n (pow_pos 64) (λ k. word_lt (digit_at x k) 64 (λ j. sign_digit_lt (elem x (64 * k + j))))
 
 pub sign_lt : (words : List ℕ) (i : ℕ) → sign_in words i < 2
 unfolding sign_in
@@ -114,7 +115,7 @@ digit_flip (suc s) = refl
 
 -- ---- a flip
 
-other : (d : ℕ) → d < 2 → (d + 1) % 2 ≡ flip_byte d
+pub other : (d : ℕ) → d < 2 → (d + 1) % 2 ≡ flip_byte d
 unfolding flip_byte
 other zero h = refl
 other (suc zero) h = refl
@@ -191,7 +192,7 @@ module _ (i : ℕ) (words : List ℕ) (inside : i < 64 * length words) where
 -- ---- tidy words are those of their signs
 
 pub tidy_packed : (n : ℕ) (x : List ℕ) → Tidy (length x) (packed n x)
-tidy_packed n x = record { unused = λ i h. ⊎_elim (inside i h) (outside i) (below_or_not i (64 * n)) }
+tidy_packed n x = record { unused = λ i h. ⊎_elim (inside i h) (outside i) (cases_lt i (64 * n)) }
   where
     inside : (i : ℕ) → length x ≤ i → i < 64 * n → sign_in (packed n x) i ≡ 0
     inside i h q = sign_packed n x i q ∙ ap sign_digit (get_or-eq_default x 0 h)
@@ -208,7 +209,7 @@ packed_unpacked m words small t =
     ∙ ⊎_elim
     (λ (h : i < m). ap sign_digit (elem_unpacked m words i h) ∙ sign_digit_bit (sign_in words i) (sign_lt words i))
     (λ (h : m ≤ i). ap sign_digit (get_or-eq_default (unpacked m words) 0 (omega (arith, length_unpacked m words))) ∙ sym (t.unused i h))
-    (below_or_not i m)))
+    (cases_lt i m)))
 
 -- the flip of packed signs
 pub flip_packed : (n : ℕ) (x : List ℕ) (i : ℕ) → length x ≤ 64 * n → i < length x → flip_in i (packed n x) ≡ packed n (flip_sign i x)
@@ -243,20 +244,14 @@ binary_flip i x b = record { small = λ j. ⊎_elim (here j) (λ (d : j ≡ i �
         rw e
         (⊎_elim (λ (h : i < length x). rw (flip_sign_here i x h) (flip_byte_lt (elem x i)))
         (λ (h : length x ≤ i). rw (get_or-eq_default (flip_sign i x) 0 {n = i} (omega (arith, length_flip_sign i x))) (omega arith))
-        (below_or_not i (length x)))
+        (cases_lt i (length x)))
 
 -- what `pack` and `unpack` leave
 pub packed_signs : (n : ℕ) (x : List ℕ) → length x ≤ 64 * n → Packs (length x) x (packed n x)
 packed_signs n x h = record { signs = λ i q. sign_packed n x i (omega arith); tidy = tidy_packed n x }
 
 pub tabulate_binary : (f : ℕ → ℕ) (m : ℕ) → ((i : ℕ) → f i < 2) → Binary (tabulate f m)
-tabulate_binary f m h = record { small = λ i. ⊎_elim (inside i) (outside i) (below_or_not i m) }
-  where
-    inside : (i : ℕ) → i < m → elem (tabulate f m) i < 2
-    inside i q = subst (λ (s : ℕ). s < 2) (sym (get_d_tabulate f m i 0 q)) (h i)
-
-    outside : (i : ℕ) → m ≤ i → elem (tabulate f m) i < 2
-    outside i q = rw (get_or-eq_default (tabulate f m) 0 {n = i} (omega (arith, length_tabulate f m))) (omega arith)
+tabulate_binary f m h = record { small = all_tabulate (λ s. s < 2) f m (omega arith) h }
 
 pub unpacked_binary : (m : ℕ) (words : List ℕ) → Binary (unpacked m words)
 unfolding unpacked

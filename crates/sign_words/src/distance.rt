@@ -28,6 +28,7 @@ pub fn distance(a: &[u64], b: &[u64]) -> u64
 }
 
 // The first bit from `from` on in which two words differ. `as`: no `From` takes a u32 to a usize.
+#[tactic(auto, using(crate::proofs::ApartLaws::apart_inside, crate::proofs::ApartLaws::apart_nowhere))]
 fn bit_apart(a: u64, b: u64, from: usize) -> Option<usize>
     requires { from < 64 }
     ensures { BitApart a b from result }
@@ -37,6 +38,7 @@ fn bit_apart(a: u64, b: u64, from: usize) -> Option<usize>
 }
 
 // The first sign from `from` on in which two choices differ. Words that are the same are passed over whole.
+#[tactic(auto, using(crate::proofs::ApartLaws::found, crate::proofs::ApartLaws::same_on, crate::specs::Distance::none))]
 pub fn sign_apart(a: &[u64], b: &[u64], from: usize) -> Option<usize>
     requires { (length a.now ≡ length b.now) × (length a.now < 65536) × (from ≤ 64 * length a.now) }
     ensures { SignApart a.now b.now from result }

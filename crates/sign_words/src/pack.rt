@@ -33,6 +33,7 @@ fn pack_word(signs: &[u8], k: usize) -> u64
 }
 
 // The signs in words, as many as the slice holds; any byte but 0 is −, and unused bits are 0.
+#[tactic(auto, unfolding(laws::specs::Lists::tabulate))]
 pub fn pack(signs: &[u8], words: &mut [u64])
     requires { (length words.old ≤ 65536) × (length signs.now ≤ 64 * length words.old) }
     ensures words_after { words.new ≡ packed (length words.old) signs.now }
@@ -44,6 +45,7 @@ pub fn pack(signs: &[u8], words: &mut [u64])
 }
 
 // The signs, a byte for each, 0 or 1, as many as the slice holds.
+#[tactic(auto, unfolding(laws::specs::Lists::tabulate), using(laws::proofs::Made::tabulate_next))]
 pub fn unpack(words: &[u64], signs: &mut [u8])
     requires { length signs.old ≤ 64 * length words.now }
     ensures signs_after { signs.new ≡ unpacked (length signs.old) words.now }

@@ -2,16 +2,16 @@
 use Rattle.std.specs.Prelude.{Ok, Err}
 use mathlib.Core.Path.{◌≡◌, refl, sym, ◌∙◌, ap}
 use mathlib.Core.Bool.{Bool, false}
-use mathlib.Core.List.{List, [], ◌∷◌, ◌++◌}
+use mathlib.Core.List.{List, [], ◌∷◌}
 use Prim.Native.Nat.{ℕ, zero, suc, ◌+◌, ◌*◌, ◌-◌, ◌≤◌, ◌<◌}
 use native.Mathlib.Omega.{arith}
 use borrow.Author.Tests.{le-ltb, ltb-false}
-use lib.Dec.{ltb, lit<, lit≤}
-use lib.ListN.{length, drop, length-map}
-use lib.Seq.{sets, sets-eq}
+use lib.Dec.{ltb}
+use lib.ListN.{length, length-map}
 use lib.IntN.{ℤ}
 use Rattle.laws.specs.Refusal.{◌if◌, first, short}
 use Rattle.laws.proofs.Refusal.{clear, first_head, first_rest}
+use Rattle.laws.proofs.Parts.{over_sets}
 use Rattle.laws.proofs.Any.{any_head, any_rest, any_not, any_none}
 use Rattle.limits.specs.Limits.{most_wagons, most_entries, most_magnitude, most_signs, most_sign_entries, most_sign_magnitude}
 use Rattle.tables.specs.Table.{Table, Lent, InRange, table_of, magnitude_of}
@@ -19,8 +19,9 @@ use Rattle.tables.specs.Check.{bad_size, short_table, Hall, Accepted}
 use Rattle.tables.proofs.Checks.{long_enough, table_lent, table_accepted, hall_accepted, size_passes}
 use Rattle.laws.specs.Lists.{elem_z, over}
 use Rattle.sign_table.specs.SignTable.{rows_of, cols_of, values_of, sign_places}
-use Rattle.sign_table.specs.Walk.{Room, Wrote, Convertible}
-use Rattle.sign_table.proofs.Sizes.{sign_count, hall_convertible}
+use Rattle.sign_table.specs.Walk.{Room, Wrote}
+use Rattle.sign_table.proofs.Built.{room_less}
+use Rattle.sign_table.proofs.Sizes.{sign_count}
 use Rattle.table_calls.specs.Answer.{answered}
 use Rattle.table_calls.specs.Convert.{Converts}
 use Rattle.table_calls.specs.Numbers.{bad_signs, sign_table_number, hall_number_in, floor_number, objective_short, objective_number, decode_short, decode_number, cost_short, cost_number, room_short, sign_short, sign_number}
@@ -164,9 +165,6 @@ module _ (n count : ℕ) (rows cols : List ℕ) (values c : List ℤ) (toRows to
 
 -- ---- the conversion's slices
 
-over_sets : {A : Type 0} (xs l : List A) → length xs ≤ length l → sets l 0 xs ≡ over xs l
-over_sets xs l h = sets-eq xs l 0 (omega arith) ∙ ap (λ k. xs ++ drop k l) (let none : 0 + length xs ≡ length xs = omega arith in none)
-
 module _ {value : ℕ → ℕ → ℤ} {ps : List (ℕ × ℕ)} {rows cols : List ℕ} {values : List ℤ} (number : ℕ) {r : ℕ} (is : r ≡ number) where
   pub refused_converts : (r ≡ 0 → ⊥) → Converts number value ps rows cols values (Err r) rows cols values
   refused_converts n =
@@ -187,14 +185,6 @@ module _ {value : ℕ → ℕ → ℤ} {ps : List (ℕ × ℕ)} {rows cols : Lis
         values_are = w.values_are ∙ over_sets (values_of value ps) values (omega (arith, length-map ps (λ p. value p.0 p.1), room.values_room)) ∙ accepted_is number (λ _. values) (over (values_of value ps) values) is z;
       }
 
--- what `sign_matrix` asks, and that its entries have room
-pub hall_converts : {n : ℕ} {h : Table} {c : ℕ → ℤ} → Hall most_wagons most_entries most_magnitude n h c → Convertible n h c
-hall_converts ok = hall_convertible (lit< tt) (lit≤ tt) ok
-
+-- the entries of the sign table have room
 pub enough_room : {n : ℕ} {h : Table} (c : ℕ → ℤ) {rows cols : List ℕ} {values : List ℤ} → InRange n h → Room 0 (h.count + 3 * n + 1) rows cols values → Room 0 (length (sign_places n h c)) rows cols values
-enough_room c r room =
-    record {
-      rows_room = omega (arith, sign_count c r, room.rows_room);
-      cols_room = omega (arith, sign_count c r, room.cols_room);
-      values_room = omega (arith, sign_count c r, room.values_room);
-    }
+enough_room c r room = room_less room (sign_count c r)

@@ -31,20 +31,17 @@ module _ (n count : ℕ) (rows cols : List ℕ) (values c : List ℤ) (toRows to
   hall : Hall most_wagons most_entries most_magnitude n (table_of count rows cols values) (elem_z c)
   hall = (sign_accepted n count rows cols values c toRows toCols toValues ok).3
 
-  number_is : sign_number n count rows cols values c toRows toCols toValues ≡ sign_number n count rows cols values c toRows toCols toValues
-  number_is = refl
-
   pub holds : Holds n (table_of count rows cols values) (elem_z c) rows' cols' values'
   holds =
       let ps = sign_places n (table_of count rows cols values) (elem_z c) in
       over_holds n (table_of count rows cols values) (elem_z c) toRows toCols toValues
-      (w.rows_are ∙ sym (accepted_is _ (λ _. toRows) (over (rows_of ps) toRows) number_is ok))
-      (w.cols_are ∙ sym (accepted_is _ (λ _. toCols) (over (cols_of ps) toCols) number_is ok))
-      (w.values_are ∙ sym (accepted_is _ (λ _. toValues) (over (values_of (sign_of n (table_of count rows cols values) (elem_z c)) ps) toValues) number_is ok))
+      (w.rows_are ∙ sym (accepted_is _ (λ _. toRows) (over (rows_of ps) toRows) refl ok))
+      (w.cols_are ∙ sym (accepted_is _ (λ _. toCols) (over (cols_of ps) toCols) refl ok))
+      (w.values_are ∙ sym (accepted_is _ (λ _. toValues) (over (values_of (sign_of n (table_of count rows cols values) (elem_z c)) ps) toValues) refl ok))
 
   -- it answers how many entries there are
   pub counted : answer ≡ Ok (length (sign_places n (table_of count rows cols values) (elem_z c)))
-  counted = w.answers ∙ sym (accepted_is _ Err _ number_is ok)
+  counted = w.answers ∙ sym (accepted_is _ Err _ refl ok)
 
   -- none of 13 to 16 applies to them, as a table of n + 1 signs
   pub table_taken : sign_table_number (suc n) (length (sign_places n (table_of count rows cols values) (elem_z c))) rows' cols' values' ≡ 0

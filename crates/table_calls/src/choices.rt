@@ -11,7 +11,7 @@ use tables::check::{bad_signs, signs_number};
 use tables::objective;
 
 // 31 of `qubo_binary_from_sign_solution`, for m signs and a choice of so many bytes.
-#[tactic(auto, unfolding(crate::specs::Numbers::decode_short, laws::specs::Refusal::any_of, laws::specs::Refusal::short))]
+#[tactic(auto, unfolding(tables::specs::Check::bad_signs, crate::specs::Numbers::decode_short, laws::specs::Refusal::any_of, laws::specs::Refusal::short))]
 fn decode_short(m: usize, signs: &[u8], b: &[u8]) -> bool
     ensures { result ≡ decode_short m signs.now b.now }
 {
@@ -27,6 +27,7 @@ fn decode_number(m: usize, signs: &[u8], b: &[u8]) -> Result<(), Refusal>
 }
 
 // Wagon i is 1 exactly where sign i differs from the anchor's, the last.
+#[tactic(auto, unfolding(crate::specs::Answer::answered))]
 pub fn qubo_binary_from_sign_solution(m: usize, signs: &[u8], b: &mut [u8]) -> Result<(), Refusal>
     ensures { (numbered result ≡ decode_number m signs.now b.old)
         × (b.new ≡ kept_if_refused (decode_number m signs.now b.old) b.old (fill (decoded_byte (m - 1) signs.now) (m - 1) b.old)) }

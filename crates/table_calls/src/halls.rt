@@ -28,6 +28,7 @@ fn cost_short(hall: LentHall, b: &[u8]) -> bool
 }
 
 // The cost of a choice as bytes, 0 for 0 and any other for 1, in eighths.
+#[tactic(auto, unfolding(crate::specs::Numbers::cost_number, crate::specs::Answer::answered))]
 pub fn eval_qubo_objective(hall: LentHall, b: &[u8]) -> Result<i64, Refusal>
     ensures { let t = costs_of hall.entry in in_numbers result ≡ eighths_answer (cost_number t.n t.count t.rows t.cols t.values t.c b.now)
         (cost_eighths t.n (value_at (quadratic t)) (linear t) (choice_at b.now)) }
@@ -38,7 +39,7 @@ pub fn eval_qubo_objective(hall: LentHall, b: &[u8]) -> Result<i64, Refusal>
 }
 
 // 31 of the slices for the sign table, by their lengths.
-#[tactic(auto, unfolding(crate::specs::Numbers::room_short, laws::specs::Refusal::any_of, laws::specs::Refusal::short))]
+#[tactic(auto, unfolding(tables::specs::Check::bad_size, crate::specs::Numbers::room_short, laws::specs::Refusal::any_of, laws::specs::Refusal::short))]
 fn room_short(n: usize, count: usize, rows: usize, cols: usize, values: usize) -> bool
     ensures { result ≡ room_short n count rows cols values }
 {

@@ -24,6 +24,7 @@ fn objective_short(table: LentTable, signs: &[u8]) -> bool
 }
 
 // The objective of signs as bytes, 0 for + and any other for −, in eighths.
+#[tactic(auto, unfolding(crate::specs::Numbers::objective_number, crate::specs::Answer::answered))]
 pub fn obj_rounded(table: LentTable, signs: &[u8]) -> Result<i64, Refusal>
     ensures { let t = table.entry in in_numbers result ≡ eighths_answer (objective_number t.size t.count t.rows.now t.cols.now t.values.now signs.now)
         (objective_of (lent_table t) (sign_at signs.now)) }
@@ -35,6 +36,7 @@ pub fn obj_rounded(table: LentTable, signs: &[u8]) -> Result<i64, Refusal>
 
 // The floor under every objective, in eighths. This and the next differ in what they answer of the entries: one function that takes that as a closure would be
 // a third contract, which says of any closure what these two say, to save two lines.
+#[tactic(auto, unfolding(crate::specs::Numbers::floor_number, crate::specs::Answer::answered))]
 pub fn floor_eighths(table: LentTable) -> Result<i64, Refusal>
     ensures { let t = table.entry in in_numbers result ≡ eighths_answer (floor_number t.size t.count t.rows.now t.cols.now t.values.now)
         (floor_of (lent_table t)) }
@@ -45,6 +47,7 @@ pub fn floor_eighths(table: LentTable) -> Result<i64, Refusal>
 }
 
 // The floor in doubles, less a margin.
+#[tactic(auto, unfolding(crate::specs::Numbers::floor_number, crate::specs::Answer::answered))]
 pub fn entrywise_lower_bound(table: LentTable) -> Result<f64, Refusal>
     ensures { let t = table.entry in in_numbers result ≡ bound_answer (floor_number t.size t.count t.rows.now t.cols.now t.values.now)
         (entrywise (lent_table t)) }

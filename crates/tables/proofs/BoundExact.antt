@@ -1,20 +1,20 @@
 -- The float bound is the exact floor, in whole units, less its margin: eighths up to 2 ^ 53 in magnitude and their sums are exact in doubles.
 use mathlib.Core.Path.{◌≡◌, refl, ◌∙◌, ap}
 use mathlib.Core.Bool.{Bool, true, false, cond}
-use Prim.Native.Nat.{ℕ, zero, suc, ◌^◌, ◌≤◌, ◌<◌}
+use Prim.Native.Nat.{ℕ, zero, suc, ◌^◌, ◌≤◌}
 use native.Mathlib.Nat.{le_trans}
 use native.Mathlib.Omega.{arith}
 use lib.Dec.{eqb}
 use lib.IntN.{ℤ, pos, neg_ℤ, nat_abs, ◌+ℤ◌}
 use lib.Ieee.{of_bits, of_int, div, neg}
 use Rattle.laws.specs.Sum.{sum, total}
-use Rattle.laws.proofs.Sums.{sum_abs, total_le, total_at}
+use Rattle.laws.proofs.Sums.{sum_abs, total_le}
 use Rattle.laws.proofs.Totals.{total_mono}
 use Rattle.ieee.specs.Floats.{◌+ᶠ◌, ◌-ᶠ◌, zero64, eighth_of}
 use Rattle.ieee.proofs.Eighths.{eighth_add, eighth_less}
 use Rattle.tables.specs.Table.{Table, magnitude_of, least, floor_term, floor_of}
 use Rattle.tables.specs.Bound.{bound_term, bound_sum, magnitude_sum, margin, entrywise}
-use Rattle.tables.proofs.Shares.{abs_least}
+use Rattle.tables.proofs.Shares.{value_small, abs_least}
 
 zero_eighths : zero64 ≡ eighth_of (pos 0)
 unfolding eighth_of div of_int of_bits
@@ -30,9 +30,6 @@ term_exact a i j v h l m = go (eqb i j) m
     go false k = eighth_less a (nat_abs v) h l k
 
 module _ (t : Table) (small : magnitude_of t ≤ 2 ^ 53) where
-  value_le : (k : ℕ) → k < t.count → nat_abs (t.value k) ≤ 2 ^ 53
-  value_le k h = le_trans (total_at t.count k (λ l. nat_abs (t.value l)) h) small
-
   floor_le : (k : ℕ) → k ≤ t.count → nat_abs (sum k (floor_term t)) ≤ 2 ^ 53
   floor_le k h =
       le_trans (sum_abs k (floor_term t))
@@ -44,7 +41,7 @@ module _ (t : Table) (small : magnitude_of t ≤ 2 ^ 53) where
   sums_exact zero h = zero_eighths
   sums_exact (suc k) h =
       ap (λ x. x +ᶠ bound_term (t.row k) (t.column k) (t.value k)) (sums_exact k (omega arith))
-      ∙ term_exact (sum k (floor_term t)) (t.row k) (t.column k) (t.value k) (floor_le k (omega arith)) (value_le k (omega arith)) (floor_le (suc k) h)
+      ∙ term_exact (sum k (floor_term t)) (t.row k) (t.column k) (t.value k) (floor_le k (omega arith)) (value_small t small k (omega arith)) (floor_le (suc k) h)
 
   magnitudes_exact : (k : ℕ) → k ≤ t.count → magnitude_sum t.value k ≡ eighth_of (pos (total k (λ l. nat_abs (t.value l))))
   unfolding magnitude_sum total
@@ -53,7 +50,7 @@ module _ (t : Table) (small : magnitude_of t ≤ 2 ^ 53) where
       let before : total k (λ l. nat_abs (t.value l)) ≤ 2 ^ 53 = le_trans (total_le t.count k (λ l. nat_abs (t.value l)) (omega arith)) small in
       let after : total (suc k) (λ l. nat_abs (t.value l)) ≤ 2 ^ 53 = le_trans (total_le t.count (suc k) (λ l. nat_abs (t.value l)) h) small in
       ap (λ x. x +ᶠ eighth_of (pos (nat_abs (t.value k)))) (magnitudes_exact k (omega arith))
-      ∙ eighth_add (pos (total k (λ l. nat_abs (t.value l)))) (pos (nat_abs (t.value k))) before (value_le k (omega arith)) after
+      ∙ eighth_add (pos (total k (λ l. nat_abs (t.value l)))) (pos (nat_abs (t.value k))) before (value_small t small k (omega arith)) after
 
   -- the bound's two sums
   pub bound_exact : bound_sum t t.count ≡ eighth_of (floor_of t)

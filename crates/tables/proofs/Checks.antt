@@ -11,10 +11,11 @@ use borrow.Author.Tests.{eq-eqb, ne_eqb, eqb-true, ltb-false, leb-false, lt-ltb,
 use lib.ListN.{length}
 use lib.Dec.{eqb, ltb}
 use lib.IntN.{ℤ, pos, negsuc}
+use Rattle.std.proofs.lemmas.Bool.{and_parts}
 use Rattle.laws.specs.Lists.{any_below}
-use Rattle.laws.specs.Refusal.{◌if◌, or_else, first, short}
-use Rattle.laws.proofs.Refusal.{stop, pass, clear, first_head, first_rest, first_skip, first_end}
-use Rattle.laws.proofs.Any.{any_head, any_rest, any_not, any_none, and_true, below_none, below_only, below_true, below_false, below_at}
+use Rattle.laws.specs.Refusal.{◌if◌, first, short}
+use Rattle.laws.proofs.Refusal.{clear, first_head, first_rest, first_skip, first_end}
+use Rattle.laws.proofs.Any.{any_head, any_rest, any_not, any_none, below_none, below_only, below_true, below_false, below_at}
 use Rattle.tables.specs.Table.{Table, Lent, InRange, Before, Rising, Mirrored}
 use Rattle.tables.specs.Check.{bad_size, before, bad_entry, bad_order, place_key, Placed, eq_z, is_mirror, unmirrored, placed_number, hall_number, table_number, short_table, Hall, Accepted}
 use Rattle.tables.proofs.Mirrors.{rises}
@@ -74,14 +75,6 @@ module _ (t : Table) (k j key : ℕ) (placed : Placed t.row t.column t.count) (t
 
   pub present : j < t.count → is_mirror t k j ≡ any_below t.count (is_mirror t k)
   present m = sym (below_only _ t.count j m (λ i l other. off i l (elsewhere m i l other)))
-
--- ---- the capped sum: it is above the limit exactly where the sum is
-same_test : (limit a b : ℕ) → (limit < b → limit < a) → (b ≤ limit → a ≤ limit) → ltb limit a ≡ ltb limit b
-same_test limit a b up down = go (dec_lt limit b)
-  where
-    go : Dec (limit < b) → ltb limit a ≡ ltb limit b
-    go (yes h) = lt-ltb limit a (up h) ∙ sym (lt-ltb limit b h)
-    go (no h) = let le : b ≤ limit = omega arith in le-ltb limit a (down le) ∙ sym (le-ltb limit b le)
 
 -- ---- 14: in range and in order
 
@@ -149,8 +142,8 @@ unfolding unmirrored
 mirror_mirrored t ok = record {
   image = λ k h.
       let (l, below, is) = below_true (is_mirror t k) t.count (not-false _ (below_false _ t.count ok k h)) in
-      let (place, value) = and_true _ _ is in
-      let (row, column) = and_true _ _ place in
+      let (place, value) = and_parts _ _ is in
+      let (row, column) = and_parts _ _ place in
       (l, below, eqb-true _ _ row, eqb-true _ _ column, eq_z_true _ _ value);
 }
 
@@ -177,36 +170,21 @@ size_passes least most most_entries size count a b d =
 pub order_placed : (m : ℕ) (t : Table) → m ≤ 65536 → bad_order m t.row t.column t.count ≡ false → Placed t.row t.column t.count
 order_placed m t small ok = placed small (order_range m t ok) (order_rising m t ok)
 
--- four numbers in a row: none of them, and where none is
-four : (a b d e : Bool) → first (13 if a ∷ 14 if b ∷ 15 if d ∷ 16 if e ∷ []) ≡ 0 → (a ≡ false) × (b ≡ false) × (d ≡ false) × (e ≡ false)
-four a b d e ok =
-    let ok₁ = first_rest (13 if a) (14 if b ∷ 15 if d ∷ 16 if e ∷ []) ok in
-    let ok₂ = first_rest (14 if b) (15 if d ∷ 16 if e ∷ []) ok₁ in
-    let ok₃ = first_rest (15 if d) (16 if e ∷ []) ok₂ in
-    (clear a 12 (first_head _ _ ok), clear b 13 (first_head _ _ ok₁), clear d 14 (first_head _ _ ok₂), clear e 15 (first_head _ _ ok₃))
+-- none of 13 to 16 applies exactly where the table is as it should be
+module _ {least most most_entries limit size magnitude : ℕ} {t : Table} where
+  clear_parts : first (13 if bad_size least most most_entries size t.count ∷ 14 if bad_order size t.row t.column t.count ∷ 15 if unmirrored t ∷ 16 if ltb limit magnitude ∷ []) ≡ 0
+      → (least ≤ size) × (size ≤ most) × (t.count ≤ most_entries) × InRange size t × Rising t × Mirrored t × (magnitude ≤ limit)
+  clear_parts ok =
+      let ok₁ = first_rest _ _ ok in
+      let ok₂ = first_rest _ _ ok₁ in
+      let (some, few, entries) = size_parts _ _ _ _ _ (clear _ 12 (first_head _ _ ok)) in
+      let order = clear _ 13 (first_head _ _ ok₁) in
+      (some, few, entries, order_range size t order, order_rising size t order, mirror_mirrored t (clear _ 14 (first_head _ _ ok₂)), ltb-false _ _ (clear _ 15 (first_head _ _ (first_rest _ _ ok₂))))
 
-no_four : (a b d e : Bool) → a ≡ false → b ≡ false → d ≡ false → e ≡ false → first (13 if a ∷ 14 if b ∷ 15 if d ∷ 16 if e ∷ []) ≡ 0
-no_four a b d e p q r s =
-    first_skip 13 a _ p ∙ first_skip 14 b _ q ∙ first_skip 15 d _ r ∙ first_skip 16 e _ s ∙ first_end
-
--- 13 to 15 in a row, and then 16
-module _ (a b d : Bool) where
-  number_then : (e : Bool) → or_else (first (13 if a ∷ 14 if b ∷ 15 if d ∷ [])) (16 if e) ≡ first (13 if a ∷ 14 if b ∷ 15 if d ∷ 16 if e ∷ [])
-  unfolding first or_else
-  number_then e = go a b d e
-    where
-      go : (a b d e : Bool) → or_else (first (13 if a ∷ 14 if b ∷ 15 if d ∷ [])) (16 if e) ≡ first (13 if a ∷ 14 if b ∷ 15 if d ∷ 16 if e ∷ [])
-      go true b d e = refl
-      go false true d e = refl
-      go false false true e = refl
-      go false false false true = refl
-      go false false false false = refl
-
-  pub number_stops : (e : Bool) {r : ℕ} → r ≡ first (13 if a ∷ 14 if b ∷ 15 if d ∷ []) → (r ≡ 0 → ⊥) → r ≡ first (13 if a ∷ 14 if b ∷ 15 if d ∷ 16 if e ∷ [])
-  number_stops e is some = stop _ (16 if e) is some ∙ number_then e
-
-  pub number_ends : {e : Bool} (t : Bool) → 0 ≡ first (13 if a ∷ 14 if b ∷ 15 if d ∷ []) → e ≡ t → 16 if t ≡ first (13 if a ∷ 14 if b ∷ 15 if d ∷ 16 if e ∷ [])
-  number_ends {e} t none is = pass _ (16 if e) none refl (ap (λ s. 16 if s) (sym is)) ∙ number_then e
+  parts_clear : least ≤ size → size ≤ most → t.count ≤ most_entries → InRange size t → Rising t → Mirrored t → magnitude ≤ limit
+      → first (13 if bad_size least most most_entries size t.count ∷ 14 if bad_order size t.row t.column t.count ∷ 15 if unmirrored t ∷ 16 if ltb limit magnitude ∷ []) ≡ 0
+  parts_clear some few entries r ri mi small =
+      first_skip 13 _ _ (size_passes _ _ _ _ _ some few entries) ∙ first_skip 14 _ _ (order_passes size t r ri) ∙ first_skip 15 _ _ (mirror_passes t mi) ∙ first_skip 16 _ _ (le-ltb _ _ small) ∙ first_end
 
 pub placed_size : (least most most_entries size : ℕ) (t : Table) → placed_number least most most_entries size t ≡ 0 → (least ≤ size) × (size ≤ most) × (t.count ≤ most_entries)
 unfolding placed_number
@@ -215,45 +193,20 @@ placed_size least most most_entries size t ok = size_parts least most most_entri
 -- no number applies exactly where (H, c) is a hall
 pub hall_accepted : {most_wagons most_entries limit n : ℕ} {h : Table} {c : ℕ → ℤ} → hall_number most_wagons most_entries limit n h c ≡ 0 → Hall most_wagons most_entries limit n h c
 unfolding hall_number
-hall_accepted {n = n} {h = h} ok =
-    let (size, order, mirror, magnitude) = four _ _ _ _ ok in
-    let s = size_parts _ _ _ _ _ size in
-    record {
-      wagons = s.1;
-      entries = s.2;
-      in_range = order_range n h order;
-      rising = order_rising n h order;
-      mirrored = mirror_mirrored h mirror;
-      magnitude = ltb-false _ _ magnitude;
-    }
+hall_accepted ok = let (_, w, e, r, ri, mi, m) = clear_parts ok in record { wagons = w; entries = e; in_range = r; rising = ri; mirrored = mi; magnitude = m }
 
 pub hall_passes : {most_wagons most_entries limit n : ℕ} {h : Table} {c : ℕ → ℤ} → Hall most_wagons most_entries limit n h c → hall_number most_wagons most_entries limit n h c ≡ 0
 unfolding hall_number
-hall_passes {n = n} {h = h} ok =
-    no_four _ _ _ _ (size_passes _ _ _ _ _ (omega arith) ok.wagons ok.entries)
-    (order_passes n h ok.in_range ok.rising) (mirror_passes h ok.mirrored) (le-ltb _ _ ok.magnitude)
+hall_passes ok = parts_clear (omega arith) ok.wagons ok.entries ok.in_range ok.rising ok.mirrored ok.magnitude
 
 -- and a sign table
 pub table_accepted : {most_signs most_entries limit m : ℕ} {t : Table} → table_number most_signs most_entries limit m t ≡ 0 → Accepted most_signs most_entries limit m t
 unfolding table_number
-table_accepted {m = m} {t = t} ok =
-    let (size, order, mirror, magnitude) = four _ _ _ _ ok in
-    let s = size_parts _ _ _ _ _ size in
-    record {
-      some = s.0;
-      signs = s.1;
-      entries = s.2;
-      in_range = order_range m t order;
-      rising = order_rising m t order;
-      mirrored = mirror_mirrored t mirror;
-      magnitude = ltb-false _ _ magnitude;
-    }
+table_accepted ok = let (o, s, e, r, ri, mi, m) = clear_parts ok in record { some = o; signs = s; entries = e; in_range = r; rising = ri; mirrored = mi; magnitude = m }
 
 pub table_passes : {most_signs most_entries limit m : ℕ} {t : Table} → Accepted most_signs most_entries limit m t → table_number most_signs most_entries limit m t ≡ 0
 unfolding table_number
-table_passes {m = m} {t = t} ok =
-    no_four _ _ _ _ (size_passes _ _ _ _ _ ok.some ok.signs ok.entries)
-    (order_passes m t ok.in_range ok.rising) (mirror_passes t ok.mirrored) (le-ltb _ _ ok.magnitude)
+table_passes ok = parts_clear ok.some ok.signs ok.entries ok.in_range ok.rising ok.mirrored ok.magnitude
 
 -- ---- 31: slices that are not short are long enough, where the count stands
 

@@ -2,23 +2,26 @@
 use mathlib.Core.Path.{◌≡◌, refl, sym, ◌∙◌, ap, ap₂}
 use mathlib.Core.Bool.{Bool, true, false, cond}
 use Prim.Native.Nat.{ℕ, ◌<◌}
-use lib.IntN.{ℤ, pos, negsuc, neg_ℤ, nat_abs, ◌+ℤ◌, ◌-ℤ◌, ◌*ℤ◌, *ℤ_comm, *ℤ-zero, zero-*ℤ, +ℤ_idr}
+use lib.IntN.{ℤ, pos, negsuc, neg_ℤ, nat_abs, ◌+ℤ◌, ◌-ℤ◌, ◌*ℤ◌, *ℤ_comm, *ℤ-zero, +ℤ_idr}
 use lib.Dec.{eqb}
 use Rattle.laws.specs.Sum.{sum, sum₂, only}
 use Rattle.tables.specs.Table.{Table, InRange, Rising, Mirrored, SignVector, Symmetric, objective_at, objective_of, value_at}
 use Rattle.tables.specs.Flip.{flipped, flip_change, flip_share, flip_term}
 use Rattle.laws.proofs.Integer.{parts, differences, sorted, ring, square_one, times_one, abs_neg}
 use Rattle.laws.proofs.Sums.{sum_ext, sum_add, sum_scale, sum_only, sum₂_ext, sum₂_add, sum₂_swap}
-use Rattle.tables.proofs.Places.{only_sum, over_places}
+use Rattle.tables.proofs.Places.{only_mul, only_sum, over_places}
 use Rattle.tables.proofs.Quadratic.{quadratic, objective_places}
 use Rattle.tables.proofs.Mirrors.{mirrored_symmetric}
 
-only_times : (a b : ℕ) (q v w : ℤ) → q *ℤ (only a b v *ℤ w) ≡ only a b (q *ℤ (v *ℤ w))
-only_times a b q v w = go (eqb a b)
+pub only_right : (a b : ℕ) (q w : ℤ) → q *ℤ only a b w ≡ only a b (q *ℤ w)
+only_right a b q w = go (eqb a b)
   where
-    go : (t : Bool) → q *ℤ (cond t v (pos 0) *ℤ w) ≡ cond t (q *ℤ (v *ℤ w)) (pos 0)
+    go : (s : Bool) → q *ℤ cond s w (pos 0) ≡ cond s (q *ℤ w) (pos 0)
     go true = refl
-    go false = rw (zero-*ℤ w) (*ℤ-zero q)
+    go false = *ℤ-zero q
+
+only_times : (a b : ℕ) (q v w : ℤ) → q *ℤ (only a b v *ℤ w) ≡ only a b (q *ℤ (v *ℤ w))
+only_times a b q v w = rw (only_mul a b v w) (only_right a b q (v *ℤ w))
 
 -- one row alone
 pub one_row : (m i : ℕ) (f : ℕ → ℕ → ℤ) → i < m → sum₂ m (λ a b. only i a (f a b)) ≡ sum m (f i)
@@ -122,19 +125,12 @@ module _ {m : ℕ} {t : Table} (r : InRange m t) (x : ℕ → ℤ) (i : ℕ) (h 
       go true = rw (parts q, parts (x i), parts (x j)) (simp differences (omega ring))
       go false = rw (parts q, parts (x i), parts (x j)) (simp differences (omega ring))
 
-  only_right : (a : ℕ) (q w : ℤ) → q *ℤ only i a w ≡ only i a (q *ℤ w)
-  only_right a q w = go (eqb i a)
-    where
-      go : (s : Bool) → q *ℤ cond s w (pos 0) ≡ cond s (q *ℤ w) (pos 0)
-      go true = refl
-      go false = *ℤ-zero q
-
   pub flip_entries : sum t.count (flip_term t x i) ≡ flip_change m (value_at t) x i
   unfolding flip_change
   flip_entries =
       sum_ext t.count _ _ (λ k l. share_factor (t.row k) (t.column k) (t.value k))
       ∙ over_places r (λ a j. only i a (factor j))
-      ∙ sum₂_ext m _ _ (λ a j k l. only_right a (q a j) (factor j))
+      ∙ sum₂_ext m _ _ (λ a j k l. only_right i a (q a j) (factor j))
       ∙ one_row m i (λ a j. q a j *ℤ factor j) h
       ∙ sum_ext m _ _ (λ j l. in_row (q i j) j)
       ∙ sum_add m (λ j. negsuc 3 *ℤ x i *ℤ (q i j *ℤ x j)) (λ j. only i j (pos 4 *ℤ q i j *ℤ (x i *ℤ x j)))

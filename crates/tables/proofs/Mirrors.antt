@@ -1,7 +1,7 @@
 -- A table whose entries are mirrored has a symmetric square of values.
-use mathlib.Core.Path.{◌≡◌, sym, ◌∙◌, ap}
+use mathlib.Core.Path.{◌≡◌, refl, sym, ◌∙◌, ap}
 use mathlib.Core.Logic.{inl, inr}
-use mathlib.Core.Bool.{true, false, cond}
+use mathlib.Core.Bool.{Bool, true, false, cond}
 use Prim.Native.Nat.{ℕ, zero, suc, ◌<◌}
 use native.Mathlib.Decide.{ℕ_discrete}
 use native.Mathlib.Omega.{arith}
@@ -40,31 +40,6 @@ module _ (n : ℕ) (r c : ℕ → ℕ) (v : ℕ → ℤ) (i j : ℕ) where
 
   at_none : ((l : ℕ) → l < n → r l ≡ i → c l ≡ j → ⊥) → sum n (λ l. only (r l) i (only (c l) j (v l))) ≡ pos 0
   at_none d = sum_ext n _ (λ l. pos 0) (λ l m. elsewhere l (d l m)) ∙ sum_zero n
-
--- an entry at (i, j), or none
-data Found (n : ℕ) (r c : ℕ → ℕ) (i j : ℕ) : Type 0 where
-  here : (k : ℕ) → k < n → r k ≡ i → c k ≡ j → Found n r c i j
-  none : ((l : ℕ) → l < n → r l ≡ i → c l ≡ j → ⊥) → Found n r c i j
-
-find : (n : ℕ) (r c : ℕ → ℕ) (i j : ℕ) → Found n r c i j
-find zero r c i j = none (λ l h a b. absurd (omega arith))
-find (suc n) r c i j = go (find n r c i j) (ℕ_discrete (r n) i) (ℕ_discrete (c n) j)
-  where
-    lower : (l : ℕ) → l < suc n → (l ≡ n → ⊥) → l < n
-    lower l h d = omega arith
-
-    other : (l : ℕ) → l < suc n → ((k : ℕ) → k < n → r k ≡ i → c k ≡ j → ⊥) → (r n ≡ i → c n ≡ j → ⊥) → r l ≡ i → c l ≡ j → ⊥
-    other l h d e a b = pick (ℕ_discrete l n)
-      where
-        pick : Dec (l ≡ n) → ⊥
-        pick (yes q) = e (ap r (sym q) ∙ a) (ap c (sym q) ∙ b)
-        pick (no q) = d l (lower l h q) a b
-
-    go : Found n r c i j → Dec (r n ≡ i) → Dec (c n ≡ j) → Found (suc n) r c i j
-    go (here k h a b) p q = here k (omega arith) a b
-    go (none d) (yes a) (yes b) = here n (omega arith) a b
-    go (none d) (yes a) (no b) = none (λ l h. other l h d (λ p q. b q))
-    go (none d) (no a) q = none (λ l h. other l h d (λ p _. a p))
 
 -- ---- in rising order each place is there once
 
@@ -105,27 +80,10 @@ pub value_none : (t : Table) (i j : ℕ) → ((l : ℕ) → l < t.count → t.ro
 unfolding value_at
 value_none t i j d = at_none t.count t.row t.column t.value i j d
 
--- the theorem
-pub mirrored_symmetric : {t : Table} → Rising t → Mirrored t → (m : ℕ) → Symmetric m (value_at t)
-mirrored_symmetric {t} ri mi m = record { mirror = λ i j h k. go i j (find t.count t.row t.column i j) }
-  where
-    go : (i j : ℕ) → Found t.count t.row t.column i j → value_at t i j ≡ value_at t j i
-    go i j (here k h a b) =
-        let (l, h', a', b', e) = mi.image k h in
-        value_here ri i j k h a b ∙ sym e ∙ sym (value_here ri j i l h' (a' ∙ b) (b' ∙ a))
-    go i j (none d) =
-        value_none t i j d
-        ∙ sym (value_none t j i (λ l h a b. let (l', h', a', b', e) = mi.image l h in d l' h' (a' ∙ b) (b' ∙ a)))
-
--- of an accepted (H, c)
-pub hall_symmetric : {most capacity limit n : ℕ} {h : Table} {c : ℕ → ℤ} → Hall most capacity limit n h c → Symmetric n (value_at h)
-hall_symmetric {n = n} ok = mirrored_symmetric ok.rising ok.mirrored n
-
 -- ---- where an entry stands, and where none does
 
 both_false : (a b i j : ℕ) → cond (eqb a i) (eqb b j) false ≡ false → a ≡ i → b ≡ j → ⊥
-both_false a b i j e p q =
-    cc (rw (eq-eqb a i p, eq-eqb b j q) at e)
+both_false a b i j e p q = cc (rw (eq-eqb a i p, eq-eqb b j q) at e)
 
 both_true : (a b i j : ℕ) → cond (eqb a i) (eqb b j) false ≡ true → (a ≡ i) × (b ≡ j)
 both_true a b i j e = go (ℕ_discrete a i) (ℕ_discrete b j)
@@ -162,3 +120,20 @@ stored_none t i j d = below_none _ t.count (λ k h. go k h (ℕ_discrete (t.row 
 
 pub unstored_zero : (t : Table) (i j : ℕ) → stored_at t i j ≡ false → value_at t i j ≡ pos 0
 unstored_zero t i j e = value_none t i j (stored_false t i j e)
+
+-- the theorem
+pub mirrored_symmetric : {t : Table} → Rising t → Mirrored t → (m : ℕ) → Symmetric m (value_at t)
+mirrored_symmetric {t} ri mi m = record { mirror = λ i j h k. go i j (stored_at t i j) refl }
+  where
+    go : (i j : ℕ) (s : Bool) → stored_at t i j ≡ s → value_at t i j ≡ value_at t j i
+    go i j true s =
+        let (k, h, a, b) = stored_true t i j s in
+        let (l, h', a', b', e) = mi.image k h in
+        value_here ri i j k h a b ∙ sym e ∙ sym (value_here ri j i l h' (a' ∙ b) (b' ∙ a))
+    go i j false s =
+        unstored_zero t i j s
+        ∙ sym (value_none t j i (λ l h a b. let (l', h', a', b', e) = mi.image l h in stored_false t i j s l' h' (a' ∙ b) (b' ∙ a)))
+
+-- of an accepted (H, c)
+pub hall_symmetric : {most capacity limit n : ℕ} {h : Table} {c : ℕ → ℤ} → Hall most capacity limit n h c → Symmetric n (value_at h)
+hall_symmetric {n = n} ok = mirrored_symmetric ok.rising ok.mirrored n

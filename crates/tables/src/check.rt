@@ -93,6 +93,7 @@ pub fn hall_too_large(limit: u64, n: usize, count: usize, values: &[i64], c: &[i
 }
 
 // 16 for a sign table: the same with no linear costs.
+#[tactic(auto, unfolding(laws::specs::Sum::total))]
 pub fn too_large(limit: u64, count: usize, values: &[i64]) -> bool
     requires { (count ≤ length values.now) × (limit < 2 ^ 60) }
     ensures { result ≡ ltb limit (total count (λ k. nat_abs (elem_z values.now k))) }
@@ -126,6 +127,7 @@ fn placed_number(
 // The first number of (H, c), within limits that the caller names. This and `table_number_within` stay beside those of 01's limits, since they promise of any
 // limits; and they are two, since of (H, c) another least size is asked, and 16 has the costs in it.
 // `most, capacity, limit` stay three numbers: these two alone take all three, and the definitions that they cite take them so.
+#[tactic(auto, unfolding(crate::specs::Check::placed_number, crate::specs::Check::hall_number, laws::specs::Refusal::first, laws::specs::Refusal::or_else))]
 pub fn hall_number_within(
     most: usize,
     capacity: usize,
@@ -152,6 +154,7 @@ pub fn hall_number(hall: LentHall) -> Result<(), Refusal>
 }
 
 // The first number of a sign table given directly, within limits that the caller names.
+#[tactic(auto, unfolding(crate::specs::Check::placed_number, crate::specs::Check::table_number, laws::specs::Refusal::first, laws::specs::Refusal::or_else))]
 pub fn table_number_within(
     most: usize,
     capacity: usize,

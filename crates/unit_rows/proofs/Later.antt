@@ -17,7 +17,7 @@ use Rattle.run_record.specs.declared.Run.{Run}
 use Rattle.tables.specs.CostTable.{CostTable}
 use Rattle.run_contract.specs.Calls.{Sweeps, used}
 use Rattle.unit_rows.specs.UnitRows.{Tame, ever_rewritten, UnitRows, if_accepted, Calls, ends, sweeps, others, rewritten_in, EveryLaterSweep}
-use Rattle.unit_rows.proofs.OfCall.{call_rows, rows_kept, size_kept, rank_kept}
+use Rattle.unit_rows.proofs.OfCall.{either_new, neither_new, call_rows, rows_kept, size_kept, rank_kept}
 
 -- ---- the same size and rank
 
@@ -51,20 +51,11 @@ none_new run rows whole tame = record {
 join : (first later : ℕ → Bool) (run : Run) (rows between rows' : List Float) → UnitRows first run rows between → UnitRows later run between rows'
     → UnitRows (λ i. cond (first i) true (later i)) run rows rows'
 join first later run rows between rows' a b = record {
-  rewritten_rows = λ i l. new i l (first i) (later i) refl refl;
-  standing_rows = λ i l. old i l (first i) refl;
+  rewritten_rows = λ i l. either_new (first i) (later i) (b.rewritten_rows i l) (λ f g. subst UnitLength (sym (b.standing_rows i l g)) (a.rewritten_rows i l f));
+  standing_rows = λ i l. neither_new (first i) (later i) (λ f g. b.standing_rows i l g ∙ a.standing_rows i l f);
   whole_rows = b.whole_rows;
   tame = b.tame;
 }
-  where
-    new : (i : ℕ) → i < run.size → (p q : Bool) → first i ≡ p → later i ≡ q → cond p true q ≡ true → UnitLength (row_of run.rank rows' i)
-    new i l p true f g t = b.rewritten_rows i l g
-    new i l true false f g t = subst UnitLength (sym (b.standing_rows i l g)) (a.rewritten_rows i l f)
-    new i l false false f g t = cc
-
-    old : (i : ℕ) → i < run.size → (p : Bool) → first i ≡ p → cond p true (later i) ≡ false → row_of run.rank rows' i ≡ row_of run.rank rows i
-    old i l true f t = cc
-    old i l false f t = b.standing_rows i l t ∙ a.standing_rows i l f
 
 -- ---- a call of sweeps, accepted or not
 

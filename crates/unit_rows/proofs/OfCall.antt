@@ -20,8 +20,8 @@ use lib.Seq.{get_or-take, length-take-le, take_at}
 use Rattle.limits.specs.Limits.{most_signs, most_sign_entries, most_sign_magnitude, most_rank}
 use Rattle.laws.specs.Rows.{row_of}
 use Rattle.laws.specs.Lists.{over, only_if, kept}
-use Rattle.laws.proofs.Parts.{row_within, length_row_of}
-use Rattle.laws.proofs.Made.{below_or_not}
+use Rattle.laws.proofs.Parts.{row_within, row_front, length_row_of}
+use Rattle.std.proofs.lemmas.Bool.{cases_lt}
 use Rattle.laws.proofs.Refusal.{clear, first_head, first_rest}
 use Rattle.ieee.specs.Floats.{at, zero64}
 use Rattle.tables.specs.Table.{Table}
@@ -34,7 +34,6 @@ use Rattle.step_rules.specs.declared.StepRule.{StepRule}
 use Rattle.step_rules.specs.declared.StepRule.TheVariants.{CoordNoStep}
 use Rattle.row_length.specs.Length.{AtMostTwo, UnitLength, rewrites}
 use Rattle.row_length.proofs.OfTable.{rule3_length, rule3_standing, rule3_size, rule3_low}
-use Rattle.row_length.proofs.Rows.{row_front}
 use Rattle.run_record.specs.declared.Run.{Run}
 use Rattle.run_record.specs.declared.Stage.{Stage}
 use Rattle.run_record.specs.declared.Stage.TheVariants.{Open, Stopped}
@@ -46,7 +45,19 @@ use Rattle.run_sweep.proofs.Loop.{goes}
 use Rattle.run_contract.specs.Calls.{Sweeps, used}
 use Rattle.run_contract.specs.Log.{Made, is_left}
 use Rattle.run_contract.proofs.Accepting.{Sweeping, sweep_accepted}
+use Rattle.run_contract.proofs.Counting.{length_only}
 use Rattle.unit_rows.specs.UnitRows.{Tame, rewritten_by, if_open_rewritten, ever_rewritten_by, rewritten, ever_rewritten, UnitRows, HowLongARowIs}
+
+-- ---- what the first or the later sweeps rewrite
+
+pub either_new : {U : Type 0} (first later : Bool) → (later ≡ true → U) → (first ≡ true → later ≡ false → U) → cond first true later ≡ true → U
+either_new p true h k e = h refl
+either_new true false h k e = k refl refl
+either_new false false h k e = absurd (cc)
+
+pub neither_new : {U : Type 0} (first later : Bool) → (first ≡ false → later ≡ false → U) → cond first true later ≡ false → U
+neither_new true later h e = absurd (cc)
+neither_new false later h e = h refl e
 
 -- ---- sweeps over a table
 
@@ -115,18 +126,9 @@ module _ (q : Table) (m rank : ℕ) (table : Accepted most_signs most_sign_entri
       → Ended rows end (λ i. cond (rewritten_by w run rows i) true (new i))
   ended_more run rows h end new e = record {
     holds = e.holds;
-    done = λ i l. done i l (rewritten_by w run rows i) (new i) refl refl;
-    same = λ i l. same i l (rewritten_by w run rows i) refl;
+    done = λ i l. either_new (rewritten_by w run rows i) (new i) (e.done i l) (λ f g. subst UnitLength (sym (e.same i l g)) (new_row run rows h i l f));
+    same = λ i l. neither_new (rewritten_by w run rows i) (new i) (λ f g. e.same i l g ∙ old_row run rows h i l f);
   }
-    where
-      done : (i : ℕ) → i < m → (a b : Bool) → rewritten_by w run rows i ≡ a → new i ≡ b → cond a true b ≡ true → UnitLength (row_of rank end.factor i)
-      done i l a true f g t = e.done i l g
-      done i l true false f g t = subst UnitLength (sym (e.same i l g)) (new_row run rows h i l f)
-      done i l false false f g t = cc
-
-      same : (i : ℕ) → i < m → (a : Bool) → rewritten_by w run rows i ≡ a → cond a true (new i) ≡ false → row_of rank end.factor i ≡ row_of rank rows i
-      same i l true f t = cc
-      same i l false f t = e.same i l t ∙ old_row run rows h i l f
 
   ended : (k : ℕ) (run : Run) (rows : List Float) → Holds run rows → Ended rows (sweeps_up_to k w run rows) (ever_rewritten_by k w run rows)
   unfolding sweeps_up_to ever_rewritten_by
@@ -251,7 +253,7 @@ module _ (run : Run) (t : CostTable) (k : ℕ) (factor : List Float) (number : �
 open_once : (stage : Stage) (a : Bool) → is_stopped stage ≡ false → if_open_rewritten stage (cond a true false) ≡ a
 open_once Open true e = refl
 open_once Open false e = refl
-open_once Stopped a e = let z : ◌≡◌ {A = ℕ} 0 1 = cc in absurd (omega arith)
+open_once Stopped a e = cc
 
 ever_once : (w : Work) (run : Run) (rows : List Float) (i : ℕ) → is_stopped run.stage ≡ false → ever_rewritten_by 1 w run rows i ≡ rewritten_by w run rows i
 unfolding ever_rewritten_by
@@ -260,10 +262,6 @@ ever_once w run rows i e = open_once run.stage (rewritten_by w run rows i) e
 one_standing : (w : Work) (run : Run) (rows : List Float) → is_stopped run.stage ≡ false → (sweeps_up_to 1 w run rows).run.standing ≡ run.standing + standing_once w run rows
 unfolding sweeps_up_to run_after advanced
 one_standing w run _ e = ap (λ (s : State). s.run.standing) (goes run.stage _ _ e)
-
-length_only : (b : Bool) (i : ℕ) → length (only_if (not b) i) ≡ cond b 0 1
-length_only true i = refl
-length_only false i = refl
 
 counted : (cols : List ℕ) (values : List Float) (starts : List ℕ) (rank : ℕ) (rows : List Float) (n : ℕ)
     → standing_to cols values starts rank zero64 rows n ≡ length (kept (λ i. not (rewrites cols values starts rank rows i)) (λ i. i) n)
@@ -350,12 +348,12 @@ none_kept keep (suc n) i e l =
     let parts = length-append (kept keep (λ j. j) n) (only_if (keep n) n) in
     let below : length (kept keep (λ j. j) n) ≡ 0 = omega (arith, e, parts) in
     let last : length (only_if (keep n) n) ≡ 0 = omega (arith, e, parts) in
-    ⊎_elim (λ b. none_kept keep n i below b) (λ b. let z : n ≡ i = omega (arith, b, l) in subst (λ (j : ℕ). keep j ≡ false) z (only_none (keep n) n last)) (below_or_not i n)
+    ⊎_elim (λ b. none_kept keep n i below b) (λ b. let z : n ≡ i = omega (arith, b, l) in subst (λ (j : ℕ). keep j ≡ false) z (only_none (keep n) n last)) (cases_lt i n)
 
 open_true : (stage : Stage) (a b : Bool) → is_stopped stage ≡ false → a ≡ true → if_open_rewritten stage (cond a true b) ≡ true
 open_true Open true b o e = refl
-open_true Open false b o e = absurd (let z : ◌≡◌ {A = ℕ} 0 1 = cc in omega arith)
-open_true Stopped a b o e = let z : ◌≡◌ {A = ℕ} 0 1 = cc in absurd (omega arith)
+open_true Open false b o e = cc
+open_true Stopped a b o e = cc
 
 ever_first : (k : ℕ) (w : Work) (run : Run) (rows : List Float) (i : ℕ) → is_stopped run.stage ≡ false → rewritten_by w run rows i ≡ true → ever_rewritten_by (suc k) w run rows i ≡ true
 unfolding ever_rewritten_by

@@ -26,16 +26,16 @@ module _ (c : In_ok-block_number) where
       (sym c.in_ok-block_number.ensures)
 
 pub slice_bounds-clear_house-end : goal.slice_bounds-clear_house-end
-slice_bounds-clear_house-end c = let a = c.args in (call (goal.at.slice_bounds-clear_house-end c).In_ok-block_number).choice_there
+slice_bounds-clear_house-end c = (call (goal.at.slice_bounds-clear_house-end c).In_ok-block_number).choice_there
 
 pub slice_bounds-clear_house-end-2 : goal.slice_bounds-clear_house-end-2
-slice_bounds-clear_house-end-2 c = let a = c.args in (call (goal.at.slice_bounds-clear_house-end-2 c).In_ok-block_number).space_there
+slice_bounds-clear_house-end-2 c = (call (goal.at.slice_bounds-clear_house-end-2 c).In_ok-block_number).space_there
 
 pub invariant_of-table : goal.invariant_of-table
-invariant_of-table c = let a = c.args in record { lent = (call (goal.at.invariant_of-table c).In_ok-block_number).lent }
+invariant_of-table c = record { lent = (call (goal.at.invariant_of-table c).In_ok-block_number).lent }
 
 pub invariant_of-judged : goal.invariant_of-judged
-invariant_of-judged c = let a = c.args in
+invariant_of-judged c =
     let r = call (goal.at.invariant_of-judged c).In_ok-block_number in
     record { costs_there = r.costs_there; judged = hall_passes r.hall }
 

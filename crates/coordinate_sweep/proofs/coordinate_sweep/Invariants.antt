@@ -6,8 +6,7 @@ use Rattle.coordinate_sweep.specs.Sweep.{sweep_to, standing_to}
 use Rattle.coordinate_sweep.proofs.coordinate_sweep.Given as goal
 
 abbrev pub invariant-loop-i : goal.invariant-loop-i
-invariant-loop-i l = (l.i ≤ l.m) × (l.factor ≡ sweep_to l.table.cols.now l.table.values.now l.table.starts.now (length l.initial.g) l.beta l.initial.factor l.i) × (length l.factor ≡ length l.initial.factor) × (length l.g ≡ length l.initial.g) × (length l.h ≡ length l.initial.g)
-    × (l.left ≡ standing_to l.table.cols.now l.table.values.now l.table.starts.now (length l.initial.g) l.beta l.initial.factor l.i)
+invariant-loop-i l = (l.i ≤ l.m) × (l.factor ≡ sweep_to l.table.cols.now l.table.values.now l.table.starts.now (length l.initial.g) l.beta l.initial.factor l.i) × (l.left ≡ standing_to l.table.cols.now l.table.values.now l.table.starts.now (length l.initial.g) l.beta l.initial.factor l.i)
 
 abbrev pub decreases-loop-i : goal.decreases-loop-i
 decreases-loop-i l = l.m - l.i

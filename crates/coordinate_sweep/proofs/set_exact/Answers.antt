@@ -1,10 +1,9 @@
 -- `coordinate_sweep::set_exact` meets its contract. By what its callee ensures of each element. Assumes nothing.
 use borrow.Author.Rules.{rules}
-use Rattle.ieee.specs.Floats.{◌*ᶠ◌, at}
 use Rattle.factor.proofs.Updates.{updated_is}
 use Rattle.coordinate_sweep.specs.Sweep.{exact_row}
 use Rattle.coordinate_sweep.proofs.set_exact.Goals as goal
 
 pub returns : goal.returns
 unfolding exact_row
-returns c = updated_is (λ j old. at c.args.g.now j *ᶠ c.args.inv) _ _ (c.update_with.ensures.0, λ j h. let is = c.update_with.ensures.1 j h in search rules)
+returns c = updated_is _ _ _ (c.update_with.ensures.0, λ j h. let is = c.update_with.ensures.1 j h in search rules)

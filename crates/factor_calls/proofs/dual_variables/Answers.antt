@@ -17,9 +17,6 @@ pub invariant_of-qv : goal.invariant_of-qv
 invariant_of-qv c = let u = dual_accepted _ _ _ _ _ _ _ _ (sym c.in_ok-entries.ensures.number) in
     record { judged = rw c.in_ok-entries.ensures.entries u.judged; rank_few = c.rank_meant-meant.ensures.1; rows_there = rw c.rank_meant-meant.ensures.0 u.factor_long }
 
-pub multiply-requires : goal.multiply-requires
-multiply-requires c = (dual_accepted _ _ _ _ _ _ _ _ (sym c.in_ok-entries.ensures.number)).out_long
-
 pub returns : goal.returns
 returns c = record {
   answers = c.in_ok-entries.ensures.number;

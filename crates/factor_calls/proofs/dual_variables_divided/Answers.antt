@@ -18,9 +18,6 @@ invariant_of-qv c = let a = c.args in
     let long : a.table.size * a.rank ≤ length a.factor.now = subst (λ (r : ℕ). a.table.size * r ≤ length a.factor.now) u.1 u.0.factor_long in
     record { judged = rw c.in_ok-entries.ensures.entries u.0.judged; rank_few = u.0.rank_low; rows_there = long }
 
-pub multiply-requires : goal.multiply-requires
-multiply-requires c = (divided_accepted _ _ _ _ _ _ _ _ (sym c.in_ok-entries.ensures.number)).0.out_long
-
 pub returns : goal.returns
 returns c = record {
   answers = c.in_ok-entries.ensures.number;

@@ -8,8 +8,7 @@ use Rattle.prepared_table.proofs.keep.Given as goal
 
 abbrev pub invariant-loop-e : goal.invariant-loop-e
 invariant-loop-e g l =
-    (length l.out ≡ length l.initial.out)
-    × (l.at ≤ l.e)
+    (l.at ≤ l.e)
     × ((f : ℕ → g.row.T.Denot) → ((e : ℕ) (x : g.row.T.Denot) → e < l.count → goal.F-post g l.of e x → x ≡ f e)
     → (l.at ≡ length (kept (stays l.aside (elem l.rows) (elem l.cols)) f l.e))
     × (l.out ≡ over (kept (stays l.aside (elem l.rows) (elem l.cols)) f l.e) l.initial.out))

@@ -1,7 +1,6 @@
 -- `prepared_table::next_start` meets its contract: the entry found is the definition's. Assumes nothing.
 use Rattle.std.proofs.Common.{rules, tests, ℕ, ◌<◌, ◌≤◌, length, get_or, take, drop, ◌-◌}
-use native.Mathlib.Omega.{arith}
-use Rattle.prepared_table.proofs.Starting.{start_le, start_found, start_behind}
+use Rattle.prepared_table.proofs.Starting.{start_found, start_behind}
 use Rattle.prepared_table.proofs.next_start.Goals as goal
 
 pub returns-in-Some : goal.returns-in-Some
@@ -17,12 +16,3 @@ returns-in-None c =
     let xs = take (length c.args.rows.now - c.args.from) (drop c.args.from c.args.rows.now) in
     let below : (e : ℕ) → e < length xs → get_or xs e 0 < c.args.i = search (rules, tests) in
     start_behind c.args.rows.now c.args.i c.args.from c.requires below
-
-pub slice_bounds-iter-start : goal.slice_bounds-iter-start
-slice_bounds-iter-start c = omega (arith, start_le c.args.rows.now c.args.i, c.requires)
-
-pub slice_bounds-iter-count : goal.slice_bounds-iter-count
-slice_bounds-iter-count c = omega (arith, start_le c.args.rows.now c.args.i, c.requires)
-
-pub offset_bounds-rows-from : goal.offset_bounds-rows-from
-offset_bounds-rows-from c = record { fits = omega (arith, start_le c.args.rows.now c.args.i, c.requires) }

@@ -11,10 +11,10 @@ use Rattle.prepared_table.proofs.Preparing.{work_front}
 use Rattle.prepared_table.proofs.separate_diagonal.Goals as goal
 
 pub slice_bounds-set_starts-end : goal.slice_bounds-set_starts-end
-slice_bounds-set_starts-end c = let a = c.args in omega (arith, length_kept (stays c.sets_aside-aside.result (elem a.table.rows.now) (elem a.table.cols.now)) (elem a.table.rows.now) a.table.count, (c.keep-stay.ensures (elem a.table.rows.now) (λ e x h is. search rules)).0, c.keep-stay.auto.out, c.requires.count_in_bounds.0)
+slice_bounds-set_starts-end c = let a = c.args in omega (arith, length_kept (stays c.sets_aside-aside.result (elem a.table.rows.now) (elem a.table.cols.now)) (elem a.table.rows.now) a.table.count, (c.keep-stay.ensures (elem a.table.rows.now) (λ e x h is. search rules)).0)
 
 pub slice_bounds-set_starts-end-2 : goal.slice_bounds-set_starts-end-2
-slice_bounds-set_starts-end-2 c = let a = c.args in sym (length-take-le _ _ (omega (arith, length_kept (stays c.sets_aside-aside.result (elem a.table.rows.now) (elem a.table.cols.now)) (elem a.table.rows.now) a.table.count, (c.keep-stay.ensures (elem a.table.rows.now) (λ e x h is. search rules)).0, c.keep-stay.auto.out, c.requires.count_in_bounds.0)))
+slice_bounds-set_starts-end-2 c = let a = c.args in sym (length-take-le _ _ (omega (arith, length_kept (stays c.sets_aside-aside.result (elem a.table.rows.now) (elem a.table.cols.now)) (elem a.table.rows.now) a.table.count, (c.keep-stay.ensures (elem a.table.rows.now) (λ e x h is. search rules)).0)))
 
 pub returns : goal.returns
 unfolding prepared_rows prepared_cols prepared_values work_starts

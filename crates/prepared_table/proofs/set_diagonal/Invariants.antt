@@ -1,6 +1,5 @@
 -- `prepared_table::set_diagonal` meets its contract. The diagonal is the definition at e. Assumes nothing.
 use mathlib.Core.Path.{◌≡◌}
-use Prim.Native.Nat.{◌≤◌, ◌-◌}
 use lib.ListN.{length, replicate}
 use Rattle.ieee.specs.Floats.{zero64}
 use Rattle.laws.specs.Turns.{up_to}
@@ -9,7 +8,4 @@ use Rattle.prepared_table.specs.Work.{diagonal_turn}
 use Rattle.prepared_table.proofs.set_diagonal.Given as goal
 
 abbrev pub invariant-loop-e : goal.invariant-loop-e
-invariant-loop-e l = (l.e ≤ l.table.count) × (length l.out ≡ length l.initial.out) × (l.out ≡ up_to (diagonal_turn (listed l.table)) l.e (replicate (length l.initial.out) zero64))
-
-abbrev pub decreases-loop-e : goal.decreases-loop-e
-decreases-loop-e l = l.table.count - l.e
+invariant-loop-e l = l.out ≡ up_to (diagonal_turn (listed l.table)) l.e (replicate (length l.initial.out) zero64)

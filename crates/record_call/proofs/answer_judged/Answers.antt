@@ -22,6 +22,6 @@ answer_job-requires c = (at_fronts c.args.job.now (sym c.in_default.ensures.numb
 pub returns : goal.returns
 returns c = let a = c.args in
     answers_accepted a.job.now a.workspace.now a.answer.now (λ i. omega (arith, c.type_inv.job i)) _ _
-    (drop_at c.answer_job.new.workspace _ record_workspace (omega (arith, c.answer_job.auto.workspace, length-take-le record_workspace a.workspace.now c.requires.0)))
+    (drop_at c.answer_job.new.workspace _ record_workspace (omega (arith, length-take-le record_workspace a.workspace.now c.requires.0)))
     (roomy a.job.now a.workspace.now a.answer.now c.requires.1 c.requires.0)
     (sym c.in_default.ensures.numbered) c.answer_job.ensures

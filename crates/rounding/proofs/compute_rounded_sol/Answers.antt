@@ -5,14 +5,10 @@ use native.Mathlib.Omega.{arith}
 use Rattle.tables.specs.Entries.{listed}
 use Rattle.local_search.specs.Level.{Choice}
 use Rattle.local_search.specs.Children.{parent_of}
-use Rattle.rounding.specs.Rounding.{first_least, signs_of, draw_objective, rounded_sol, rounded_objective}
+use Rattle.rounding.specs.Rounding.{first_least, signs_of, draw_objective}
 use Rattle.rounding.proofs.Least.{least_step}
 use Rattle.laws.proofs.Integer.{held}
 use Rattle.rounding.proofs.compute_rounded_sol.Goals as goal
-
-pub loop-k-init : goal.loop-k-init
-unfolding first_least
-loop-k-init c = (held c.evaluate_draw-least.result c.evaluate_draw-least.type_inv ∙ c.evaluate_draw-least.ensures.value, c.evaluate_draw-least.ensures.signs_after)
 
 pub loop-k-preserved : goal.loop-k-preserved
 loop-k-preserved c = let a = c.args in
@@ -25,7 +21,3 @@ loop-k-preserved c = let a = c.args in
     least_step f g l.k l.auto.k l.invariant.0 l.invariant.1 (held o.result o.type_inv ∙ o.ensures.value) o.ensures.signs_after
     c.keep_better-least.ensures.least_after c.keep_better-least.ensures.kept_after in
     rw now (held c.keep_better-least.result c.keep_better-least.type_inv ∙ ap (λ (x : Choice). x.objective) e, ap (λ (x : Choice). x.signs) e)
-
-pub returns : goal.returns
-unfolding rounded_sol rounded_objective
-returns c = let e : c.loop-k.k ≡ c.args.draws.count = omega arith in record { value = rw e at c.loop-k.invariant.0; best_after = rw e at c.loop-k.invariant.1 }

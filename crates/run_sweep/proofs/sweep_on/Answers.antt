@@ -1,6 +1,6 @@
 use mathlib.Core.Path.{◌∙◌}
 use Rattle.step_rules.proofs.Standing.{standing_in_few}
-use Rattle.run_sweep.proofs.Loop.{reshaped}
+use Rattle.factor.proofs.Shaping.{reshaped}
 use Rattle.run_sweep.proofs.sweep_on.Goals as goal
 
 pub run_after-requires : goal.run_after-requires

@@ -13,17 +13,11 @@ use Rattle.sdp_local_search.proofs.Numbers.{call_ready}
 use Rattle.sdp_local_search.proofs.Calls.{answered, written, tail_kept}
 use Rattle.sdp_local_search.proofs.beam_search.Goals as goal
 
-pub slice_bounds-search_from-end : goal.slice_bounds-search_from-end
-slice_bounds-search_from-end c = (call_ready (sym c.in_ok-entries.ensures.number)).out_there
-
-pub slice_bounds-search_from-end-2 : goal.slice_bounds-search_from-end-2
-slice_bounds-search_from-end-2 c = (call_ready (sym c.in_ok-entries.ensures.number)).workspace_there
-
 pub search_from-found-requires : goal.search_from-found-requires
 search_from-found-requires c = let a = c.args in
     let k = call_ready (sym c.in_ok-entries.ensures.number) in
     let m : length (take (a.table.size - 0) (drop 0 a.out.now)) ≡ a.table.size = part_size a.table.size a.out.now k.out_there in
-    let n : length (take (search_workspace - 0) (drop 0 a.workspace.now)) ≡ search_workspace = part_size search_workspace a.workspace.now k.workspace_there in (rw (m, n) (record { signs_few = k.signs_few; width_few = omega (arith, k.width_few); level_room = omega arith }), rw (m, c.in_ok-entries.ensures.entries) k.sound, rw m k.start_there)
+    let n : length (take (search_workspace - 0) (drop 0 a.workspace.now)) ≡ search_workspace = part_size search_workspace a.workspace.now k.workspace_there in (rw (m, n) (record { signs_few = k.signs_few; width_few = omega arith; level_room = omega arith }), rw (m, c.in_ok-entries.ensures.entries) k.sound, rw m k.start_there)
 
 pub returns : goal.returns
 returns c = let a = c.args in

@@ -2,17 +2,13 @@
 use mathlib.Core.Path.{refl, sym}
 use native.Mathlib.Omega.{arith}
 use lib.Seq.{length-take-le}
-use Rattle.sign_calls.proofs.Accepting.{pack_room, packs_accepted}
+use Rattle.sign_calls.proofs.Accepting.{pack_room}
 use Rattle.sign_calls.proofs.pack_signs.Goals as goal
 
 pub slice_bounds-pack-end : goal.slice_bounds-pack-end
 slice_bounds-pack-end c = let a = c.args in
     let room = pack_room a.m a.signs.now a.words.now c.in_ok-pack_number.ensures refl c.sign_words-count.ensures in
     sym (length-take-le _ a.signs.now room.0)
-
-pub slice_bounds-pack-end-2 : goal.slice_bounds-pack-end-2
-slice_bounds-pack-end-2 c = let a = c.args in
-    (pack_room a.m a.signs.now a.words.now c.in_ok-pack_number.ensures refl c.sign_words-count.ensures).1
 
 pub slice_bounds-pack-end-3 : goal.slice_bounds-pack-end-3
 slice_bounds-pack-end-3 c = let a = c.args in
@@ -23,7 +19,3 @@ pub pack-requires : goal.pack-requires
 pack-requires c = let a = c.args in
     let (long, room, few, fit) = pack_room a.m a.signs.now a.words.now c.in_ok-pack_number.ensures refl c.sign_words-count.ensures in
     rw (length-take-le _ a.signs.now long, length-take-le _ a.words.now room) (omega arith, fit)
-
-pub returns : goal.returns
-returns c = let a = c.args in
-    packs_accepted a.m a.signs.now a.words.now c.in_ok-pack_number.ensures refl c.sign_words-count.ensures c.pack.ensures.words_after

@@ -14,7 +14,7 @@ use Rattle.answer_record.proofs.Written.{put_next, put_front}
 use Rattle.answer_record.proofs.answer.write_answer.Goals as goal
 
 pub put_fields-requires : goal.put_fields-requires
-put_fields-requires c = simp (length-append, length_bytes_of) (omega (arith, c.requires))
+put_fields-requires c = simp (length-append, length_bytes_of) (omega arith)
 
 pub returns : goal.returns
 unfolding answer_bytes frame_bytes count_bytes float_bytes eighth_bytes

@@ -9,7 +9,7 @@ use Rattle.answer_record.proofs.Written.{put_front}
 use Rattle.answer_record.proofs.answer.write_refusal.Goals as goal
 
 pub put_fields-requires : goal.put_fields-requires
-put_fields-requires c = simp (length-append, length_bytes_of) (omega (arith, c.requires))
+put_fields-requires c = simp (length-append, length_bytes_of) (omega arith)
 
 pub returns : goal.returns
 unfolding refusal_bytes

@@ -1,7 +1,6 @@
 -- `block_search::blocks::search_blocks` meets its contract. Assumes nothing.
 use mathlib.Core.Path.{◌≡◌}
 use lib.ListN.{length}
-use Prim.Native.Nat.{◌≤◌}
 use Rattle.laws.specs.Sum.{total}
 use Rattle.laws.specs.Lists.{elem, elem_z, over, tabulate}
 use Rattle.tables.specs.Entries.{listed}
@@ -10,7 +9,7 @@ use Rattle.block_search.specs.Clauses.{Low}
 use Rattle.block_search.proofs.blocks.search_blocks.Given as goal
 
 abbrev pub invariant-loop-k : goal.invariant-loop-k
-invariant-loop-k l = (l.k ≤ length l.blocks.lent.sizes.now) × (l.at ≡ total l.k (elem l.blocks.lent.sizes.now))
+invariant-loop-k l = (l.at ≡ total l.k (elem l.blocks.lent.sizes.now))
     × (l.b ≡ choice_from l.hall.n (listed l.hall.table) (elem_z l.hall.c.now) l.width (block_moves l.pinned l.blocks.lent.sizes.now l.blocks.lent.wagons.now) l.initial.b l.k)
     × (l.falls ≡ over (tabulate (block_fall l.hall.n (listed l.hall.table) (elem_z l.hall.c.now) l.width (block_moves l.pinned l.blocks.lent.sizes.now l.blocks.lent.wagons.now) l.initial.b) l.k) l.initial.falls)
-    × (length l.falls ≡ length l.initial.falls) × (length l.b ≡ l.hall.n) × Low l.b × (length l.workspace ≡ length l.initial.workspace)
+    × (length l.b ≡ l.hall.n) × Low l.b

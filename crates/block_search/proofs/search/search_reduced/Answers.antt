@@ -13,7 +13,7 @@ use Rattle.tables.proofs.Checks.{hall_accepted}
 use Rattle.sign_table.proofs.MadeTables.{made_accepted}
 use Rattle.finalize.proofs.Assembled.{room, sound, objective_held}
 use Rattle.block_search.specs.Clauses.{start_signs}
-use Rattle.block_search.proofs.Steps.{start_binary, differ_fits, from_made, table_is, objective_is, range_at}
+use Rattle.block_search.proofs.Steps.{start_binary, differ_fits, from_made, objective_is}
 use Rattle.block_search.proofs.search.search_reduced.Goals as goal
 use Rattle.block_search.proofs.search.search_reduced.Goals.{After-start_signs}
 
@@ -37,7 +37,7 @@ start_signs-requires c = (c.requires.wagons_there, length-take-le _ _ (omega (ar
 pub obj_rounded-start-requires : goal.obj_rounded-start-requires
 obj_rounded-start-requires c =
     let w = (goal.at.obj_rounded-start-requires c).After-start_signs in
-    (range_at (sized w) (accepted w).in_range, (accepted w).magnitude)
+    (rw (sized w) (accepted w).in_range, (accepted w).magnitude)
 
 pub search_signs-searched-requires : goal.search_signs-searched-requires
 search_signs-searched-requires c =
@@ -57,5 +57,5 @@ overflow_sub-result c =
 pub returns : goal.returns
 returns c =
     let w = (goal.at.returns c).After-start_signs in
-    table_is (c.entries-table.ensures ∙ c.make.ensures.is) c.args.width c.args.hall.n (start_signs c.args.free.now c.args.b.now) c.args.found.now _ _
+    rw (c.entries-table.ensures ∙ c.make.ensures.is) at
     (from_made (accepted w) c.args.width c.args.hall.n (start_signs c.args.free.now c.args.b.now) c.start_signs.new.signs c.search_signs-searched.new.kept c.args.found.now _ (held c.obj_rounded-start.result c.obj_rounded-start.type_inv ∙ c.obj_rounded-start.ensures ∙ objective_is _ c.start_signs.new.signs) (objective_held (accepted w) _ c.search_signs-searched.ensures.least_is ∙ c.search_signs-searched.ensures.least_is) c.start_signs.ensures c.search_signs-searched.ensures c.qubo_binary_from_sign_solution.ensures c.requires.found_room)

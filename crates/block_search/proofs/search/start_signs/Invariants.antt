@@ -1,9 +1,7 @@
 -- `block_search::search::start_signs` meets its contract. Assumes nothing.
 use mathlib.Core.Path.{◌≡◌}
-use Prim.Native.Nat.{◌≤◌}
-use lib.ListN.{length}
 use Rattle.laws.specs.Lists.{elem, over, tabulate}
 use Rattle.block_search.proofs.search.start_signs.Given as goal
 
 abbrev pub invariant-loop-k : goal.invariant-loop-k
-invariant-loop-k l = (l.k ≤ length l.free) × (l.signs ≡ over (tabulate (λ j. elem l.b (elem l.free j)) l.k) l.initial.signs) × (length l.signs ≡ length l.initial.signs)
+invariant-loop-k l = l.signs ≡ over (tabulate (λ j. elem l.b (elem l.free j)) l.k) l.initial.signs

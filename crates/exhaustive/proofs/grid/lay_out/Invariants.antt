@@ -1,7 +1,6 @@
 -- `exhaustive::grid::lay_out` meets its contract. Assumes nothing.
-use Prim.Native.Nat.{◌≤◌}
 use Rattle.exhaustive.proofs.Placing.{Laid}
 use Rattle.exhaustive.proofs.grid.lay_out.Given as goal
 
 abbrev pub invariant-loop-k : goal.invariant-loop-k
-invariant-loop-k l = (l.k ≤ l.table.count) × Laid l.table.rows.now l.table.cols.now l.table.values.now l.k l.grid
+invariant-loop-k l = Laid l.table.rows.now l.table.cols.now l.table.values.now l.k l.grid

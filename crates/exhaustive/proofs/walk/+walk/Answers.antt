@@ -1,20 +1,14 @@
 -- `exhaustive::walk::walk` meets its contract. Assumes nothing.
-use mathlib.Core.Path.{ap, refl, ◌∙◌}
-use mathlib.Core.Bool.{cond}
+use mathlib.Core.Path.{refl}
 use native.Mathlib.Omega.{arith}
-use lib.IntN.{ℤ}
-use lib.Signed.{lt_z}
 use mir.Facts.{to_z-of_z}
 use Rattle.exhaustive.proofs.Standing.{same_stands, end_stands, low_stands, can_raise, more_fits, more_is, high_stands, both_stand}
 use Rattle.exhaustive.proofs.walk.+walk.Goals as goal
 
 pub returns-then-d-eq0 : goal.returns-then-d-eq0
 returns-then-d-eq0 t c =
-    let a = c.args in
-    let e = to_z-of_z c.ranges.cost in
-    λ s. end_stands c.if-d-eq0.true s
-    (c.visit.ensures.0 ∙ ap (λ (z : ℤ). cond (lt_z z a.at.least) z a.at.least) e)
-    (c.visit.ensures.1 ∙ ap (λ (z : ℤ). cond (lt_z z a.at.least) a.at.visited a.at.number) e) c.visit.ensures.2
+    let v = rw (to_z-of_z c.ranges.cost) at c.visit.ensures in
+    λ s. end_stands c.if-d-eq0.true s v.0 v.1 v.2
 
 pub returns-then-d-eq1 : goal.returns-then-d-eq1
 unfolding same_stands

@@ -1,6 +1,6 @@
 -- `exhaustive::walk::put_digits` meets its contract. Assumes nothing.
 use Prim.Native.Nat.{◌/◌, ℕ}
-use mathlib.Core.Path.{◌≡◌, refl, sym, ap, ◌∙◌}
+use mathlib.Core.Path.{◌≡◌, sym, ap, ◌∙◌}
 use mathlib.Core.List.{List, ◌++◌}
 use native.Mathlib.Omega.{arith}
 use lib.ListN.{length, set, take, drop}
@@ -12,10 +12,6 @@ use Rattle.exhaustive.specs.Choices.{digits_of}
 use Rattle.exhaustive.proofs.Digits.{digit_at_lem}
 use Rattle.laws.proofs.Made.{length_tabulate, tabulate_all, tabulate_next}
 use Rattle.exhaustive.proofs.walk.put_digits.Goals as goal
-
-pub loop-byte-init : goal.loop-byte-init
-unfolding tabulate
-loop-byte-init c = (omega arith, refl)
 
 pub loop-byte-preserved : goal.loop-byte-preserved
 loop-byte-preserved c = let l = c.loop-byte in let a = c.args in (

@@ -1,5 +1,4 @@
 -- `exports::turns::halls_in` meets its contract. Assumes nothing.
-use Prim.Native.Nat.{◌≤◌, ◌-◌}
 use mathlib.Core.Path.{◌≡◌}
 use lib.ListN.{replicate}
 use Rattle.laws.specs.Lists.{fill}
@@ -9,7 +8,4 @@ use Rattle.exports.specs.TurnWords.{sizes_at}
 use Rattle.exports.proofs.turns.halls_in.Given as goal
 
 abbrev pub invariant-loop-i : goal.invariant-loop-i
-invariant-loop-i l = (l.i ≤ l.run_count) × (l.halls ≡ fill (sizes_at l.sizes) l.i (replicate most_runs no_hall))
-
-abbrev pub decreases-loop-i : goal.decreases-loop-i
-decreases-loop-i l = l.run_count - l.i
+invariant-loop-i l = (l.halls ≡ fill (sizes_at l.sizes) l.i (replicate most_runs no_hall))

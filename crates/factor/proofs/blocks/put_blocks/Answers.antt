@@ -5,4 +5,4 @@ use Rattle.factor.proofs.Written.{next_block, block_next_put}
 use Rattle.factor.proofs.blocks.put_blocks.Goals as goal
 
 pub loop-b-preserved : goal.loop-b-preserved
-loop-b-preserved g c = (omega arith, omega arith, rw (next_block c.args.first c.loop-b.b g.row.N) ((rw c.loop-b.invariant.1 at c.put_block.ensures) ∙ block_next_put _ _ _ _ _ _ (omega arith) (omega arith) c.loop-b.invariant.2))
+loop-b-preserved g c = rw (next_block c.args.first c.loop-b.b g.row.N) ((rw c.loop-b.auto.g at c.put_block.ensures) ∙ block_next_put _ _ _ _ _ _ (omega arith) (omega arith) c.loop-b.invariant)

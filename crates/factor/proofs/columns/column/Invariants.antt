@@ -1,12 +1,7 @@
 -- `factor::columns::column` meets its contract. The sum is the definition at e. Assumes nothing.
 use mathlib.Core.Path.{◌≡◌}
-use Prim.Native.Nat.{◌≤◌, ◌-◌}
-use lib.ListN.{length}
 use Rattle.factor.specs.Columns.{sum_to_column}
 use Rattle.factor.proofs.columns.column.Given as goal
 
 abbrev pub invariant-loop-e : goal.invariant-loop-e
-invariant-loop-e g l = (l.e ≤ length l.row.cols.now) × (l.sum ≡ sum_to_column (g.T.Term.joins l.term) (g.T.Term.leaves l.term) l.row.cols.now l.row.values.now l.factor l.rank l.j l.e)
-
-abbrev pub decreases-loop-e : goal.decreases-loop-e
-decreases-loop-e g l = length l.row.cols.now - l.e
+invariant-loop-e g l = l.sum ≡ sum_to_column (g.T.Term.joins l.term) (g.T.Term.leaves l.term) l.row.cols.now l.row.values.now l.factor l.rank l.j l.e

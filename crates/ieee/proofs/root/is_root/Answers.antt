@@ -13,6 +13,6 @@ returns c e =
     let s = c.scaled-s.ensures in
     let bits = to_bits binary64 c.args.f in
     let half : Halved _ (bits % 2 ^ 52 + 2 ^ 52) = halved (omega arith) (c.is_rounded.ensures e) in
-    sym (held)
+    sym held
     ∙ ap (of_bits binary64) (c.if-bits-s.false ∙ ap (λ (y : ℕ). (c.scaled-s.result.h - 26) * 2 ^ 52 + y) (sym half.half))
     ∙ (root_pattern c.args.b.some c.args.b.finite s half.root).1

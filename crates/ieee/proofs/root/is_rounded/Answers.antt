@@ -4,4 +4,4 @@ use Rattle.ieee.proofs.Halves.{near}
 use Rattle.ieee.proofs.root.is_rounded.Goals as goal
 
 pub returns : goal.returns
-returns c = λ e. near (c.args.r / 2 ^ 26) (c.args.r % 2 ^ 26) (omega arith) c.if-m-square.false c.if-left-product.false (omega (arith, c.if-high-r.false)) (leb-true _ _ e)
+returns c = λ e. near (c.args.r / 2 ^ 26) (c.args.r % 2 ^ 26) (omega arith) c.if-m-square.false c.if-left-product.false (omega arith) (leb-true _ _ e)

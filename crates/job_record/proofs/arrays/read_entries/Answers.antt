@@ -1,23 +1,14 @@
 use Prim.Native.Nat.{ℕ, ◌+◌}
-use mathlib.Core.Path.{refl, ap, ◌∙◌}
-use native.Mathlib.Omega.{arith}
-use lib.ListN.{length-set}
+use mathlib.Core.Path.{ap, ◌∙◌}
 use mir.Syntax.{w64}
 use mir.ValLaws.{to_z-of_z}
 use Rattle.job_reader.specs.Bytes.{big_endian, signed_at}
-use Rattle.laws.proofs.MapFirst.{fill_none, fill_more}
+use Rattle.laws.proofs.MapFirst.{fill_more}
 use Rattle.job_record.proofs.arrays.read_entries.Goals as goal
-
-pub loop-i-init : goal.loop-i-init
-loop-i-init c = (omega arith, fill_none _ _, fill_none _ _, fill_none _ _, refl, refl, refl)
 
 pub loop-i-preserved : goal.loop-i-preserved
 loop-i-preserved c = let inv = c.loop-i.invariant in let job = c.args.job.now in (
-  omega arith,
-  fill_more _ _ _ inv.1 (c.big_endian.ensures.0 ∙ ap (λ (p : ℕ). big_endian job p 1) c.entry_at-at.ensures),
-  fill_more _ _ _ inv.2 (c.big_endian-in-loop-i.ensures.0 ∙ ap (λ (p : ℕ). big_endian job (p + 1) 1) c.entry_at-at.ensures),
-  fill_more _ _ _ inv.3 (to_z-of_z w64 _ (record { sfits = c.stored_at.type_inv }) ∙ c.stored_at.ensures ∙ ap (λ (p : ℕ). signed_at job (p + 2)) c.entry_at-at.ensures),
-  simp length-set inv.4,
-  simp length-set inv.5,
-  simp length-set inv.6,
+  fill_more _ _ _ inv.0 (c.big_endian.ensures.0 ∙ ap (λ (p : ℕ). big_endian job p 1) c.entry_at-at.ensures),
+  fill_more _ _ _ inv.1 (c.big_endian-in-loop-i.ensures.0 ∙ ap (λ (p : ℕ). big_endian job (p + 1) 1) c.entry_at-at.ensures),
+  fill_more _ _ _ inv.2 (to_z-of_z w64 _ (record { sfits = c.stored_at.type_inv }) ∙ c.stored_at.ensures ∙ ap (λ (p : ℕ). signed_at job (p + 2)) c.entry_at-at.ensures),
 )

@@ -1,12 +1,7 @@
-use Prim.Native.Nat.{◌≤◌, ◌-◌}
 use mathlib.Core.Path.{◌≡◌}
-use lib.ListN.{length}
 use Rattle.laws.specs.Lists.{fill}
 use Rattle.job_record.specs.Fields.{row, column, value}
 use Rattle.job_record.proofs.arrays.read_entries.Given as goal
 
 abbrev pub invariant-loop-i : goal.invariant-loop-i
-invariant-loop-i l = (l.i ≤ l.count) × (l.rows ≡ fill (row l.job) l.i l.initial.rows) × (l.cols ≡ fill (column l.job) l.i l.initial.cols) × (l.values ≡ fill (value l.job) l.i l.initial.values) × (length l.rows ≡ length l.initial.rows) × (length l.cols ≡ length l.initial.cols) × (length l.values ≡ length l.initial.values)
-
-abbrev pub decreases-loop-i : goal.decreases-loop-i
-decreases-loop-i l = l.count - l.i
+invariant-loop-i l = (l.rows ≡ fill (row l.job) l.i l.initial.rows) × (l.cols ≡ fill (column l.job) l.i l.initial.cols) × (l.values ≡ fill (value l.job) l.i l.initial.values)

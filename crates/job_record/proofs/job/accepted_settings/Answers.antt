@@ -11,4 +11,4 @@ pub returns : goal.returns
 returns c = let s = c.args.job.now in
     let e = c.settings_values.ensures ∙ ap settings_values (c.read_settings.ensures ∙ ap (settings_from s) c.requires.1) in
     let t = settings_held s c.requires.0 _ e in
-    (e, omega (arith, t.most, number_below s (settings_place s + 10) 4 (λ i. omega (arith, c.type_inv.job i))), omega (arith, t.minimum, number_below s (settings_place s + 14) 4 (λ i. omega (arith, c.type_inv.job i))))
+    (e, omega (arith, number_below s (settings_place s + 10) 4 (λ i. omega (arith, c.type_inv.job i))), omega (arith, number_below s (settings_place s + 14) 4 (λ i. omega (arith, c.type_inv.job i))))

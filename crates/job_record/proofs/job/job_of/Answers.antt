@@ -5,10 +5,10 @@ use Rattle.job_record.proofs.Accepted.{fields, settings_held, drawn_held}
 use Rattle.job_record.proofs.job.job_of.Goals as goal
 
 pub of-requires : goal.of-requires
-of-requires c = let s = c.args.job.bytes.now in let t = settings_held s c.args.job.accepted _ c.accepted_settings-f.ensures.0 in omega (arith, t.rule, (fields s c.args.job.accepted).settings.rule)
+of-requires c = let s = c.args.job.bytes.now in omega (arith, settings_held s c.args.job.accepted _ c.accepted_settings-f.ensures.0, (fields s c.args.job.accepted).settings.rule)
 
 pub of-requires-2 : goal.of-requires-2
-of-requires-2 c = let s = c.args.job.bytes.now in let t = settings_held s c.args.job.accepted _ c.accepted_settings-f.ensures.0 in omega (arith, t.start, (fields s c.args.job.accepted).settings.start)
+of-requires-2 c = let s = c.args.job.bytes.now in omega (arith, settings_held s c.args.job.accepted _ c.accepted_settings-f.ensures.0, (fields s c.args.job.accepted).settings.start)
 
 pub returns : goal.returns
 unfolding job_by

@@ -7,14 +7,11 @@ use Rattle.job_record.specs.Fields.{wagons, free_state}
 use Rattle.std.proofs.lemmas.List.{take-replicate}
 use Rattle.laws.specs.Refusal.{first}
 use Rattle.job_record.specs.Number.{pins_numbers}
-use Rattle.job_record.proofs.Accepted.{costs_place, version_pinned, version_none, version_some}
+use Rattle.job_record.proofs.Accepted.{costs_place, version_pinned, version_some}
 use Rattle.job_record.proofs.pins.version_pins.Goals as goal
 
-pub returns-then-not-carries_pins : goal.returns-then-not-carries_pins
-returns-then-not-carries_pins c = version_none c.args.head.bytes.now (version_pinned c.args.head.bytes.now c.args.head.there c.carries_pins.ensures (ap not c.if-not-carries_pins.true))
-
 pub pins_number-requires : goal.pins_number-requires
-pins_number-requires c = take-replicate c.args.head.values.n most_wagons free_state (omega (arith, c.args.head.there.n, c.args.head.few))
+pins_number-requires c = take-replicate c.args.head.values.n most_wagons free_state (omega arith)
 
 pub returns : goal.returns
 returns c = let s = c.args.head.bytes.now in let h = c.args.head.there in

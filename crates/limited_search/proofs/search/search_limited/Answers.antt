@@ -14,9 +14,6 @@ use Rattle.finalize.proofs.Assembled.{room, sound}
 use Rattle.limited_search.proofs.Starts.{start_binary, leaves, leaves_at}
 use Rattle.limited_search.proofs.search.search_limited.Goals as goal
 
-pub slice_bounds-signs-end : goal.slice_bounds-signs-end
-slice_bounds-signs-end c = omega (arith, (hall_accepted c.args.hall.judged).wagons)
-
 pub slice_bounds-signs-end-2 : goal.slice_bounds-signs-end-2
 slice_bounds-signs-end-2 c = sym (length-take-le _ _ (omega (arith, (hall_accepted c.args.hall.judged).wagons)))
 
@@ -26,14 +23,14 @@ start_signs-requires c = (c.requires.present_there, length-take-le _ _ (omega (a
 pub search_within-searched-requires : goal.search_within-searched-requires
 search_within-searched-requires c =
     let ok = hall_accepted c.args.hall.judged in
-    let sized : length c.start_signs.new.signs ≡ suc c.args.hall.n = c.start_signs.auto.signs ∙ length-take-le _ _ (omega (arith, ok.wagons)) ∙ add-one _ in
+    let sized : length c.start_signs.new.signs ≡ suc c.args.hall.n = c.start_signs.auto.signs ∙ length-take-le _ _ (omega arith) ∙ add-one _ in
     let accepted : Accepted most_signs most_sign_entries most_sign_magnitude (suc c.args.hall.n) (listed c.entries-table.result) = rw c.entries-table.ensures (made_accepted c.make.ensures ok) in
-    (room accepted sized c.requires.width_few c.requires.space_room, rw c.start_signs.ensures (start_binary c.args.hall.n c.args.request.present.now c.requires.present_low), sound accepted sized, omega (arith, sized))
+    (room accepted sized c.requires.width_few c.requires.space_room, rw c.start_signs.ensures (start_binary c.args.hall.n c.args.request.present.now c.requires.present_low), sound accepted sized, omega arith)
 
 pub qubo_binary_from_sign_solution-requires : goal.qubo_binary_from_sign_solution-requires
 qubo_binary_from_sign_solution-requires c =
     let sized : length c.start_signs.new.signs ≡ suc c.args.hall.n = c.start_signs.auto.signs ∙ length-take-le _ _ (omega (arith, (hall_accepted c.args.hall.judged).wagons)) ∙ add-one _ in
-    (omega (arith, c.search_within-searched.auto.kept, sized), c.requires.found_room)
+    (omega arith, c.requires.found_room)
 
 pub returns : goal.returns
 returns c = let a = c.args in

@@ -34,7 +34,7 @@ returns-then-change-lt0 c =
           (ap (λ (z : ℤ). word_child z a.i a.start.row.now) added)
           (ap₂ (level_of m (a.count + 1)) c.insert_objective.ensures c.insert_row.ensures
           ∙ level_appended m a.objectives.now a.signs.now (word_child _ a.i a.start.row.now) a.count (words_length a.i a.start.row.now)
-          (omega (arith, c.requires.0.objectives_room)) (omega (arith, mul-le-mul_right m h, c.requires.0.signs_room)))
+          (omega arith) (omega (arith, mul-le-mul_right m h)))
           c.requires.1;
       stays_out = λ q. absurd (false≢true (sym q ∙ exists));
     }

@@ -14,7 +14,7 @@ use Rattle.local_search.proofs.children.expand_parent.Goals.{Start}
 rising : (c : Start) → let a = c.args in Ascending (objectives_of (level_of (length a.parent.row.now) a.count a.objectives.now a.signs.now))
 rising c =
     let a = c.args in
-    rw (objectives_are (length a.parent.row.now) a.count a.objectives.now a.signs.now (omega (arith, c.requires.0.used, c.requires.0.objectives_room))) c.requires.1
+    rw (objectives_are (length a.parent.row.now) a.count a.objectives.now a.signs.now (omega arith)) c.requires.1
 
 pub loop-i-init : goal.loop-i-init
 loop-i-init c = let a = c.args in (
@@ -29,19 +29,16 @@ consider_child-kept-requires c = let l = c.loop-i in
       record {
         some = p.some;
         used = l.invariant.1.room;
-        objectives_room = omega (arith, l.auto.objectives, p.objectives_room);
-        signs_room = omega (arith, l.auto.signs, p.signs_room);
-        signs_held = omega (arith, found.1, p.signs_held);
-        changes_many = omega (arith, found.1, p.changes_many);
-        safe = λ j h. p.safe j (omega (arith, found.1));
+        objectives_room = omega arith;
+        signs_room = omega arith;
+        signs_held = omega arith;
+        changes_many = omega arith;
+        safe = λ j h. p.safe j (omega arith);
       },
       kept_rising c.args.width (length c.args.parent.row.now) l.kept l.objectives l.signs _ _ l.kept
-          (omega (arith, l.auto.objectives, l.invariant.1.room, p.objectives_room))
+          (omega arith)
           (rising (goal.at.consider_child-kept-requires c).Start) l.invariant.1,
     )
-
-pub loop-i-smaller : goal.loop-i-smaller
-loop-i-smaller c = let found = first_is c.in-Some.ensures in omega (arith, found.0, found.1)
 
 pub loop-i-preserved : goal.loop-i-preserved
 loop-i-preserved c =
@@ -50,10 +47,10 @@ loop-i-preserved c =
     let n = length a.parent.row.now in
     let level = level_of n a.count a.objectives.now a.signs.now in
     let found = first_is c.in-Some.ensures in (
-      omega (arith, found.1),
+      omega arith,
       children_one_more a.width level a.parent.changes.now (improves_c (change_of a.parent.changes.now)) (parent_choice a.parent) c.in-Some.i _ _ l.kept c.consider_child-kept.result
           (passed_over a.width level a.parent.changes.now (parent_choice a.parent) n l.kept l.objectives l.signs l.from c.in-Some.i
-          c.requires.0.some (omega (arith, l.auto.objectives, c.requires.0.objectives_room)) (rising (goal.at.loop-i-preserved c).Start) found.0 found.2 l.invariant.1)
+          c.requires.0.some (omega arith) (rising (goal.at.loop-i-preserved c).Start) found.0 found.2 l.invariant.1)
           c.consider_child-kept.ensures.kept,
     )
 
@@ -63,4 +60,4 @@ returns c =
     let a = c.args in
     let n = length a.parent.row.now in
     passed_over a.width (level_of n a.count a.objectives.now a.signs.now) a.parent.changes.now (parent_choice a.parent) n l.kept l.objectives l.signs l.from a.m
-    c.requires.0.some (omega (arith, l.auto.objectives, c.requires.0.objectives_room)) (rising (goal.at.returns c).Start) l.invariant.0 (none_is c.in_default.ensures) l.invariant.1
+    c.requires.0.some (omega arith) (rising (goal.at.returns c).Start) l.invariant.0 (none_is c.in_default.ensures) l.invariant.1

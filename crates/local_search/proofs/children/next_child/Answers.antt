@@ -23,11 +23,11 @@ returns-then-parent-i c =
     let limit = c.entry_limit-limit in
     let summed = sum_is (held p.objective c.struct_told-1.given.0.1) (to_z-of_z {w = w64} (sfits_of c.t14-1.given)) (c.requires.2 l.i (omega arith)) in
     same_first p.changes.now p.objective (held limit.result limit.type_inv ∙ rw (held p.objective c.struct_told-1.given.0.1) at limit.ensures)
-    (first l.i l.auto.i (omega arith) l.invariant.1 (sym (ap (λ (z : ℤ). lt_z z (to_z w64 (of_z w64 limit.result))) summed) ∙ c.if-parent-i.true))
+    (first l.i l.auto.i (omega arith) l.invariant (sym (ap (λ (z : ℤ). lt_z z (to_z w64 (of_z w64 limit.result))) summed) ∙ c.if-parent-i.true))
 
 pub returns : goal.returns
 returns c =
     let p = c.args.parent in
     let limit = c.entry_limit-limit in
     same_first p.changes.now p.objective (held limit.result limit.type_inv ∙ rw (held p.objective c.struct_told-1.given.0.1) at limit.ensures)
-    (none (λ j a b. c.loop-i.invariant.1 j a (omega arith)))
+    (none (λ j a b. c.loop-i.invariant j a (omega arith)))

@@ -7,13 +7,9 @@ use mir.Syntax.{w64}
 use mir.Val.{to_z, of_z}
 use mir.Facts.{to_z-of_z}
 use Rattle.local_search.specs.Children.{parent_of}
-use Rattle.local_search.proofs.ExpandLaws.{least_none, least_one_more, part_room, parent_is}
+use Rattle.local_search.proofs.ExpandLaws.{least_one_more, part_room, parent_is}
 use Rattle.local_search.proofs.Better.{better_kept}
 use Rattle.local_search.proofs.least.keep_least.Goals as goal
-
-pub loop-k-init : goal.loop-k-init
-loop-k-init c = let a = c.args in
-    least_none (length a.kept.now) a.objectives.now a.signs.now (parent_of (to_z w64 (of_z w64 a.least)) a.kept.now)
 
 pub loop-k-preserved : goal.loop-k-preserved
 loop-k-preserved c =

@@ -1,13 +1,8 @@
 -- `maxcut_oracle::objective::multipliers_of` meets its contract. The first i multipliers are written. Assumes nothing.
 use mathlib.Core.Path.{◌≡◌}
-use Prim.Native.Nat.{◌≤◌, ◌-◌}
-use lib.ListN.{length}
 use Rattle.laws.specs.Lists.{over, tabulate}
 use Rattle.maxcut_oracle.proofs.ByRow.{at_row}
 use Rattle.maxcut_oracle.proofs.objective.multipliers_of.Given as goal
 
 abbrev pub invariant-loop-i : goal.invariant-loop-i
-invariant-loop-i l = (l.i ≤ l.m) × (length l.sums ≡ length l.initial.sums) × (length l.dual ≡ length l.initial.dual) × (l.dual ≡ over (tabulate (at_row l.table.cols.now l.table.values.now l.table.starts.now l.factor l.rank) l.i) l.initial.dual)
-
-abbrev pub decreases-loop-i : goal.decreases-loop-i
-decreases-loop-i l = l.m - l.i
+invariant-loop-i l = l.dual ≡ over (tabulate (at_row l.table.cols.now l.table.values.now l.table.starts.now l.factor l.rank) l.i) l.initial.dual

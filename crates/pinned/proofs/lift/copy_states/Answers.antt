@@ -1,5 +1,6 @@
-use Rattle.pinned.proofs.Lifting.{copied}
+use Rattle.laws.proofs.Made.{tabulate_take}
+use lib.Seq.{length-take-le}
 use Rattle.pinned.proofs.lift.copy_states.Goals as goal
 
 pub returns : goal.returns
-returns c = copied c.args.n c.args.states.now c.args.choice.now c.requires.0 c.copy_from_slice.ensures.after
+returns c = rw (c.copy_from_slice.ensures.after, tabulate_take c.args.states.now c.args.n 0 c.requires.0, length-take-le c.args.n c.args.states.now c.requires.0)

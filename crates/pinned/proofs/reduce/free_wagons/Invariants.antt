@@ -1,9 +1,8 @@
 use Rattle.pinned.specs.Pinned.{free_of}
 use Rattle.laws.specs.Lists.{over}
 use lib.ListN.{length}
-use Prim.Native.Nat.{◌≤◌}
 use mathlib.Core.Path.{◌≡◌}
 use Rattle.pinned.proofs.reduce.free_wagons.Given as goal
 
 abbrev pub invariant-loop-i : goal.invariant-loop-i
-invariant-loop-i l = (l.i ≤ l.n) × (l.at ≡ length (free_of l.i l.states)) × (l.free ≡ over (free_of l.i l.states) l.initial.free) × (length l.free ≡ length l.initial.free)
+invariant-loop-i l = (l.at ≡ length (free_of l.i l.states)) × (l.free ≡ over (free_of l.i l.states) l.initial.free)

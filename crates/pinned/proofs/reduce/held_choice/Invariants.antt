@@ -2,9 +2,8 @@ use Rattle.pinned.specs.Pinned.{held_byte}
 use Rattle.laws.specs.Lists.{fill}
 use lib.ListN.{replicate}
 use Rattle.limits.specs.Limits.{most_wagons}
-use Prim.Native.Nat.{◌≤◌}
 use mathlib.Core.Path.{◌≡◌}
 use Rattle.pinned.proofs.reduce.held_choice.Given as goal
 
 abbrev pub invariant-loop-i : goal.invariant-loop-i
-invariant-loop-i l = (l.i ≤ l.n) × (l.held ≡ fill (held_byte l.states) l.i (replicate most_wagons 0))
+invariant-loop-i l = l.held ≡ fill (held_byte l.states) l.i (replicate most_wagons 0)

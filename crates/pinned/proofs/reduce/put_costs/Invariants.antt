@@ -1,9 +1,7 @@
 use Rattle.laws.specs.Lists.{elem, elem_z, tabulate, over}
-use lib.ListN.{length}
 use lib.IntN.{◌+ℤ◌}
-use Prim.Native.Nat.{◌≤◌}
 use mathlib.Core.Path.{◌≡◌}
 use Rattle.pinned.proofs.reduce.put_costs.Given as goal
 
 abbrev pub invariant-loop-k : goal.invariant-loop-k
-invariant-loop-k l = (l.k ≤ length l.free) × (length l.to_c ≡ length l.initial.to_c) × (l.to_c ≡ over (tabulate (λ j. elem_z l.c (elem l.free j) +ℤ elem_z l.sums (elem l.free j)) l.k) l.initial.to_c)
+invariant-loop-k l = l.to_c ≡ over (tabulate (λ j. elem_z l.c (elem l.free j) +ℤ elem_z l.sums (elem l.free j)) l.k) l.initial.to_c

@@ -1,7 +1,7 @@
-use Rattle.pinned.proofs.Steps.{wider, turned_range, free_low, free_short, beside_held_fits, held_small, shrinks}
+use Rattle.pinned.proofs.Steps.{turned_range, free_low, free_short, beside_held_fits, held_small, shrinks}
 use Rattle.pinned.proofs.Walk.{entries_wrote, entries_many}
+use Rattle.reduced.proofs.Distinct.{range_up}
 use Rattle.tables.proofs.Checks.{hall_accepted}
-use Rattle.limits.specs.Limits.{most_wagons}
 use Rattle.laws.proofs.Integer.{held}
 use native.Mathlib.Omega.{arith}
 use mathlib.Core.Path.{refl, ap}
@@ -12,7 +12,7 @@ pub held_choice-held-requires : goal.held_choice-held-requires
 held_choice-held-requires c = ((hall_accepted c.args.hall.judged).wagons, c.requires.0)
 
 pub beside_sums-sums-requires : goal.beside_sums-sums-requires
-beside_sums-sums-requires c = (wider most_wagons (turned_range (hall_accepted c.args.hall.judged).in_range) (hall_accepted c.args.hall.judged).wagons, omega (arith, (hall_accepted c.args.hall.judged).magnitude))
+beside_sums-sums-requires c = (range_up (hall_accepted c.args.hall.judged).wagons (turned_range (hall_accepted c.args.hall.judged).in_range), omega (arith, (hall_accepted c.args.hall.judged).magnitude))
 
 pub held_cost-constant-requires : goal.held_cost-constant-requires
 held_cost-constant-requires c = let a = c.args in
@@ -28,7 +28,7 @@ pub free_places-places-requires : goal.free_places-places-requires
 free_places-places-requires c = ((hall_accepted c.args.hall.judged).wagons, c.requires.0)
 
 pub invariant_of-placed : goal.invariant_of-placed
-invariant_of-placed c = record { in_range = wider most_wagons (hall_accepted c.args.hall.judged).in_range (hall_accepted c.args.hall.judged).wagons }
+invariant_of-placed c = record { in_range = range_up (hall_accepted c.args.hall.judged).wagons (hall_accepted c.args.hall.judged).in_range }
 
 pub free_entries-count-requires : goal.free_entries-count-requires
 free_entries-count-requires c = (omega (arith, (hall_accepted c.args.hall.judged).entries), c.requires.2)

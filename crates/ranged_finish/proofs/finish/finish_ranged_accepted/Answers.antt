@@ -13,16 +13,10 @@ use Rattle.ranged_finish.proofs.finish.finish_ranged_accepted.Goals as goal
 pub finish_accepted-result-requires : goal.finish_accepted-result-requires
 finish_accepted-result-requires c = rw c.high_hall.ensures (finish_ok _ _ _ _ _ c.requires)
 
-pub entries-low_table-requires : goal.entries-low_table-requires
-entries-low_table-requires c = (ranged_finishable _ _ _ _ _ c.requires).low.slices
-
 pub eval_qubo_objective-least-requires : goal.eval_qubo_objective-least-requires
 eval_qubo_objective-least-requires c =
     let u = ranged_finishable _ _ _ _ _ c.requires in
     (u.low.costs, omega (arith, u.high.fits.b_room, c.finish_accepted-result.auto.b), rw c.entries-low_table.ensures u.low.hall.in_range, subst (λ (t : Table). hall_magnitude c.args.ranged.n t (elem_z c.args.ranged.low_c.now) ≤ 2 ^ 58) (sym c.entries-low_table.ensures) (omega (arith, u.low.hall.magnitude)))
-
-pub entries-high_table-requires : goal.entries-high_table-requires
-entries-high_table-requires c = (ranged_finishable _ _ _ _ _ c.requires).high.slices
 
 pub eval_qubo_objective-most-requires : goal.eval_qubo_objective-most-requires
 eval_qubo_objective-most-requires c =

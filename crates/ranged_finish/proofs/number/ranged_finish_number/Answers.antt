@@ -2,12 +2,9 @@
 use mathlib.Core.Path.{sym, ◌∙◌}
 use Rattle.std.proofs.Common.{rules}
 use Rattle.run_record.proofs.Refused.{handed_on, some_refusal}
-use Rattle.ranged_finish.proofs.Deciding.{short_ranged, by_state, by_table, by_settings}
+use Rattle.ranged_finish.proofs.Deciding.{by_state, by_table, by_settings}
 use Rattle.ranged_finish.proofs.Theorems.{slices_lent}
 use Rattle.ranged_finish.proofs.number.ranged_finish_number.Goals as goal
-
-pub returns-then-ranged_short : goal.returns-then-ranged_short
-returns-then-ranged_short c = sym (short_ranged _ _ _ _ _ (sym c.ranged_short.ensures ∙ c.if-ranged_short.true))
 
 pub returns-then-matches : goal.returns-then-matches
 returns-then-matches c =

@@ -17,4 +17,4 @@ pub slice_bounds-finish_run-end : goal.slice_bounds-finish_run-end
 slice_bounds-finish_run-end c = sym (length-take-le _ _ (omega (arith, (sizes c.args.job.decoded c.job_rank-rank.result c.job_rank-rank.ensures.0).1)))
 
 pub finish_run-requires : goal.finish_run-requires
-finish_run-requires c = let z = sizes c.args.job.decoded c.job_rank-rank.result c.job_rank-rank.ensures.0 in (c.requires.0, length-take-le _ _ (omega (arith, z.1)) ∙ z.2, omega arith, c.requires.1)
+finish_run-requires c = let z = sizes c.args.job.decoded c.job_rank-rank.result c.job_rank-rank.ensures.0 in (c.requires.0, length-take-le _ _ (omega arith) ∙ z.2, omega arith, c.requires.1)

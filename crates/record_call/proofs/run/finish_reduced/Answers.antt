@@ -16,16 +16,14 @@ reduce-t-requires c =
     let o = c.args.pinned.own in
     let own = own_reducing o.record.bytes.now o.own.accepted o.own.costs_are c.args.pinned.states_are in
     let (n, t, _) = c.judged_hall.ensures in
-    rw (n, ap (λ (x : Table). x.count) t) (own.states_there, omega (arith, own.hall.wagons, c.requires.0), c.requires.2, omega (arith, own.hall.wagons, c.requires.3))
+    rw (n, ap (λ (x : Table). x.count) t) (own.states_there, omega (arith, own.hall.wagons), c.requires.2, omega (arith, own.hall.wagons))
 
 pub cut_hall-requires : goal.cut_hall-requires
 cut_hall-requires c =
     let o = c.args.pinned.own in
-    let r = judged_reduced o.hall o.own c.args.pinned.states_are c.judged_hall.result c.judged_hall.ensures c.reduce-t.ensures.1 c.reduce-t.ensures.2 c.requires.2 in
-    let room = c.requires.2 in
-    let shape = c.reduce-t.auto in (
-      record { rows_there = omega (arith, r.few, room.rows_room, shape.to_rows); cols_there = omega (arith, r.few, room.cols_room, shape.to_cols); values_there = omega (arith, r.few, room.values_room, shape.to_values) },
-      omega (arith, run_few o.record.bytes.now o.own.accepted r, c.requires.3, shape.to_c),
+    let r = judged_reduced o.hall o.own c.args.pinned.states_are c.judged_hall.result c.judged_hall.ensures c.reduce-t.ensures.1 c.reduce-t.ensures.2 c.requires.2 in (
+      record { rows_there = omega arith; cols_there = omega arith; values_there = omega arith },
+      omega (arith, run_few o.record.bytes.now o.own.accepted r),
     )
 
 pub finish_read-x-requires : goal.finish_read-x-requires

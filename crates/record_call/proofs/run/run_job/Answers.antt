@@ -16,7 +16,7 @@ returns-then-j-eq0 c =
 pub sweep_accepted-requires : goal.sweep_accepted-requires
 sweep_accepted-requires c =
     let o = opened_run c.args.job.decoded c.code.ensures c.code-2.ensures c.requires c.open_accepted-run.ensures in
-    let w = sweeps_now c.args.job.decoded (omega (arith, c.if-j-eq0.false)) (cc o.0) o.1 in
+    let w = sweeps_now c.args.job.decoded (omega arith) (cc o.0) o.1 in
     let s = w.0 in
     (record { slices = s.slices; costs = s.costs; hall = s.hall }, s.running, s.size_is, s.rank_few, w.1)
 

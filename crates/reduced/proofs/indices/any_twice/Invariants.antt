@@ -2,12 +2,11 @@
 use mathlib.Core.Path.{◌≡◌}
 use lib.Dec.{eqb}
 use mathlib.Core.Bool.{true, false}
-use Prim.Native.Nat.{◌≤◌}
-use lib.ListN.{length, replicate}
+use lib.ListN.{replicate}
 use Rattle.limits.specs.Limits.{most_size}
 use Rattle.laws.specs.Lists.{elem, any_below}
 use Rattle.reduced.specs.Indices.{put_each}
 use Rattle.reduced.proofs.indices.any_twice.Given as goal
 
 abbrev pub invariant-loop-original : goal.invariant-loop-original
-invariant-loop-original l = (l.original-index ≤ length l.variable_map) × (l.found ≡ any_below l.original-index (λ k. any_below k (λ i. eqb (elem l.variable_map i) (elem l.variable_map k)))) × (l.seen ≡ put_each (elem l.variable_map) (λ _. true) l.original-index (replicate most_size false))
+invariant-loop-original l = (l.found ≡ any_below l.original-index (λ k. any_below k (λ i. eqb (elem l.variable_map i) (elem l.variable_map k)))) × (l.seen ≡ put_each (elem l.variable_map) (λ _. true) l.original-index (replicate most_size false))

@@ -10,9 +10,6 @@ use Rattle.run_contract.proofs.Accepting.{finish_accepted}
 use Rattle.sdp_solver.proofs.Finishing.{finishes}
 use Rattle.sdp_solver.proofs.finish.finish_accepted.Goals as goal
 
-pub slice_bounds-finalize-end : goal.slice_bounds-finalize-end
-slice_bounds-finalize-end c = (finish_accepted _ _ _ _ _ c.requires).fits.space_room
-
 pub judged_hall-requires : goal.judged_hall-requires
 judged_hall-requires c = let u = finish_accepted _ _ _ _ _ c.requires in record { lent = u.slices; costs_there = u.costs; judged = hall_passes u.hall }
 

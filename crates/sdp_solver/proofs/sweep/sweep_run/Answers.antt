@@ -1,15 +1,8 @@
 -- `sdp_solver::sweep::sweep_run` meets its contract, by what holds where nothing refuses it. Assumes nothing.
 use mathlib.Core.Path.{sym}
-use native.Mathlib.Omega.{arith}
 use lib.Seq.{length-take-le}
 use Rattle.run_contract.proofs.Accepting.{sweep_accepted}
 use Rattle.sdp_solver.proofs.sweep.sweep_run.Goals as goal
-
-pub overflow_mul-used : goal.overflow_mul-used
-overflow_mul-used c = omega (arith, (sweep_accepted _ _ _ (sym c.in_ok-sweep_number.ensures)).factor_room)
-
-pub slice_bounds-sweep_accepted-end : goal.slice_bounds-sweep_accepted-end
-slice_bounds-sweep_accepted-end c = (sweep_accepted _ _ _ (sym c.in_ok-sweep_number.ensures)).factor_room
 
 pub slice_bounds-sweep_accepted-end-2 : goal.slice_bounds-sweep_accepted-end-2
 slice_bounds-sweep_accepted-end-2 c = sym (length-take-le _ _ (sweep_accepted _ _ _ (sym c.in_ok-sweep_number.ensures)).factor_room)

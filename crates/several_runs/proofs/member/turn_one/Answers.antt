@@ -13,15 +13,6 @@ pub returns-then-is_stopped : goal.returns-then-is_stopped
 returns-then-is_stopped c = let a = c.args in
     turned_none a.k _ a.run a.start a.factors.now (sym c.is_stopped.ensures ∙ c.if-is_stopped.true)
 
-pub overflow_mul-end : goal.overflow_mul-end
-overflow_mul-end c = omega (arith, (member_accepted _ _ _ c.requires.accepted).factor_room)
-
-pub overflow_add-end : goal.overflow_add-end
-overflow_add-end c = omega (arith, (member_accepted _ _ _ c.requires.accepted).factor_room)
-
-pub slice_bounds-sweep_accepted-end : goal.slice_bounds-sweep_accepted-end
-slice_bounds-sweep_accepted-end c = omega (arith, (member_accepted _ _ _ c.requires.accepted).factor_room, c.requires.start_in_bounds)
-
 pub sweep_accepted-requires : goal.sweep_accepted-requires
 sweep_accepted-requires c =
     let a = c.args in

@@ -1,6 +1,6 @@
 -- `sum_rows` meets its contract: the sums over the first k entries, the last row's still held.
 -- Assumes nothing.
-use Prim.Native.Nat.{ℕ, ◌+◌, ◌<◌}
+use Prim.Native.Nat.{ℕ, ◌+◌}
 use native.Mathlib.Omega.{arith}
 use mathlib.Core.Path.{◌≡◌, refl, sym, ◌∙◌, subst}
 use lib.IntN.{pos, ◌+ℤ◌}
@@ -20,17 +20,15 @@ use Rattle.sign_search.proofs.changes.sum_rows.Goals.{After-change_term-held, Af
 
 pub loop-k-init : goal.loop-k-init
 loop-k-init c = let a = c.args in (
-  omega arith,
-  refl,
-  L.summed_none (listed a.table) a.signs.now _ a.changes.now c.requires.1 (omega (arith, c.from-row.ensures, c.requires.0.in_range.rows_in 0 c.requires.2)) c.requires.3,
+  L.summed_none (listed a.table) a.signs.now _ a.changes.now c.requires.1 (omega (arith, c.requires.0.in_range.rows_in 0 c.requires.2)) c.requires.3,
   refl,
 )
 
 pub turn_row-held-requires : goal.turn_row-held-requires
 turn_row-held-requires c = let l = c.loop-k in
     let a = c.args in (
-      L.row_room (listed a.table) a.signs.now l.k l.row (to_z w64 l.held-bits) l.changes c.requires.0 l.invariant.2,
-      L.laid_fits (listed a.table) a.signs.now l.k l.row (to_z w64 l.held-bits) l.changes c.requires.0 l.invariant.2 l.invariant.0,
+      L.row_room (listed a.table) a.signs.now l.k l.row (to_z w64 l.held-bits) l.changes c.requires.0 l.invariant.0,
+      L.laid_fits (listed a.table) a.signs.now l.k l.row (to_z w64 l.held-bits) l.changes c.requires.0 l.invariant.0 (omega arith),
     )
 
 -- what entry k adds to the sum of its row
@@ -44,7 +42,7 @@ module _ (c : After-change_term-held) where
   turned : Summed t c.args.signs.now c.loop-k.k row c.turn_row-held.result c.turn_row-held.new.changes
   turned =
       let l = c.loop-k in
-      L.summed_turn t c.args.signs.now l.k l.row (to_z w64 l.held-bits) l.changes c.requires.0 l.invariant.2 row c.turn_row-held.result c.turn_row-held.new.changes
+      L.summed_turn t c.args.signs.now l.k l.row (to_z w64 l.held-bits) l.changes c.requires.0 l.invariant.0 row c.turn_row-held.result c.turn_row-held.new.changes
       (c.requires.0.in_range.rows_in l.k (omega arith))
       (subst (λ (i : ℕ). RowTurned l.row i (to_z w64 l.held-bits) c.turn_row-held.result l.changes c.turn_row-held.new.changes) c.from-i.ensures c.turn_row-held.ensures)
 
@@ -63,20 +61,15 @@ loop-k-preserved c =
     let l = c.loop-k in
     let a = c.args in
     let z = to_z w64 (of_z w64 (to_z w64 (of_z w64 c.turn_row-held.result) +ℤ to_z w64 (of_z w64 c.change_term-held.result))) in (
-      omega arith,
-      c.turn_row-held.auto.changes ∙ l.invariant.1,
       subst (λ (i : ℕ). Summed (t w) a.signs.now (l.k + 1) i z c.turn_row-held.new.changes) (sym c.from-i.ensures)
           (L.summed_more (t w) a.signs.now l.k (row w) c.turn_row-held.result c.turn_row-held.new.changes c.requires.0 (turned w) (omega arith) refl z (to_z-of_z (fits w) ∙ added w)),
-      L.turned_tail (length a.signs.now) l.row _ (to_z w64 l.held-bits) c.turn_row-held.result l.changes c.turn_row-held.new.changes l.invariant.2.row_in c.turn_row-held.ensures ∙ l.invariant.3,
+      L.turned_tail (length a.signs.now) l.row _ (to_z w64 l.held-bits) c.turn_row-held.result l.changes c.turn_row-held.new.changes l.invariant.0.row_in c.turn_row-held.ensures ∙ l.invariant.1,
     )
 
 -- the last row's sum, which is still held
 module _ (c : After-loop-k) where
-  room : c.loop-k.row < length c.loop-k.changes
-  room = let l = c.loop-k in L.row_room (listed c.args.table) c.args.signs.now l.k l.row (to_z w64 l.held-bits) l.changes c.requires.0 l.invariant.2
-
   last_fits : SFits w64 (get_or c.loop-k.changes c.loop-k.row (pos 0) +ℤ to_z w64 c.loop-k.held-bits)
-  last_fits = let l = c.loop-k in L.laid_fits (listed c.args.table) c.args.signs.now l.k l.row (to_z w64 l.held-bits) l.changes c.requires.0 l.invariant.2 l.invariant.0
+  last_fits = let l = c.loop-k in L.laid_fits (listed c.args.table) c.args.signs.now l.k l.row (to_z w64 l.held-bits) l.changes c.requires.0 l.invariant.0 (omega arith)
 
 pub overflow_add-changes : goal.overflow_add-changes
 overflow_add-changes c = rw (stays (get_or c.loop-k.changes c.loop-k.row (pos 0)) c.changes-2-1.given) (last_fits (goal.at.overflow_add-changes c).After-loop-k)
@@ -87,6 +80,6 @@ returns c =
     let a = c.args in
     let last = stays (get_or l.changes l.row (pos 0)) c.changes-2-1.given in
     L.changes_laid (listed a.table) a.signs.now a.changes.now _
-    (L.summed_all (listed a.table) a.signs.now l.k l.row (to_z w64 l.held-bits) l.changes c.requires.0 l.invariant.2 (omega arith) _
+    (L.summed_all (listed a.table) a.signs.now l.k l.row (to_z w64 l.held-bits) l.changes c.requires.0 l.invariant.0 (omega arith) _
     (rw last (to_z-of_z (last_fits (goal.at.returns c).After-loop-k))))
-    (simp length-set l.invariant.1) (drop-set-lt (length a.signs.now) l.changes l.row _ l.invariant.2.row_in ∙ l.invariant.3)
+    (simp length-set l.auto.changes) (drop-set-lt (length a.signs.now) l.changes l.row _ l.invariant.0.row_in ∙ l.invariant.1)

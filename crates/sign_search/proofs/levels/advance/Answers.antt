@@ -8,16 +8,12 @@ use Rattle.sign_search.proofs.levels.advance.Goals as goal
 
 pub returns : goal.returns
 returns c =
-    let room : let a = c.args in let x = c.expand_level-kept in (x.result * a.words ≤ length a.signs.now) × (x.result * a.words ≤ length x.new.signs) =
-    let p = c.requires.0 in
-    let more = mul-le-mul_right c.args.words c.expand_level-kept.ensures.next_level.room in
-    (omega (arith, more, p.signs_room), omega (arith, more, p.expands.signs_room, c.expand_level-kept.auto.signs)) in
     let a = c.args in
-    let p = c.requires.0 in
     let x = c.expand_level-kept in
     let m = length a.current.now in
-    let few : x.result ≤ length x.new.objectives = omega (arith, x.ensures.next_level.room, p.expands.objectives_room, x.auto.objectives) in
-    let held = (room).1 in record {
+    let few : x.result ≤ length x.new.objectives = omega arith in
+    let held : x.result * a.words ≤ length x.new.signs = omega (arith, mul-le-mul_right a.words x.ensures.next_level.room) in
+    record {
       next_level = record {
         level = sign_level_copied a.words m x.result x.new.objectives a.objectives.now _ x.new.signs _ _ few held c.copy_objectives.ensures c.copy.ensures
             ∙ x.ensures.next_level.level;

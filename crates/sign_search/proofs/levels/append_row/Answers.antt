@@ -11,7 +11,7 @@ use Rattle.local_search.specs.Level.{sign_level}
 use Rattle.local_search.specs.Children.{parent_of, Appended}
 use Rattle.tables.specs.Entries.{listed}
 use Rattle.sign_search.specs.Within.{bounds}
-use Rattle.sign_search.specs.Clauses.{Changes, RowAppends, table_children}
+use Rattle.sign_search.specs.Clauses.{Changes, table_children}
 use Rattle.sign_search.proofs.ChangeLaws.{changes_are}
 use Rattle.sign_search.proofs.ExpandLaws.{row_appends, row_appended, row_first_tidy}
 use Rattle.sign_search.proofs.levels.append_row.Goals as goal
@@ -22,15 +22,12 @@ first-few flips most first e = grind (arith, nat_tests)
 pub first_level-requires : goal.first_level-requires
 first_level-requires c = let k = c.changes_of in
     let a = c.args in
-    let t = listed a.table in
-    let changes = k.new.changes in
-    let is = changes_are t a.start.now a.changes.now changes c.requires.0.changes_room k.ensures in
+    let is = changes_are _ a.start.now a.changes.now k.new.changes c.requires.0.changes_room k.ensures in
     rw (to_z-of_z c.ranges.objective)
-    (row_appends t (length a.start.now) a.objective a.start_row.now changes (subst (λ (x : List ℕ). Changes t x changes) (sym c.requires.1) is)
+    (row_appends (listed a.table) (length a.start.now) a.objective a.start_row.now k.new.changes (rw c.requires.1 is)
     (bounds a.leeway.flips a.leeway.most a.start.now) c.requires.2 c.first_flips-first.result (length a.objectives.now) (length a.signs.now)
-    (first-few a.leeway.flips a.leeway.most c.first_flips-first.result c.first_flips-first.ensures)
-    (subst (λ (x : List ℕ). RowAppends t (length a.start_row.now) (parent_of a.objective x) (length changes) (length a.objectives.now) (length a.signs.now)) (sym c.requires.1)
-    (rw k.auto.changes c.requires.0)))
+    (first-few _ _ _ c.first_flips-first.ensures)
+    (rw (c.requires.1, k.auto.changes) c.requires.0))
 
 pub returns : goal.returns
 returns c = let e = c.first_level in
@@ -47,8 +44,8 @@ returns c = let e = c.first_level in
     let taken = rw (to_z-of_z c.ranges.objective) at e.ensures in record {
       appended = subst (λ (x : List ℕ). Appended [] (table_children t b m (parent_of a.objective x)) (sign_level n m e.result e.new.objectives e.new.signs) e.result m) c.requires.1
           (row_appended t m a.objective a.start_row.now changes at b c.requires.2 f.result
-          e.result e.new.objectives e.new.signs (sym c.requires.1) f.ensures (first-few a.leeway.flips a.leeway.most f.result f.ensures) (omega (arith, c.requires.0.signs_held)) taken);
+          e.result e.new.objectives e.new.signs (sym c.requires.1) f.ensures (first-few a.leeway.flips a.leeway.most f.result f.ensures) (omega arith) taken);
       changes = is;
       tidy = row_first_tidy t m a.objective a.start_row.now changes at b c.requires.2 f.result
-          e.result e.new.objectives e.new.signs (sym c.requires.1) f.ensures (omega (arith, c.requires.0.signs_held)) taken;
+          e.result e.new.objectives e.new.signs (sym c.requires.1) f.ensures (omega arith) taken;
     }

@@ -1,6 +1,4 @@
-use Prim.Native.Nat.{◌-◌, ◌≤◌}
 use mathlib.Core.List.{[]}
-use mathlib.Core.Path.{◌≡◌}
 use lib.ListN.{length}
 use Rattle.sign_words.specs.Packed.{unpacked}
 use Rattle.local_search.specs.LocalSearch.{children_of}
@@ -12,10 +10,6 @@ use Rattle.sign_search.specs.Clauses.{table_children, AtHand}
 use Rattle.sign_search.proofs.levels.expand_level.Given as goal
 
 abbrev pub invariant-loop-k : goal.invariant-loop-k
-invariant-loop-k l = (l.k ≤ l.from_count) × (length l.changes ≡ length l.initial.changes) × (length l.objectives ≡ length l.initial.objectives) × (length l.signs ≡ length l.initial.signs) × (length l.current ≡ length l.initial.current) × (length l.current_row ≡ length l.initial.current_row)
-    × Kept l.width [] (children_of (λ x. table_children (listed l.table) (bounds l.reach.leeway.flips l.reach.leeway.most (unpacked (length l.initial.current) l.reach.origin.now)) (length l.initial.current) (decoded (length l.initial.current) x)) (level_of l.words l.k l.from_objectives l.from_signs)) (sign_level l.words (length l.initial.current) l.kept l.objectives l.signs) l.kept
+invariant-loop-k l = Kept l.width [] (children_of (λ x. table_children (listed l.table) (bounds l.reach.leeway.flips l.reach.leeway.most (unpacked (length l.initial.current) l.reach.origin.now)) (length l.initial.current) (decoded (length l.initial.current) x)) (level_of l.words l.k l.from_objectives l.from_signs)) (sign_level l.words (length l.initial.current) l.kept l.objectives l.signs) l.kept
     × AtHand (listed l.table) l.current l.current_row l.changes
     × (TidyLevel l.words (length l.initial.current) l.from_count l.from_objectives l.from_signs → TidyLevel l.words (length l.initial.current) l.kept l.objectives l.signs)
-
-abbrev pub decreases-loop-k : goal.decreases-loop-k
-decreases-loop-k l = l.from_count - l.k

@@ -8,12 +8,12 @@ returns c = let a = c.args in
     let n = a.table.count in
     let long = length-take-le n a.table.rows.now a.table.lent.rows_there in
     let rising = IsNonDecreasingBy-from_default (λ r. r) (take n a.table.rows.now) 0
-    (λ j k le lt. rw (get_or-take n a.table.rows.now j 0 (omega (arith, long)), get_or-take n a.table.rows.now k 0 (omega (arith, long))) (c.requires.climb j k le (omega (arith, long)))) in
+    (λ j k le lt. rw (get_or-take n a.table.rows.now j 0 (omega arith), get_or-take n a.table.rows.now k 0 (omega arith)) (c.requires.climb j k le (omega arith))) in
     let point = IsPartitionPoint-from_clause (λ r. ltb r a.i) (take n a.table.rows.now) c.partition_point.result c.partition_point.ensures.partitioned
     (IsPartitionedBy-ltb (λ r. r) (take n a.table.rows.now) a.i rising) (λ x r q k. search rules) in
     let inside = c.partition_point.ensures.bound in
     record {
-      inside = omega (arith, long);
-      behind = λ k h. omega (arith, get_or-take n a.table.rows.now k 0 (omega (arith, long)), ltb-true (get_or (take n a.table.rows.now) k 0) a.i (point.0 k 0 (omega arith) h));
-      ahead = λ k h l. omega (arith, get_or-take n a.table.rows.now k 0 l, ltb-false (get_or (take n a.table.rows.now) k 0) a.i (point.1 k 0 h (omega (arith, long))));
+      inside = omega arith;
+      behind = λ k h. omega (arith, get_or-take n a.table.rows.now k 0 (omega arith), ltb-true (get_or (take n a.table.rows.now) k 0) a.i (point.0 k 0 (omega arith) h));
+      ahead = λ k h l. omega (arith, get_or-take n a.table.rows.now k 0 l, ltb-false (get_or (take n a.table.rows.now) k 0) a.i (point.1 k 0 h (omega arith)));
     }

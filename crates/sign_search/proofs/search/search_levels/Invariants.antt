@@ -1,5 +1,4 @@
 use Prim.Native.Nat.{◌*◌, ◌-◌, ◌≤◌}
-use mathlib.Core.Path.{◌≡◌}
 use lib.ListN.{length}
 use Rattle.sign_words.specs.Packed.{unpacked, Tidy}
 use Rattle.local_search.specs.Level.{sign_level, TidyLevel}
@@ -12,12 +11,10 @@ use Rattle.sign_search.specs.Clauses.{exists_in, searched_in, AtHand}
 use Rattle.sign_search.proofs.search.search_levels.Given as goal
 
 abbrev pub invariant-loop-count : goal.invariant-loop-count
-invariant-loop-count l = (length l.kept ≡ length l.initial.kept) × (length l.changes ≡ length l.initial.changes) × (length l.objectives ≡ length l.initial.objectives) × (length l.signs ≡ length l.initial.signs)
-    × (length l.next_objectives ≡ length l.initial.next_objectives) × (length l.next_signs ≡ length l.initial.next_signs)
-    × (l.count ≤ length l.objectives) × (l.count * l.words ≤ length l.signs)
+invariant-loop-count l = (l.count ≤ length l.objectives) × (l.count * l.words ≤ length l.signs)
     × Searching (change_in (listed l.search.table)) (exists_in (listed l.search.table) (bounds l.search.leeway.flips l.search.leeway.most l.initial.current)) l.search.width (height_in (listed l.search.table) l.initial.current) (parent_of (l.search.objective) l.initial.current) (sign_level l.words (length l.initial.current) l.count l.objectives l.signs) (parent_of (l.least) (unpacked (length l.initial.current) l.kept)) l.rounds
-    × (length l.current ≡ length l.initial.current) × AtHand (listed l.search.table) l.current l.current_row l.changes
-    × TidyLevel l.words (length l.initial.current) l.count l.objectives l.signs × Tidy (length l.initial.current) l.kept × (length l.current_row ≡ l.words)
+    × AtHand (listed l.search.table) l.current l.current_row l.changes
+    × TidyLevel l.words (length l.initial.current) l.count l.objectives l.signs × Tidy (length l.initial.current) l.kept
 
 abbrev pub decreases-loop-count : goal.decreases-loop-count
 decreases-loop-count l = (searched_in (listed l.search.table) (bounds l.search.leeway.flips l.search.leeway.most l.initial.current) l.search.width (parent_of (l.search.objective) l.initial.current)).rounds - l.rounds

@@ -1,4 +1,3 @@
-use native.Mathlib.Omega.{arith}
 use mathlib.Core.Path.{◌≡◌, ◌∙◌}
 use mir.Syntax.{w64}
 use mir.Val.{to_z, of_z}
@@ -7,23 +6,8 @@ use Rattle.local_search.specs.Children.{parent_of}
 use Rattle.tables.specs.Entries.{listed}
 use Rattle.sign_search.specs.Within.{bounds}
 use Rattle.sign_search.specs.Search.{objective_in}
-use Rattle.sign_search.proofs.Searches.{found_within, found_none}
+use Rattle.sign_search.proofs.Searches.{found_within}
 use Rattle.sign_search.proofs.search.search_within.Goals as goal
-
-pub returns-then-width-eq0 : goal.returns-then-width-eq0
-unfolding objective_in
-returns-then-width-eq0 c =
-    let started : let a = c.args in to_z w64 (of_z w64 c.obj_rounded-start.result) ≡ objective_in (listed a.table) a.kept.now =
-    held _ c.obj_rounded-start.type_inv ∙ c.obj_rounded-start.ensures in
-    let a = c.args in
-    found_none (listed a.table) (bounds a.leeway.flips a.leeway.most a.kept.now) a.width a.kept.now _ c.if-width-eq0.true (started)
-
-pub search_room-requires : goal.search_room-requires
-unfolding objective_in
-search_room-requires c =
-    let started : let a = c.args in to_z w64 (of_z w64 c.obj_rounded-start.result) ≡ objective_in (listed a.table) a.kept.now =
-    held _ c.obj_rounded-start.type_inv ∙ c.obj_rounded-start.ensures in
-    (record { room = c.requires.0; some = omega arith; sound = c.requires.2; start_is = started; flips_few = c.requires.3 }, c.requires.1)
 
 pub returns : goal.returns
 unfolding objective_in

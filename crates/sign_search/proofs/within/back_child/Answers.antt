@@ -5,6 +5,7 @@ use mathlib.Core.Path.{◌≡◌, refl, sym, ap, ◌∙◌, subst}
 use lib.Dec.{eqb}
 use lib.IntN.{ℤ}
 use lib.ListN.{length}
+use Rattle.laws.proofs.Any.{cond_self}
 use Rattle.laws.specs.Lists.{elem}
 use Rattle.sign_words.specs.Signs.{sign_digit}
 use Rattle.sign_words.specs.Packed.{sign_in, unpacked}
@@ -14,15 +15,15 @@ use Rattle.local_search.specs.SignSearch.{improves_c}
 use Rattle.local_search.specs.Children.{change_of, parent_choice, flip_w, Kept}
 use Rattle.local_search.proofs.ExpandLaws.{no_child}
 use Rattle.sign_search.specs.Within.{apart_at, goes_back}
-use Rattle.sign_search.proofs.NearLaws.{whole, never}
+use Rattle.laws.proofs.Any.{cond_same}
 use Rattle.sign_search.proofs.within.back_child.Goals as goal
 
 module _ (changes : List ℤ) (x p : List ℕ) (c : Choice) (i : ℕ) {r : Bool} (is : r ≡ apart_at x p i) where
   left_out : r ≡ false → goes_back changes x p c i ≡ false
-  left_out z = ap (λ (b : Bool). cond (improves_c (change_of changes) c i) b false) (sym is ∙ z) ∙ never (improves_c (change_of changes) c i)
+  left_out z = ap (λ (b : Bool). cond (improves_c (change_of changes) c i) b false) (sym is ∙ z) ∙ cond_same (improves_c (change_of changes) c i) false
 
   taken_in : r ≡ true → improves_c (change_of changes) c i ≡ goes_back changes x p c i
-  taken_in d = sym (ap (λ (b : Bool). cond (improves_c (change_of changes) c i) b false) (sym is ∙ d) ∙ whole (improves_c (change_of changes) c i))
+  taken_in d = sym (ap (λ (b : Bool). cond (improves_c (change_of changes) c i) b false) (sym is ∙ d) ∙ cond_self (improves_c (change_of changes) c i))
 
 -- the start's sign, read from its words
 sign-is : (m : ℕ) (x origin : List ℕ) (i : ℕ) {r : Bool} {s : ℕ} → i < m → r ≡ cond (eqb (sign_digit (elem x i)) (sign_digit s)) false true → s ≡ sign_in origin i

@@ -2,13 +2,7 @@
 use Rattle.sign_table.proofs.Built.{RowsInv}
 use Rattle.tables.specs.Entries.{listed}
 use Rattle.laws.specs.Lists.{elem_z}
-use lib.ListN.{length}
-use mathlib.Core.Path.{◌≡◌}
-use Prim.Native.Nat.{◌-◌}
 use Rattle.sign_table.proofs.sign_matrix.put_rows.Given as goal
 
 abbrev pub invariant-loop-i : goal.invariant-loop-i
-invariant-loop-i l = RowsInv l.n (listed l.table) (elem_z l.c) l.k l.at l.i l.initial.to_rows l.initial.to_cols l.initial.to_values l.to_rows l.to_cols l.to_values × (length l.to_rows ≡ length l.initial.to_rows) × (length l.to_cols ≡ length l.initial.to_cols) × (length l.to_values ≡ length l.initial.to_values)
-
-abbrev pub decreases-loop-i : goal.decreases-loop-i
-decreases-loop-i l = l.n - l.i
+invariant-loop-i l = RowsInv l.n (listed l.table) (elem_z l.c) l.k l.at l.i l.initial.to_rows l.initial.to_cols l.initial.to_values l.to_rows l.to_cols l.to_values

@@ -1,7 +1,7 @@
 -- `sign_table::sign_matrix::put_whole_row` meets its contract.
-use Rattle.sign_table.proofs.Built.{sum_back, row_asks, room_less, room_on, sum_small, whole_wrote, whole_many, next_row}
+use Rattle.sign_table.proofs.Built.{sum_back, room_less, room_on, sum_small, whole_wrote, whole_many, next_row}
 use Rattle.tables.proofs.Writing.{row_length_le}
-use Rattle.sign_table.proofs.Cursor.{row_start_lem}
+use Rattle.sign_table.proofs.Cursor.{row_start_lem, total_start}
 use Rattle.sign_table.proofs.Bounds.{linear_small}
 use Rattle.tables.specs.Entries.{listed}
 use Rattle.sign_table.specs.SignTable.{kept_of}
@@ -13,7 +13,7 @@ use Rattle.sign_table.proofs.sign_matrix.put_whole_row.Goals as goal
 
 pub row_sum-s-requires : goal.row_sum-s-requires
 row_sum-s-requires c = let p = c.requires in
-    (omega (arith, p.1), omega (arith, p.2.small), linear_small p.2 c.args.i p.3, row_start_lem p.4, row_asks p.4)
+    (omega arith, omega arith, linear_small p.2 c.args.i p.3, row_start_lem p.4, total_start p.4)
 
 pub put_row-at-requires : goal.put_row-at-requires
 put_row-at-requires c = let a = c.args in
@@ -22,7 +22,7 @@ put_row-at-requires c = let a = c.args in
 
 pub put_negated-end-requires : goal.put_negated-end-requires
 put_negated-end-requires c = let p = c.requires in
-    rw (sum_back p.2 p.3 c.row_sum-s.ensures) (room_on p.5 (omega (arith, whole_many p.2 p.3 c.row_sum-s.ensures c.args.len c.put_row-at.ensures.1)) (omega arith) (omega arith) (omega arith), omega (arith, p.2.low), omega (arith, p.2.low), sum_small p.2 p.3 c.row_sum-s.ensures)
+    rw (sum_back p.2 p.3 c.row_sum-s.ensures) (room_on p.5 (omega (arith, whole_many p.2 p.3 c.row_sum-s.ensures c.args.len c.put_row-at.ensures.1)) (omega arith) (omega arith) (omega arith), omega arith, omega arith, sum_small p.2 p.3 c.row_sum-s.ensures)
 
 pub returns : goal.returns
 returns c = let a = c.args in

@@ -1,11 +1,7 @@
-use Prim.Native.Nat.{ℕ, ◌-◌, ◌+◌, ◌*◌, ◌≤◌, ◌<◌}
+use Prim.Native.Nat.{ℕ, ◌-◌, ◌*◌, ◌≤◌, ◌<◌}
 use mathlib.Core.Path.{◌≡◌}
-use lib.ListN.{length}
 use Rattle.sign_words.specs.Packed.{sign_in}
 use Rattle.sign_words.proofs.distance.sign_apart.Given as goal
 
 abbrev pub invariant-loop-k : goal.invariant-loop-k
-invariant-loop-k l = (l.from < 64 * l.k + 64) × (l.k ≤ length l.a) × (l.at ≡ l.from - 64 * l.k) × ((j : ℕ) → l.from ≤ j → j < 64 * l.k → sign_in l.a j ≡ sign_in l.b j)
-
-abbrev pub decreases-loop-k : goal.decreases-loop-k
-decreases-loop-k l = length l.a - l.k
+invariant-loop-k l = (l.at ≡ l.from - 64 * l.k) × ((j : ℕ) → l.from ≤ j → j < 64 * l.k → sign_in l.a j ≡ sign_in l.b j)

@@ -2,20 +2,15 @@ use Prim.Native.Nat.{ℕ}
 use native.Mathlib.Omega.{arith}
 use mathlib.Core.Path.{◌≡◌, refl, sym, ◌∙◌, subst}
 use lib.ListN.{length}
-use Rattle.laws.specs.Lists.{tabulate}
 use Rattle.laws.proofs.Made.{tabulate_next, tabulate_all}
 use Rattle.sign_words.specs.Packed.{word, digit_at, packed, Packs}
 use Rattle.sign_words.proofs.PackedLaws.{packed_signs}
 use Rattle.sign_words.proofs.pack.pack.Goals as goal
 
-pub loop-k-init : goal.loop-k-init
-unfolding tabulate
-loop-k-init c = refl
-
 pub loop-k-preserved : goal.loop-k-preserved
 loop-k-preserved c = let a = c.args in
     let l = c.loop-k in
-    rw c.pack_word.ensures (tabulate_next (λ (k : ℕ). word (digit_at a.signs.now k) 64) l.k a.words.now l.words 0 (omega (arith, l.auto.words)) l.invariant)
+    rw c.pack_word.ensures (tabulate_next (λ (k : ℕ). word (digit_at a.signs.now k) 64) l.k a.words.now l.words 0 (omega arith) l.invariant)
 
 pub returns : goal.returns
 unfolding packed

@@ -19,7 +19,7 @@ pub overflow_add-w : goal.overflow_add-w
 overflow_add-w c = let a = c.args in
     let l = c.loop-j in
     let room = from_room (digit_at a.signs.now a.k) 64 l.j l.w 63 (λ i. sign_digit_lt _) (omega arith) l.invariant in
-    omega (arith, room, c.sign_bit.ensures, sign_digit_lt (get_or a.signs.now (64 * a.k + (l.j - 1)) 0))
+    omega (arith, sign_digit_lt (get_or a.signs.now (64 * a.k + (l.j - 1)) 0))
 
 pub loop-j-preserved : goal.loop-j-preserved
 loop-j-preserved c = let a = c.args in

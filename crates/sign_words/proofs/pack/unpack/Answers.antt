@@ -1,21 +1,11 @@
 use native.Mathlib.Omega.{arith}
 use mathlib.Core.Path.{◌≡◌, refl, sym, ◌∙◌, subst}
 use lib.ListN.{length}
-use Rattle.laws.specs.Lists.{tabulate}
-use Rattle.laws.proofs.Made.{tabulate_next, tabulate_all}
+use Rattle.laws.proofs.Made.{tabulate_all}
 use Rattle.sign_words.specs.Packed.{sign_in, unpacked}
 use Rattle.sign_words.specs.Signs.{Binary}
 use Rattle.sign_words.proofs.PackedLaws.{unpacked_binary}
 use Rattle.sign_words.proofs.pack.unpack.Goals as goal
-
-pub loop-i-init : goal.loop-i-init
-unfolding tabulate
-loop-i-init c = refl
-
-pub loop-i-preserved : goal.loop-i-preserved
-loop-i-preserved c = let a = c.args in
-    let l = c.loop-i in
-    rw c.sign_in.ensures (tabulate_next (sign_in a.words.now) l.i a.signs.now l.signs 0 (omega (arith, l.auto.signs)) l.invariant)
 
 pub returns : goal.returns
 unfolding unpacked

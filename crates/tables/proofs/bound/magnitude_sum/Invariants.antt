@@ -1,12 +1,8 @@
 -- `tables::bound::magnitude_sum` meets its contract.
 use mathlib.Core.Path.{◌≡◌}
-use Prim.Native.Nat.{◌≤◌, ◌-◌}
 use Rattle.laws.specs.Lists.{elem_z}
 use Rattle.tables.specs.Bound.{magnitude_sum}
 use Rattle.tables.proofs.bound.magnitude_sum.Given as goal
 
 abbrev pub invariant-loop-k : goal.invariant-loop-k
-invariant-loop-k l = (l.k ≤ l.count) × (l.magnitude ≡ magnitude_sum (elem_z l.values) l.k)
-
-abbrev pub decreases-loop-k : goal.decreases-loop-k
-decreases-loop-k l = l.count - l.k
+invariant-loop-k l = l.magnitude ≡ magnitude_sum (elem_z l.values) l.k

@@ -13,7 +13,6 @@ pub entries-requires : goal.entries-requires
 entries-requires c = c.requires.0 (size_parts _ _ _ _ _ (sym c.bad_size.ensures ∙ c.if-bad_size.false)).2
 
 pub unmirrored-requires : goal.unmirrored-requires
-unmirrored-requires c = let p = c.requires in
+unmirrored-requires c = let a = c.args.table in
     let s = size_parts _ _ _ _ _ (sym c.bad_size.ensures ∙ c.if-bad_size.false) in
-    let a = c.args.table in
-    subst (λ t. Placed t.row t.column t.count) (sym c.entries.ensures) (order_placed a.size (lent_table a) (omega (arith, s, p.1)) (sym c.bad_order.ensures ∙ c.if-bad_order.false))
+    subst (λ t. Placed t.row t.column t.count) (sym c.entries.ensures) (order_placed a.size (lent_table a) (omega (arith, s)) (sym c.bad_order.ensures ∙ c.if-bad_order.false))

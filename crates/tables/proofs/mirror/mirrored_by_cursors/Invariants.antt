@@ -1,14 +1,10 @@
 -- `tables::mirror::mirrored_by_cursors` meets its contract.
 use mathlib.Core.Path.{◌≡◌}
 use mathlib.Core.Bool.{false, not}
-use Prim.Native.Nat.{◌≤◌, ◌-◌}
 use Rattle.laws.specs.Lists.{any_below}
 use Rattle.tables.specs.Check.{is_mirror}
 use Rattle.tables.specs.Entries.{listed}
 use Rattle.tables.proofs.mirror.mirrored_by_cursors.Given as goal
 
 abbrev pub invariant-loop-k : goal.invariant-loop-k
-invariant-loop-k l = (l.k ≤ l.table.count) × (any_below l.k (λ j. not (any_below l.table.count (is_mirror (listed l.table) j))) ≡ false)
-
-abbrev pub decreases-loop-k : goal.decreases-loop-k
-decreases-loop-k l = l.table.count - l.k
+invariant-loop-k l = any_below l.k (λ j. not (any_below l.table.count (is_mirror (listed l.table) j))) ≡ false

@@ -1,20 +1,13 @@
 -- `tables::objective::obj_rounded` meets its contract.
 use Rattle.std.proofs.Common.{◌∙◌, rules}
-use Rattle.std.proofs.lemmas.Iterator.{YieldsList-from_range, YieldsList-from_map}
-use native.Mathlib.Omega.{arith}
 use Rattle.laws.proofs.Integer.{held}
 use Rattle.tables.specs.Entries.{listed}
-use Rattle.tables.specs.Table.{objective_term, sign_at}
 use Rattle.tables.proofs.Shares.{objective_held}
 use Rattle.tables.proofs.Added.{sum_fits, sum_is}
 use Rattle.tables.proofs.objective.obj_rounded.Goals as goal
 
 pub sum-requires-clause-fits : goal.sum-requires-clause-fits
-sum-requires-clause-fits c = let a = c.args in
-    let term = objective_term (listed a.table) (sign_at a.signs.now) in
-    sum_fits a.table.count term (YieldsList-from_map _ term (YieldsList-from_range 0 a.table.count _ c.map.ensures.source (omega arith)) c.map.ensures.closure (λ x r q k. search rules)) (objective_held (listed a.table) c.requires.1 a.signs.now)
+sum-requires-clause-fits c = sum_fits _ _ c.map.ensures.source c.map.ensures.closure (λ x r q k. search rules) (objective_held (listed c.args.table) c.requires.1 c.args.signs.now)
 
 pub returns : goal.returns
-returns c = let a = c.args in
-    let term = objective_term (listed a.table) (sign_at a.signs.now) in
-    held c.sum.result c.sum.type_inv ∙ sum_is a.table.count term (YieldsList-from_map _ term (YieldsList-from_range 0 a.table.count _ c.map.ensures.source (omega arith)) c.map.ensures.closure (λ x r q k. search rules)) _ c.sum.ensures.ran
+returns c = held c.sum.result c.sum.type_inv ∙ sum_is _ _ c.map.ensures.source c.map.ensures.closure (λ x r q k. search rules) _ c.sum.ensures.ran

@@ -5,11 +5,7 @@ use native.Mathlib.Omega.{arith}
 use Rattle.tables.proofs.Ranks.{root_below, root_is}
 use Rattle.tables.proofs.rank.least_root.Goals as goal
 
-pub returns-then-t-eq0 : goal.returns-then-t-eq0
-returns-then-t-eq0 c = (root_is _ 0 (omega arith) (λ s h. absurd (omega arith)), omega arith)
-
 pub returns-else-t-eq0 : goal.returns-else-t-eq0
 returns-else-t-eq0 c = let r = c.isqrt.result in
-    let root = c.isqrt.ensures in
-    let below = root_below r c.args.t (omega (arith, root.square_le)) c.requires in
-    (root_is _ (r + 1) (omega (arith, root.next_square_gt)) (λ s h. let le : s ≤ r = omega arith in omega (arith, mul-le-mul le le, root.square_le)), omega (arith, below))
+    let below = root_below r c.args.t (omega arith) c.requires in
+    (root_is _ (r + 1) (omega arith) (λ s h. let le : s ≤ r = omega arith in omega (arith, mul-le-mul le le)), omega (arith, below))

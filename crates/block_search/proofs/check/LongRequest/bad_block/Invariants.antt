@@ -1,7 +1,5 @@
 -- `block_search::check::LongRequest::bad_block` meets its contract. Assumes nothing.
 use mathlib.Core.Path.{◌≡◌}
-use lib.ListN.{length}
-use Prim.Native.Nat.{◌≤◌}
 use mathlib.Core.Bool.{false}
 use Rattle.laws.specs.Sum.{total}
 use Rattle.laws.specs.Lists.{elem, any_below}
@@ -10,4 +8,4 @@ use Rattle.block_search.specs.Numbers.{bad_list}
 use Rattle.block_search.proofs.check.LongRequest.bad_block.Given as goal
 
 abbrev pub invariant-loop-k : goal.invariant-loop-k
-invariant-loop-k l = (l.k ≤ length l.blocks.lent.sizes.now) × (l.at ≡ total l.k (elem l.blocks.lent.sizes.now)) × (any_below l.k (λ j. bad_list l.self.n (block_of l.blocks.lent.sizes.now l.blocks.lent.wagons.now j)) ≡ false)
+invariant-loop-k l = (l.at ≡ total l.k (elem l.blocks.lent.sizes.now)) × (any_below l.k (λ j. bad_list l.self.n (block_of l.blocks.lent.sizes.now l.blocks.lent.wagons.now j)) ≡ false)
