@@ -9,9 +9,10 @@ use mathlib.Core.Path.{◌≡◌, refl, sym, ap, ap₂, ◌∙◌}
 use mathlib.Core.Bool.{Bool, true, false, cond}
 use mathlib.Core.List.{List, [], ◌++◌, append_assoc}
 use native.Mathlib.Omega.{arith}
+use lib.Dec.{T}
 use lib.ListN.{length, get_or, length-append}
 use lib.IntN.{ℤ, pos}
-use lib.Ieee.{Float, nan}
+use lib.Ieee.{Float, nan, binary64, fits}
 use Rattle.ieee.specs.Floats.{double_of, bits_of, signed_of, bits_of_signed}
 use Rattle.job_reader.specs.Bytes.{big_endian, signed_at, double_at}
 use Rattle.job_reader.specs.Encode.{bytes_of}
@@ -237,6 +238,23 @@ same : {n n' count count' pins pins' free free' rank rank' rule rule' most most'
     (record { n = n'; count = count'; pins = pins'; free = free'; rank = rank'; rule = rule'; rule_number = number'; most = most'; minimum = minimum'; objective_tolerance = objective'; stationarity_tolerance = stationarity'; width = width'; start = start'; draw_count = draws' })
 same a b p q c d e f g h i j k l = rw (a, b, p, q, c, d, e, f, g, h, i, j, k, l)
 
+module _ (v : Values) where
+  pub set_rule : v.rule < 2 ^ 8 → big_endian (settings_bytes v) 1 1 ≡ v.rule
+  unfolding settings_bytes bytes_of big_endian
+  set_rule h = read_bytes 1 v.rule h
+
+  pub set_number : T (fits binary64 v.rule_number) → double_of (big_endian (settings_bytes v) 2 8) ≡ v.rule_number
+  unfolding settings_bytes bytes_of big_endian
+  set_number h = read_double v.rule_number h
+
+  set_most : v.most < 2 ^ 32 → big_endian (settings_bytes v) 10 4 ≡ v.most
+  unfolding settings_bytes bytes_of big_endian
+  set_most h = read_bytes 4 v.most h
+
+  pub set_width : v.width < 2 ^ 8 → big_endian (settings_bytes v) 34 1 ≡ v.width
+  unfolding settings_bytes bytes_of big_endian
+  set_width h = read_bytes 1 v.width h
+
 module _ (v : Values) (held : Typed v) where
   pub settings_at : settings_place (job_bytes v) ≡ settings_from v
   unfolding settings_by
@@ -246,7 +264,7 @@ module _ (v : Values) (held : Typed v) where
       go true e = omega (arith, pins_at v held, pin_count_back v held, some_size v e)
       go false e = omega (arith, pins_at v held, no_size v e)
 
-  setting_at : (p w : ℕ) → p + w ≤ 36 → big_endian (job_bytes v) (settings_place (job_bytes v) + p) w ≡ big_endian (settings_bytes v) p w
+  pub setting_at : (p w : ℕ) → p + w ≤ 36 → big_endian (job_bytes v) (settings_place (job_bytes v) + p) w ≡ big_endian (settings_bytes v) p w
   setting_at p w h =
       ap (λ (q : ℕ). big_endian (job_bytes v) (q + p) w) settings_at ∙ at_settings v p w ∙ read_front (settings_bytes v) (starting v) p w (omega (arith, settings_size v))
 
@@ -256,28 +274,21 @@ module _ (v : Values) (held : Typed v) where
       let e : settings_place (job_bytes v) ≡ settings_place (job_bytes v) + 0 = omega arith in
       ap (λ (q : ℕ). big_endian (job_bytes v) q 1) e ∙ setting_at 0 1 (omega arith) ∙ read_bytes 1 v.rank held.rank
 
-  set_most : big_endian (settings_bytes v) 10 4 ≡ v.most
-  unfolding settings_bytes bytes_of big_endian
-  set_most = read_bytes 4 v.most held.most
-
   pub most_is : big_endian (job_bytes v) (settings_place (job_bytes v) + 10) 4 ≡ v.most
-  most_is = setting_at 10 4 (omega arith) ∙ set_most
+  most_is = setting_at 10 4 (omega arith) ∙ set_most v held.most
 
   pub start_is : big_endian (job_bytes v) (settings_place (job_bytes v) + 35) 1 ≡ v.start
   unfolding settings_bytes bytes_of big_endian
   start_is = setting_at 35 1 (omega arith) ∙ read_bytes 1 v.start held.start
 
   pub rule_is : big_endian (job_bytes v) (settings_place (job_bytes v) + 1) 1 ≡ v.rule
-  unfolding settings_bytes bytes_of big_endian
-  rule_is = setting_at 1 1 (omega arith) ∙ read_bytes 1 v.rule held.rule
+  rule_is = setting_at 1 1 (omega arith) ∙ set_rule v held.rule
 
   pub number_is : rule_number_at (job_bytes v) (settings_place (job_bytes v)) ≡ v.rule_number
-  unfolding settings_bytes bytes_of big_endian
-  number_is = ap double_of (setting_at 2 8 (omega arith)) ∙ read_double v.rule_number held.rule_number
+  number_is = ap double_of (setting_at 2 8 (omega arith)) ∙ set_number v held.rule_number
 
   pub width_is : big_endian (job_bytes v) (settings_place (job_bytes v) + 34) 1 ≡ v.width
-  unfolding settings_bytes bytes_of big_endian
-  width_is = setting_at 34 1 (omega arith) ∙ read_bytes 1 v.width held.width
+  width_is = setting_at 34 1 (omega arith) ∙ set_width v held.width
 
   pub draws_at : draws_place (job_bytes v) ≡ settings_from v + 36 + length v.start_numbers * 8
   unfolding draws_by

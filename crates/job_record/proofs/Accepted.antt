@@ -17,7 +17,7 @@ use Rattle.job_record.specs.Versions.{versions}
 use Rattle.job_record.specs.Fields.{version, wagons, entry_count, entry_at, costs_end, pins_place, pin_at, free_state, pin_count_by, free_by, settings_by, rank_at, most_at, start_at}
 use Rattle.job_record.specs.Number.{pin_number, pins_numbers, pins_numbers_by, job_number}
 use Rattle.std.specs.Prelude.{Option}
-use Rattle.job_reader.specs.Bytes.{big_endian, field_at, value_of}
+use Rattle.job_reader.specs.Bytes.{big_endian, field_at, value_of, place_after}
 use Rattle.job_record.specs.declared.reading.HeadValues.{HeadValues}
 use Rattle.job_record.specs.Reading.{SettingsValues, HeadThere, settings_from, settings_values}
 use Rattle.job_record.specs.Values.{pin_count, free_wagons, settings_place, draws_place, draws_by, job_pin_wagon, job_pin_store, states_of, job_states, job_rank, job_start_count, job_drawn}
@@ -98,7 +98,7 @@ module _ (s : List ℕ) (e : first (pins_numbers_by versions s) ≡ 0) (t : vers
   unfolding pin_count_by
   count_is = rw t
 
-  settings_are : pins_place s + 1 + pin_count s * 2 ≡ settings_place s
+  pub settings_are : pins_place s + 1 + pin_count s * 2 ≡ settings_place s
   unfolding settings_by
   settings_are = rw t
 
@@ -206,7 +206,7 @@ pub settings_held : (s : List ℕ) → job_number s ≡ 0 → (v : SettingsValue
 settings_held s z v e = settings_values_are s (settings_place s) refl e (fields s z).settings.there
 
 -- its draw count, as it was read
-pub drawn_held : (s : List ℕ) → job_number s ≡ 0 → {at : ℕ} {drawn : Option ℕ} → at ≡ draws_place s → drawn ≡ field_at s at 2 → value_of drawn ≡ big_endian s (draws_place s) 2
+pub drawn_held : (s : List ℕ) → job_number s ≡ 0 → {at : ℕ} {drawn : Option ℕ} → at ≡ draws_place s → drawn ≡ field_at s at 2 → (value_of drawn ≡ big_endian s (draws_place s) 2) × (place_after drawn at 2 ≡ draws_place s + 2)
 drawn_held s z {at} e f =
     let there = field_there s at 2 f (omega (arith, (fields s z).draws.there)) in
-    ap value_of there ∙ ap (λ (p : ℕ). big_endian s p 2) e
+    (ap value_of there ∙ ap (λ (p : ℕ). big_endian s p 2) e, ap (λ (d : Option ℕ). place_after d at 2) there ∙ ap (λ (p : ℕ). p + 2) e)

@@ -28,6 +28,15 @@ use Rattle.job_record.proofs.Same.{filled, order_same, mirror_same, magnitude_sa
 eleven : ◌≡◌ {A = ℕ} 11 0 → ⊥
 eleven e = omega arith
 
+-- a row that was gone through
+pub ended : (f : ℕ → ℕ) (i n : ℕ) → first_of f i ≡ 0 → i ≤ n → n ≤ i → 0 ≡ first_of f n
+ended f i n none up down = let e : n ≡ i = omega arith in rw e (sym none)
+
+-- room for the count is room for the whole ones
+pub fits : {count whole : ℕ} (s rows cols : List ℕ) (values : List ℤ) → whole ≤ count → (8 ≤ length s) × (count ≤ length rows) × (count ≤ length cols) × (count ≤ length values)
+    → (whole ≤ length rows) × (whole ≤ length cols) × (whole ≤ length values)
+fits _ _ _ _ few room = (omega arith, omega arith, omega arith)
+
 module _ (s : List ℕ) (n count whole : ℕ) (w : (whole ≤ count) × (entry_at whole ≤ length s) × (whole < count → length s < entry_at whole + 10)) where
   judged : (k : ℕ) → k < whole → entry_number s n k ≡ 14 if bad_entry n (row s) (column s) k
   unfolding entry_number
@@ -54,19 +63,19 @@ module _ (s : List ℕ) (n count whole : ℕ) (w : (whole ≤ count) × (entry_a
   cut_after ok l = rw (first_of_stops (entry_number s n) whole count l (λ z. eleven (cut_one l ∙ z)), whole_ones, ok) (cut_one l)
 
   none : bad_order n (row s) (column s) whole ≡ false → count ≤ whole → 0 ≡ first_of (entry_number s n) count
-  none ok l = let e : count ≡ whole = omega arith in rw (e, whole_ones, ok)
+  none ok l = ended (entry_number s n) whole count (rw (whole_ones, ok)) w.0 l
 
   module _ {rows cols : List ℕ} {values : List ℤ} (rows₀ cols₀ : List ℕ) (values₀ : List ℤ)
-      (room : (8 ≤ length s) × (count ≤ length rows₀) × (count ≤ length cols₀) × (count ≤ length values₀))
+      (room : (whole ≤ length rows₀) × (whole ≤ length cols₀) × (whole ≤ length values₀))
       (r : rows ≡ fill (row s) whole rows₀) (k : cols ≡ fill (column s) whole cols₀) (v : values ≡ fill (value s) whole values₀) where
     rows_are : (i : ℕ) → i < whole → elem rows i ≡ row s i
-    rows_are i l = rw r (filled (row s) rows₀ 0 whole (omega arith) i l)
+    rows_are i l = rw r (filled (row s) rows₀ 0 whole room.0 i l)
 
     cols_are : (i : ℕ) → i < whole → elem cols i ≡ column s i
-    cols_are i l = rw k (filled (column s) cols₀ 0 whole (omega arith) i l)
+    cols_are i l = rw k (filled (column s) cols₀ 0 whole room.1 i l)
 
     values_in : (i : ℕ) → i < whole → elem_z values i ≡ value s i
-    values_in i l = rw v (filled (value s) values₀ (pos 0) whole (omega arith) i l)
+    values_in i l = rw v (filled (value s) values₀ (pos 0) whole room.2 i l)
 
     order_is : bad_order n (elem rows) (elem cols) whole ≡ bad_order n (row s) (column s) whole
     order_is = order_same _ _ _ _ whole rows_are cols_are n
@@ -112,7 +121,7 @@ values_are s count {values₀ = values₀} e room i l = rw e.in_values (filled (
 -- c and the magnitude
 module _ (s : List ℕ) (n count : ℕ) {c : List ℤ} (c₀ values : List ℤ) (k : c ≡ fill (signed_from s (entry_at count)) n c₀) (fk : n ≤ length c₀)
     (v : (i : ℕ) → i < count → elem_z values i ≡ value s i) where
-  magnitude_is : total count (λ i. nat_abs (elem_z values i)) + 2 * total n (λ i. nat_abs (elem_z c i)) ≡ hall_magnitude n (entries s count) (signed_from s (entry_at count))
+  pub magnitude_is : total count (λ i. nat_abs (elem_z values i)) + 2 * total n (λ i. nat_abs (elem_z c i)) ≡ hall_magnitude n (entries s count) (signed_from s (entry_at count))
   magnitude_is = magnitude_same n count v (λ i l. ap (λ (l : List ℤ). elem_z l i) k ∙ filled (signed_from s (entry_at count)) c₀ (pos 0) n fk i l)
 
   -- the number of c that is there, by the test's result

@@ -1,5 +1,5 @@
 -- The fields of head and settings as a reader takes them: where each stands, and that they are judged as Number says.
---     reached, there                            a field stands behind those before it, where these are there; and it is there itself
+--     reached, there, there_after               a field stands behind those before it, where these are there; it is there itself; and the next place is behind it
 --     head_judged_lem, settings_judged_lem      the numbers of the fields are those of the record
 --     head_there, settings_there                the values, where all fields are there
 -- Assumes nothing.
@@ -18,7 +18,7 @@ use Rattle.laws.proofs.Following.{answers_if, moves_on_if, answers_last, first_a
 use Rattle.ieee.specs.Floats.{double_of}
 use Rattle.limits.specs.Limits.{most_entries, most_rank, most_width, last_rule, last_start, most_bytes}
 use Rattle.run_limits.specs.Momentum.{is_momentum}
-use Rattle.job_reader.specs.Bytes.{big_endian, field_at, value_of, after, after_all, taken}
+use Rattle.job_reader.specs.Bytes.{big_endian, field_at, value_of, place_after, after, after_all, taken}
 use Rattle.std.specs.Prelude.{Option, Some, None}
 use Rattle.job_record.specs.declared.reading.HeadFields.{HeadFields}
 use Rattle.job_record.specs.declared.reading.HeadValues.{HeadValues}
@@ -52,6 +52,9 @@ module _ (s : List ℕ) (at : ℕ) (ws : List ℕ) (w : ℕ) where
 
   pub there : at + widths ws + w ≤ length s → taken s at ws w ≡ Some (big_endian s (at + widths ws) w)
   there h = reached (omega arith) ∙ ap (λ (t : Bool). cond t (Some (big_endian s (at + widths ws) w)) None) (le-leb _ _ h)
+
+  pub there_after : at + widths ws + w ≤ length s → place_after (taken s at ws w) (after_all s at ws) w ≡ at + widths ws + w
+  there_after h = ap (λ (f : Option ℕ). place_after f (after_all s at ws) w) (there h) ∙ ap (λ (p : ℕ). p + w) (behind s at ws (omega arith))
 
 -- ---- numbers
 

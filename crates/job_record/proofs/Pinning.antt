@@ -134,16 +134,16 @@ module _ (s : List ℕ) (n at k : ℕ) {states : List ℕ} {place r : ℕ} {pin 
   turn_refused count l d = R.found (pin_number s n at) k count before l turn_number_lem d
 
   module _ (z : r ≡ 0) where
-    turn_pin : Pin s n at k
+    pub turn_pin : Pin s n at k
     turn_pin = accepted s n at k (sym turn_number_lem ∙ z)
 
-    turn_wagon : value_of pin.wagon ≡ pin_wagon s at k
+    pub turn_wagon : value_of pin.wagon ≡ pin_wagon s at k
     unfolding pin_from
     turn_wagon =
         let e : pin_at at k + 0 ≡ pin_at at k = omega arith in
         ap (λ (p : PinFields). value_of p.wagon) turn_read ∙ ap value_of (there s (pin_at at k) [] 1 (omega (arith, turn_pin.there))) ∙ ap (λ (p : ℕ). big_endian s p 1) e
 
-    turn_store : value_of pin.store ≡ pin_store s at k
+    pub turn_store : value_of pin.store ≡ pin_store s at k
     unfolding pin_from
     turn_store = ap (λ (p : PinFields). value_of p.store) turn_read ∙ ap value_of (there s (pin_at at k) (1 ∷ []) 1 (omega (arith, turn_pin.there)))
 
