@@ -110,7 +110,7 @@ module _ (t : CostTable) (pinned stores present sizes wagons : List ℕ) (width 
   unfolding block_number
   not_short = clear _ 30 (first_head _ _ e)
 
-  hall_good : Hall most_wagons most_entries most_magnitude t.n (quadratic t) (linear t)
+  pub hall_good : Hall most_wagons most_entries most_magnitude t.n (quadratic t) (linear t)
   unfolding block_number
   hall_good = hall_accepted (first_head _ _ (first_rest _ _ e))
 
@@ -134,7 +134,7 @@ module _ (t : CostTable) (pinned stores present sizes wagons : List ℕ) (width 
   unfolding bad_pins bad_list
   pinned_within = outside_within t.n pinned (any_head _ _ (any_head _ _ pins_good))
 
-  pinned_once : Once pinned
+  pub pinned_once : Once pinned
   unfolding bad_pins bad_list
   pinned_once = twice_once pinned (any_head _ _ (any_rest _ _ (any_head _ _ pins_good)))
 
@@ -150,7 +150,7 @@ module _ (t : CostTable) (pinned stores present sizes wagons : List ℕ) (width 
   unfolding bad_blocks
   few_blocks = ltb-false most_blocks (length sizes) (any_head _ _ (any_rest _ _ blocks_good))
 
-  pins_fit : PinsFit t.n pinned stores present
+  pub pins_fit : PinsFit t.n pinned stores present
   pins_fit = let l = slices_long not_short in record {
     wagons_there = pinned_within;
     stores_there = l.stores_long;
