@@ -2,24 +2,24 @@
 use Prim.Native.Nat.{ℕ, zero, suc, ◌+◌, ◌*◌, ◌-◌, ◌≤◌, ◌<◌}
 use native.Mathlib.Omega.{arith}
 use mathlib.Core.Bool.{Bool, true, false, cond}
-use mathlib.Core.List.{List, [], ◌∷◌, ◌++◌, map, map-map}
-use mathlib.Core.Path.{◌≡◌, refl, sym, ap, ◌∙◌, subst}
-use lib.IntN.{ℤ, pos}
+use mathlib.Core.List.{List, [], ◌∷◌, ◌++◌, map, map-append, map-map}
+use mathlib.Core.Path.{◌≡◌, refl, sym, ap, ap₂, ◌∙◌, subst}
+use lib.IntN.{ℤ, pos, ◌+ℤ◌}
 use lib.Signed.{lt_z}
 use lib.ListN.{length, take, drop, get_or, length-map}
 use Rattle.std.proofs.lemmas.List.{take-map}
 use Rattle.laws.specs.Lists.{over}
 use Rattle.local_search.specs.LocalSearch.{All, insert, keep_best, best, children_of}
 use Rattle.sign_words.specs.Packed.{Tidy}
-use Rattle.local_search.specs.Level.{Choice, below, word_child, level_of, decoded, sign_level, Ascending, TidyChoice, TidyLevel}
-use Rattle.local_search.specs.SignSearch.{improving, child_at}
-use Rattle.local_search.specs.Children.{flip_w, better, Kept}
+use Rattle.local_search.specs.Level.{Choice, below, child_of, word_child, level_of, decoded, sign_level, Ascending, TidyChoice, TidyLevel}
+use Rattle.local_search.specs.SignSearch.{improving, improves_c, flip_c, children_c, child_at}
+use Rattle.local_search.specs.Children.{change_of, flip_w, listed_children, parent_of, better, Kept, Appended}
 use Rattle.local_search.proofs.LevelLaws.{level_empty, length_level_of, objectives_of, objectives_are, level_copied}
 use Rattle.local_search.proofs.All.{all_append, all_take}
 use Rattle.local_search.proofs.SearchLaws.{all_insert}
 use Rattle.local_search.proofs.OrderLaws.{rising_keep}
 use Rattle.local_search.proofs.ExpandLaws.{choice_at, all_choices, parent_is}
-use Rattle.sign_words.proofs.PackedLaws.{tidy_flip}
+use Rattle.sign_words.proofs.PackedLaws.{unpacked_flip, tidy_flip}
 
 pub cond_map : {X Y : Type 0} (f : X → Y) (b : Bool) (x : X) → map f (cond b (x ∷ []) []) ≡ cond b (f x ∷ []) []
 cond_map f true x = refl
@@ -56,11 +56,32 @@ module _ (m : ℕ) where
   best_map b [] = refl
   best_map b (x ∷ l) = best_map (better b x) l ∙ ap (λ (c : Choice). best below c (map (decoded m) l)) (better_map b x)
 
+  -- ---- the children
+
+  children_map : (changes : List ℤ) (parent : Choice) (n : ℕ) → n ≤ m → m ≤ 64 * length parent.signs
+      → map (decoded m) (listed_children changes n parent) ≡ children_c (change_of changes) (improves_c (change_of changes)) n (decoded m parent)
+  unfolding improving flip_w flip_c word_child child_of
+  children_map changes parent zero h held = refl
+  children_map changes parent (suc n) h held =
+      map-append (decoded m) (listed_children changes n parent) (child_at (improves_c (change_of changes)) (flip_w changes) parent n)
+      ∙ ap₂ ◌++◌ (children_map changes parent n (omega arith) held)
+      (cond_map (decoded m) (improves_c (change_of changes) parent n) (flip_w changes n parent)
+      ∙ ap (λ (x : List ℕ). cond (improves_c (change_of changes) parent n) (parent_of (parent.objective +ℤ get_or changes n (pos 0)) x ∷ []) [])
+      (unpacked_flip n parent.signs (omega arith) m (omega arith)))
+
+  pub decoded_children : (changes : List ℤ) (parent : Choice) → m ≤ 64 * length parent.signs
+      → map (decoded m) (listed_children changes m parent) ≡ children_c (change_of changes) (improves_c (change_of changes)) m (decoded m parent)
+  decoded_children changes parent held = children_map changes parent m (omega arith) held
+
   -- ---- what the level functions leave
 
   pub kept_decoded : (width : ℕ) (before children after : List Choice) (count : ℕ) → Kept width before children after count
       → Kept width (map (decoded m) before) (map (decoded m) children) (map (decoded m) after) count
   kept_decoded width before children after count p = record { level = ap (map (decoded m)) p.level ∙ keep_best_map width before children; room = p.room }
+
+  pub appended_decoded : (children after : List Choice) (count most : ℕ) → Appended [] children after count most
+      → Appended [] (map (decoded m) children) (map (decoded m) after) count most
+  appended_decoded children after count most p = record { level = ap (map (decoded m)) p.level; room = p.room }
 
 -- ---- a level's objectives and lengths
 

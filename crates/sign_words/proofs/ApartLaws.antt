@@ -3,40 +3,52 @@ use Prim.Native.Nat.{ℕ, zero, suc, ◌+◌, ◌*◌, ◌-◌, ◌/◌, ◌%◌
 use native.Mathlib.Omega.{arith}
 use mathlib.Core.List.{List}
 use mathlib.Core.Logic.{⊎_elim}
-use mathlib.Core.Path.{◌≡◌, sym, ap, ◌∙◌, subst}
-use lib.Bits.{bit_xor, xor_lt}
-use Rattle.std.specs.Int.Count.{trailing_of_zero}
+use mathlib.Core.Path.{◌≡◌, refl, sym, ap, ◌∙◌, subst}
+use lib.Bits.{bit_xor}
+use lib.Count.{count_trailing_zeros, under}
 use lib.ListN.{length}
-use lib.Pow.{shr-shr, shr_le}
+use lib.Pow.{shr-shr}
 use Rattle.laws.specs.Lists.{elem}
 use Rattle.std.specs.Int.{bit_at, w64, trailing_zeros}
 use Rattle.std.proofs.lemmas.Bool.{cases_eq, cases_lt}
-use Rattle.std.proofs.lemmas.Nat.Bits.{bit_at-zero, bit_at_xor, bit_at-trailing_zeros}
+use Rattle.std.proofs.lemmas.Nat.Bits.{bit_at_lowest, bit_at-suc, bit_at_xor}
 use Rattle.sign_words.specs.Packed.{sign_in, flip_in}
 use Rattle.sign_words.specs.Signs.{flip_byte}
 use Rattle.std.specs.Prelude.{Some, None}
 use Rattle.sign_words.specs.Distance.{BitApart, SignApart, none, first}
 use Rattle.sign_words.proofs.PackedLaws.{sign_at_lem, sign_lt, other, flipped_here, flipped_there}
 
+-- ---- the lowest set bit
+
+-- the bits below it are 0, all of them where none is set
+pub below_lowest : (k n i : ℕ) → i < count_trailing_zeros k n → bit_at n i ≡ 0
+unfolding count_trailing_zeros
+below_lowest zero n i h = absurd (omega arith)
+below_lowest (suc k) n i h = go (below_lowest k (n / 2)) (n % 2) refl i h
+  where
+    go : ((j : ℕ) → j < count_trailing_zeros k (n / 2) → bit_at (n / 2) j ≡ 0)
+        → (d : ℕ) → n % 2 ≡ d → (i : ℕ) → i < under d (count_trailing_zeros k (n / 2)) → bit_at n i ≡ 0
+    go rest zero e zero q = bit_at_lowest n ∙ e
+    go rest zero e (suc j) q = bit_at-suc n j ∙ rest j (omega arith)
+    go rest (suc d) e j q = absurd (omega arith)
+
+-- and it is set, where one of the first k is
+pub lowest : (k n : ℕ) → count_trailing_zeros k n < k → bit_at n (count_trailing_zeros k n) ≡ 1
+unfolding count_trailing_zeros
+lowest zero n h = absurd (omega arith)
+lowest (suc k) n h = go (lowest k (n / 2)) (n % 2) refl h
+  where
+    go : (count_trailing_zeros k (n / 2) < k → bit_at (n / 2) (count_trailing_zeros k (n / 2)) ≡ 1)
+        → (d : ℕ) → n % 2 ≡ d → under d (count_trailing_zeros k (n / 2)) < suc k → bit_at n (under d (count_trailing_zeros k (n / 2))) ≡ 1
+    go rest zero e q = bit_at-suc n (count_trailing_zeros k (n / 2)) ∙ rest (omega arith)
+    go rest (suc d) e q = omega (arith, bit_at_lowest n)
+
 -- ---- two words
-
--- the bits below the lowest set one are 0, all of them where none is set
-below_lowest : (n i : ℕ) → n < 2 ^ 64 → i < trailing_zeros w64 n → bit_at n i ≡ 0
-below_lowest zero i fits h = bit_at-zero i
-below_lowest (suc n) i fits h = (bit_at-trailing_zeros w64 (suc n) (omega arith) fits).2 i h
-
--- it is set, where one is: of 0 the count is 64
-lowest : (n : ℕ) → n < 2 ^ 64 → trailing_zeros w64 n < 64 → bit_at n (trailing_zeros w64 n) ≡ 1
-lowest zero fits h = absurd (omega (arith, trailing_of_zero 64))
-lowest (suc n) fits h = (bit_at-trailing_zeros w64 (suc n) (omega arith) fits).1
 
 shifted_digit : (w i j : ℕ) → bit_at (w / 2 ^ i) j ≡ bit_at w (i + j)
 shifted_digit w i j = ap (λ (v : ℕ). v % 2) (shr-shr w i j)
 
-module _ (a b from : ℕ) (a-fits : a < 2 ^ 64) (b-fits : b < 2 ^ 64) where
-  fits : bit_xor a b / 2 ^ from < 2 ^ 64
-  fits = omega (arith, shr_le (bit_xor a b) from, xor_lt 64 a b a-fits b-fits)
-
+module _ (a b from : ℕ) where
   -- how many bits from `from` on are the same
   abbrev run : ℕ
   run = trailing_zeros w64 (bit_xor a b / 2 ^ from)
@@ -46,13 +58,13 @@ module _ (a b from : ℕ) (a-fits : a < 2 ^ 64) (b-fits : b < 2 ^ 64) where
       let back : from + (j - from) ≡ j = omega arith in
       let even : (bit_at a j + bit_at b j) % 2 ≡ 0 =
       sym (bit_at_xor a b j) ∙ ap (bit_at (bit_xor a b)) (sym back) ∙ sym (shifted_digit (bit_xor a b) from (j - from))
-      ∙ below_lowest (bit_xor a b / 2 ^ from) (j - from) fits (omega arith) in
+      ∙ below_lowest 64 (bit_xor a b / 2 ^ from) (j - from) (omega arith) in
       omega arith
 
   pub apart_inside : from + run < 64 → BitApart a b from (Some (from + run))
   apart_inside h =
       let odd : (bit_at a (from + run) + bit_at b (from + run)) % 2 ≡ 1 =
-      sym (bit_at_xor a b (from + run)) ∙ sym (shifted_digit (bit_xor a b) from run) ∙ lowest (bit_xor a b / 2 ^ from) fits (omega arith) in
+      sym (bit_at_xor a b (from + run)) ∙ sym (shifted_digit (bit_xor a b) from run) ∙ lowest 64 (bit_xor a b / 2 ^ from) (omega arith) in
       first (from + run) (omega arith) h run_same (λ e. absurd (omega arith))
 
   pub apart_nowhere : 64 ≤ from + run → BitApart a b from None
