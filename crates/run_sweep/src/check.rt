@@ -3,6 +3,7 @@ ghost use Rattle.std.specs.Prelude.{◌≡◌, ◌&&◌, ◌+◌, ◌*◌, ◌<�
 ghost use Rattle.std.specs.Float.Ieee.{le};
 ghost use Rattle.ieee.specs.Floats.{zero64};
 ghost use Rattle.factor.specs.Shapes.{Shaped};
+ghost use Rattle.step_rules.specs.Rule.{tests_objective};
 ghost use Rattle.run_sweep.specs.Work.{work_in};
 ghost use Rattle.run_sweep.specs.Running.{Countable};
 ghost use Rattle.run_sweep.specs.Found.{found_number};
@@ -104,9 +105,10 @@ fn advanced(run: Run, last_objective: f64, found: Option<Stop>, left: usize) -> 
     }
 }
 
-// The record after one more sweep, which left this factor and so many rows as they were.
+// The record after one more sweep, which left this factor and so many rows as they were; `tests` says whether the rule tests the objective.
 pub fn run_after(
     run: Run,
+    tests: bool,
     left: usize,
     table: Prepared,
     factor: &[f64],
@@ -114,7 +116,7 @@ pub fn run_after(
     dual: &mut [f64],
 ) -> Run
     requires countable { Countable run left }
-    requires sweeps_lt_most { (run.sweeps < run.most)
+    requires sweeps_lt_most { (run.sweeps < run.most) × (tests ≡ tests_objective run.rule)
         × Shaped table.cols.now table.values.now table.starts.now factor.now run.size run.rank
         × (length product.old ≡ run.size * run.rank) × (length dual.old ≡ run.size) }
     ensures { result ≡ run_after run (work_in table.entry) factor.now left }
@@ -126,10 +128,7 @@ pub fn run_after(
         let tolerance = run.stationarity_tolerance;
         let seen = maxcut_oracle::check::check(table, m, rank, factor, tolerance, product, dual);
         let done = settled(run.minimum, sweeps, seen.residual, seen.threshold);
-        let within = run
-            .rule
-            .tests_objective()
-            .then_some(run.objective_tolerance);
+        let within = tests.then_some(run.objective_tolerance);
         let found = stop_found(within, done, run.last_objective, seen.objective);
         return advanced(run, seen.objective, found, left);
     }

@@ -33,8 +33,16 @@ fn sweep_on(
     let rule = run.rule;
     let m = run.size;
     let rank = run.rank;
-    let left = step_rules::step(rule, table, m, rank, factor, product, moved);
-    run_after(run, left, table, factor, product, dual)
+    let answer = step_rules::step(rule, table, m, rank, factor, product, moved);
+    run_after(
+        run,
+        answer.tests,
+        answer.standing,
+        table,
+        factor,
+        product,
+        dual,
+    )
 }
 
 // Up to k sweeps of a factor of m rows. `Running run` stays a clause, here and in sdp_solver's sweep.rt: the record is the caller's own and comes back as a Run, so that a struct with
