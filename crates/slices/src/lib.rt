@@ -1,5 +1,5 @@
-// Slices copied by a loop, so that an archive for C asks its host for no `memmove`: the library's `copy_from_slice` does. `sign_words::words::copy` is the same
-// beside the words of a level, for the crates that search.
+// Slices copied by a loop, so that the archive for C asks its host for no `memmove`, as it would by the library's `copy_from_slice`. `sign_words::words::copy`
+// is the same for the words of a search, and stays there, so that sign_words stands on no more than it does.
 #![tactic(auto)]
 
 ghost use Rattle.std.specs.Prelude.{◌≡◌, length};
