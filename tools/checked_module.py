@@ -10,8 +10,7 @@ is marked for the address checks. Nothing else changes.
 Sums, differences and products are no other in the module whether they are signed or not, or may wrap: that is in the proved module (MIR) of the libraries, in the
 same order in each function. Where the two differ, this ends with status 1. The functions of `exports`, a static library, have no such file: they compute with
 places and lengths alone, which are not signed. What stands before each of them for C (`wagonplan_raw_..`, the slice of a pointer and a length) computes an
-address that may be null, and assumes nothing. The library's copy of a slice first compares where the two places lie, before its MIR: that distance may wrap, and
-nothing is concluded from it but which end to copy from (`BEFORE`).
+address that may be null, and assumes nothing.
 """
 import json
 import re
@@ -56,10 +55,6 @@ def operations(node, sums, narrow):
             operations(value, sums, narrow)
 
 
-# What the back end computes before a function's MIR: where two places lie apart it copies by memmove, and the distance that tells this may wrap.
-BEFORE = {"core::ptr::copy_drop::copy_bits": [("mul", None), ("sub", None)]}
-
-
 class Function:
     """Of the function that is read: what its MIR computes, and how far that has been seen. A generic function has one MIR for all its instances, whose names
     end with what they are made at."""
@@ -70,7 +65,6 @@ class Function:
         self.is_ours = name.startswith("exports::")
         self.is_known = of in mir or self.is_ours or name.startswith("wagonplan_raw_")
         self.has_mir = of in mir
-        self.sums += BEFORE.get(of, [])
         operations(mir.get(of), self.sums, self.signed)
 
     def sign(self, operator, line):

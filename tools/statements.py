@@ -11,7 +11,7 @@ TOP = os.path.join(os.path.dirname(os.path.dirname(os.path.abspath(__file__))), 
 
 # 01's sections, in its order, and what of the crates says each: a crate, or a file of it. What is named nowhere here belongs to 02.
 ORDER = [
-    ("Numbers, lists, limits", "limits laws ieee float_error"),
+    ("Numbers, lists, limits", "limits slices laws ieee float_error"),
     ("Sign table", "tables sign_table"),
     ("Objective, floor, decoding", "tables/Cost tables/Bound float_bound table_calls"),
     ("Rounding and search", "rounding sign_words sign_calls local_search sign_search sdp_local_search finalize"),

@@ -3,6 +3,8 @@ ghost use Rattle.std.specs.Prelude.{◌≡◌, ◌+◌, ◌≤◌, length, take}
 ghost use Rattle.job_reader.specs.Encode.{bytes_of};
 ghost use Rattle.answer_record.specs.Put.{put, bytes_in};
 
+use slices::copy;
+
 // The low `width` bytes of `value` from `at` on, big-endian. Indexed: `to_be_bytes` has eight bytes, and a width above 8 is allowed here; under `iter_mut` and
 // `rev` the loop's invariant can't name `out`. A remainder by 256 fits the `as u8`.
 pub fn put_number(out: &mut [u8], at: usize, width: usize, value: u64)
@@ -35,5 +37,5 @@ pub fn put_bytes(out: &mut [u8], at: usize, bytes: &[u8], count: usize)
     requires { (at + count ≤ length out.old) × (count ≤ length bytes.now) }
     ensures { out.new ≡ put out.old at (take count bytes.now) }
 {
-    out[at..at + count].copy_from_slice(&bytes[..count]);
+    copy(&mut out[at..at + count], &bytes[..count]);
 }

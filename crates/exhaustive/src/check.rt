@@ -10,6 +10,7 @@ ghost use Rattle.exhaustive.specs.Contract.{walk_short, walk_number};
 
 use limits::{MOST_ENTRIES, MOST_WAGONS, MOST_WALKED};
 use refusal::Refusal;
+use slices::copy;
 use tables::check::{hall_number, short_table, too_short};
 use tables::lent::LentHall;
 
@@ -40,7 +41,7 @@ fn house_number(hall: LentHall) -> Result<(), Refusal>
     let c = hall.c;
     let mut there = [0i64; MOST_WAGONS];
     let given = c.len().min(MOST_WAGONS);
-    there[..given].copy_from_slice(&c[..given]);
+    copy(&mut there[..given], &c[..given]);
     hall_number(LentHall {
         table: hall.table,
         c: &there,

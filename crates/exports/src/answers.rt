@@ -4,6 +4,7 @@ ghost use Rattle.refusal.specs.Number.{in_numbers, numbered};
 ghost use Rattle.exports.specs.Answers.{by_number, Stays, written};
 
 use refusal::Refusal;
+use slices::copy;
 
 // A refusal leaves the place as it is.
 pub fn hand_over<T: Copy>(answer: Result<T, Refusal>, place: &mut T) -> u8
@@ -45,7 +46,7 @@ pub fn hand_words<const N: usize>(answer: Result<[u64; N], Refusal>, words: &mut
 {
     match answer {
         Ok(made) => {
-            words[..N].copy_from_slice(&made);
+            copy(&mut words[..N], &made);
             0
         }
         Err(refusal) => refusal.number(),

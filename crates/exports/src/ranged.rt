@@ -11,6 +11,7 @@ use ranged_finish::finish::finish_ranged;
 use ranged_finish::{LentRanged, RangedResult};
 use refusal::Refusal;
 use run_limits::Draws;
+use slices::copy;
 
 // Three more than a finish's result.
 const RANGED_WORDS: usize = RESULT_WORDS + 3;
@@ -21,7 +22,7 @@ fn ranged_words(x: RangedResult) -> [u64; RANGED_WORDS]
     ensures { result ≡ ranged_words_of x }
 {
     let mut words = [0; RANGED_WORDS];
-    words[..RESULT_WORDS].copy_from_slice(&result_words(x.result));
+    copy(&mut words[..RESULT_WORDS], &result_words(x.result));
     words[RESULT_WORDS] = bits_of_signed(x.low);
     words[RESULT_WORDS + 1] = bits_of_signed(x.high);
     words[RESULT_WORDS + 2] = bits_of_signed(x.low_floor);

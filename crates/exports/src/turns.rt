@@ -17,6 +17,7 @@ use run_record::{Run, Stage};
 use several_runs::numbers::{bad_count, bad_turn};
 use several_runs::turn::turn;
 use several_runs::{HallSize, LentRuns};
+use slices::copy;
 use step_rules::StepRule;
 
 pub const HALL_WORDS: usize = 2;
@@ -98,7 +99,7 @@ fn put_runs(run_count: usize, runs: [Run; MOST_RUNS], words: &mut [u64])
 {
     for i in 0usize..run_count {
         let at = RUN_WORDS * i;
-        words[at..at + RUN_WORDS].copy_from_slice(&words_of(runs[i]));
+        copy(&mut words[at..at + RUN_WORDS], &words_of(runs[i]));
     }
 }
 

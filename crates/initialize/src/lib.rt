@@ -11,6 +11,7 @@ ghost use Rattle.initialize.specs.Initialize.{start_rows, sign_by, with_signs, s
 
 use factor::rows::{clear, multiply_by, project};
 use run_limits::StartNumbers;
+use slices::copy;
 
 // Starts 0 and 1: the numbers' rows, projected.
 #[tactic(auto, unfolding(crate::specs::Initialize::start_rows))]
@@ -19,7 +20,7 @@ pub fn start_rows(numbers: &[f64], rank: usize, m: usize, factor: &mut [f64])
     ensures { factor.new ≡ start_rows rank m numbers.now }
 {
     let size = m * rank;
-    factor.copy_from_slice(&numbers[..size]);
+    copy(factor, &numbers[..size]);
     project(factor, rank, m);
 }
 

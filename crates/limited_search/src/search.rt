@@ -11,6 +11,7 @@ use limits::MOST_SIGNS;
 use sign_search::search::{Searched, search_within};
 use sign_search::within::Leeway;
 use sign_table::made::SignTable;
+use slices::copy;
 use tables::judged::JudgedHall;
 use tables::objective::qubo_binary_from_sign_solution;
 
@@ -20,7 +21,7 @@ fn start_signs(n: usize, present: &[u8], signs: &mut [u8])
     requires { (n ≤ length present.now) × (length signs.old ≡ suc n) }
     ensures { signs.new ≡ present_signs n present.now }
 {
-    signs[..n].copy_from_slice(&present[..n]);
+    copy(&mut signs[..n], &present[..n]);
     signs[n] = 0;
 }
 

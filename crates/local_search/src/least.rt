@@ -5,6 +5,8 @@ ghost use Rattle.local_search.specs.LocalSearch.{best};
 ghost use Rattle.local_search.specs.Level.{below, level_of};
 ghost use Rattle.local_search.specs.Children.{parent_of};
 
+use sign_words::words::copy;
+
 // The better of the choice kept so far and another, in bytes or in words; of equals the one kept so far. It is `better` of the two (`better_kept` in
 // proofs/Better).
 pub fn keep_better<T: Copy>(least: i64, kept: &mut [T], objective: i64, row: &[T]) -> i64
@@ -13,7 +15,7 @@ pub fn keep_better<T: Copy>(least: i64, kept: &mut [T], objective: i64, row: &[T
     ensures kept_after { kept.new ≡ cond (lt_z objective least) row.now kept.old }
 {
     if objective < least {
-        kept.copy_from_slice(row);
+        copy(kept, row);
         return objective;
     }
     least

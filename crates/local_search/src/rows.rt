@@ -3,7 +3,7 @@ ghost use Rattle.std.specs.Prelude.{◌≡◌, ◌*◌, ◌<◌, length, get_or}
 ghost use Rattle.sign_words.specs.Signs.{flip_byte, flip_sign};
 ghost use Rattle.sign_words.specs.Packed.{flip_in};
 
-use sign_words::words::flip_in;
+use sign_words::words::{copy, flip_in};
 
 // The byte of sign `i`.
 pub fn sign_at(row: &[u8], i: usize) -> u8
@@ -35,6 +35,6 @@ pub fn copy_flip(row: &mut [u64], parent: &[u64], i: usize)
     requires { (length row.old ≡ length parent.now) × (i < 64 * length parent.now) }
     ensures { row.new ≡ flip_in i parent.now }
 {
-    row.copy_from_slice(parent);
+    copy(row, parent);
     flip_in(row, i);
 }

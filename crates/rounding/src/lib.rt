@@ -19,6 +19,7 @@ use factor::rows::{at_row, normalize, row};
 use factor::sums::dot;
 use local_search::least::keep_better;
 use run_limits::Draws;
+use slices::copy;
 use tables::entries::Entries;
 use tables::objective::obj_rounded;
 
@@ -54,7 +55,7 @@ pub fn round_draw(
     ensures signs_after { signs.new ≡ draw_signs factor.now rank m draw.now }
     ensures direction_after { direction.new ≡ unit draw.now }
 {
-    direction.copy_from_slice(draw);
+    copy(direction, draw);
     normalize(direction);
     set_signs(factor, direction, rank, m, signs);
 }

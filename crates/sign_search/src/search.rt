@@ -17,6 +17,7 @@ use limits::{MOST_SIGNS, MOST_WORDS, SEARCH_WORKSPACE};
 use local_search::least::keep_least;
 use sign_words::pack::{pack, unpack};
 use sign_words::size::sign_words;
+use sign_words::words::copy;
 use tables::entries::Entries;
 use tables::objective::obj_rounded;
 
@@ -116,7 +117,7 @@ fn search_packed(
     let mut next_level: [u64; SEARCH_WORKSPACE] = [0; SEARCH_WORKSPACE];
     let mut origin: [u64; MOST_WORDS] = [0; MOST_WORDS];
     let words = kept.len();
-    origin[0..words].copy_from_slice(kept);
+    copy(&mut origin[0..words], kept);
     let start = &origin[0..words];
     search_levels(
         search,
@@ -147,7 +148,7 @@ fn search_words(
         (parent_of s.objective current.old)) result.least result.rounds current.new }
 {
     pack(current, kept);
-    current_row.copy_from_slice(kept);
+    copy(current_row, kept);
     let found = search_packed(search, kept, current, current_row, level);
     unpack(kept, current);
     found

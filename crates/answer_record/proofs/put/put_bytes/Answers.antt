@@ -12,4 +12,4 @@ unfolding put
 returns c = let a = c.args in
     let part : a.at + a.count - a.at ≡ a.count = omega arith in
     let long : length (take a.count a.bytes.now) ≡ a.count = length-take-le a.count a.bytes.now c.requires.1 in
-    rw (part, c.copy_from_slice.ensures.after, long) (rw (drop-drop a.count a.at a.out.now) (sym (append_assoc (take a.at a.out.now) (take a.count a.bytes.now) _)))
+    rw (part, c.copy.ensures, long) (rw (drop-drop a.count a.at a.out.now) (sym (append_assoc (take a.at a.out.now) (take a.count a.bytes.now) _)))

@@ -11,5 +11,5 @@ loop-i-init c = put_none _ _
 
 pub loop-i-preserved : goal.loop-i-preserved
 loop-i-preserved c =
-    let is = c.copy_from_slice.ensures.after ∙ c.words_of.ensures.0 in
-    put_next c.loop-i.i c.loop-i.invariant (add-sub_cancel_left (run_words * c.loop-i.i) run_words) is (ap run_in c.copy_from_slice.ensures.after ∙ c.words_of.ensures.1)
+    let is = c.copy.ensures ∙ c.words_of.ensures.0 in
+    put_next c.loop-i.i c.loop-i.invariant (add-sub_cancel_left (run_words * c.loop-i.i) run_words) is (ap run_in c.copy.ensures ∙ c.words_of.ensures.1)
